@@ -1,0 +1,20 @@
+//! The types that every crate above stands on: texts, lists, tree paths, exact copies, equality as
+//! contracts see it, and the refusal for want of memory.
+#![tactic(auto)]
+
+mod exact;
+mod no_memory;
+mod path;
+mod same;
+mod seq;
+mod text;
+
+pub use exact::Exact;
+pub use no_memory::NoMemory;
+pub use path::{Listing, TreePath};
+pub use same::Same;
+pub use seq::Seq;
+pub use text::Text;
+
+/// A list of texts.
+pub type Texts = Seq<Text>;
