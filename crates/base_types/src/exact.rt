@@ -25,3 +25,24 @@ impl<T: Exact + Drop> Exact for Seq<T> {
         Ok(copies)
     }
 }
+
+impl<T: Exact> Exact for Option<T> {
+    fn copy(&self) -> Result<Option<T>, NoMemory> {
+        match self {
+            None => Ok(None),
+            Some(item) => Ok(Some(item.copy()?)),
+        }
+    }
+}
+
+impl Exact for u8 {
+    fn copy(&self) -> Result<u8, NoMemory> {
+        Ok(*self)
+    }
+}
+
+impl Exact for u32 {
+    fn copy(&self) -> Result<u32, NoMemory> {
+        Ok(*self)
+    }
+}
