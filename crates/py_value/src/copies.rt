@@ -1,9 +1,9 @@
 ghost use Rattle.std.specs.Prelude.{◌≡◌, IfOk};
 
 use crate::Items;
-use crate::value::{ModRef, Value};
-use std::alloc::AllocError;
+use crate::value::{ModRef, NsState, Place, Raised, Value};
 use base_types::{Exact, NoMemory, Seq};
+use std::alloc::AllocError;
 
 #[cycle(copies)]
 fn copy_of(value: &Value) -> Result<Value, AllocError>
@@ -61,6 +61,24 @@ impl Exact for Value {
 
 impl Exact for ModRef {
     fn copy(&self) -> Result<ModRef, NoMemory> {
+        Ok(self.clone()?)
+    }
+}
+
+impl Exact for Place {
+    fn copy(&self) -> Result<Place, NoMemory> {
+        Ok(self.clone()?)
+    }
+}
+
+impl Exact for Raised {
+    fn copy(&self) -> Result<Raised, NoMemory> {
+        Ok(self.clone()?)
+    }
+}
+
+impl Exact for NsState {
+    fn copy(&self) -> Result<NsState, NoMemory> {
         Ok(self.clone()?)
     }
 }

@@ -3,8 +3,9 @@ ghost use Rattle.py_value.specs.Kinds.{parent, IsA};
 
 use base_types::Same;
 
-/// The kinds of errors.
-#[derive(Clone, Copy, Debug, PartialEq, Eq, Drop)]
+/// The kinds of errors: Python's classes of exceptions that scripts meet, and `ProfileError`, which
+/// stands apart from their tree. `DeadlockError` is written `_DeadlockError`.
+#[derive(Clone, Copy, PartialEq, Eq, Drop)]
 pub enum Kind {
     BaseException,
     Exception,
@@ -27,8 +28,9 @@ pub enum Kind {
     ProfileError,
 }
 
-/// The functions that every script finds.
-#[derive(Clone, Copy, Debug, PartialEq, Eq, Drop)]
+/// The functions that scripts find without defining them: the built-in ones, and those of the
+/// modules `importlib` and `pyimport`.
+#[derive(Clone, Copy, PartialEq, Eq, Drop)]
 pub enum Native {
     Print,
     Str,

@@ -1,13 +1,15 @@
-//! The values that scripts compute with.
+//! The values that scripts compute with, the errors that they raise, and the kinds of these errors.
 #![tactic(auto)]
 
 mod copies;
 mod kind;
+mod operator;
 mod sames;
 mod value;
 
-pub use kind::{Kind, Native};
 use base_types::Seq;
+pub use kind::{Kind, Native};
+pub use operator::{Applied, BinOp, CmpOp};
 pub use value::{ModRef, NsState, Place, Raised, Value};
 
 /// Values in order.
