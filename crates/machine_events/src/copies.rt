@@ -74,7 +74,105 @@ impl Exact for Event {
                 dir: dir.copy()?,
                 part: part.copy()?,
             }),
-            _ => rest_of(self),
+            Event::DirSet { dir, listing } => Ok(Event::DirSet {
+                dir: dir.copy()?,
+                listing: listing.copy()?,
+            }),
+            Event::Invalidate => Ok(Event::Invalidate),
+            Event::NsGet(mid) => Ok(Event::NsGet(*mid)),
+            Event::NsSet { mid, state } => Ok(Event::NsSet {
+                mid: *mid,
+                state: state.copy()?,
+            }),
+            Event::TabGet(name) => Ok(Event::TabGet(name.copy()?)),
+            Event::TabSet { name, slot } => Ok(Event::TabSet {
+                name: name.copy()?,
+                slot: slot.copy()?,
+            }),
+            Event::TabDel(name) => Ok(Event::TabDel(name.copy()?)),
+            Event::ReloadBegin { mid, raw } => Ok(Event::ReloadBegin {
+                mid: *mid,
+                raw: *raw,
+            }),
+            Event::ReloadTake { mid, spec, text } => Ok(Event::ReloadTake {
+                mid: *mid,
+                spec: spec.copy()?,
+                text: text.copy()?,
+            }),
+            Event::ReloadEnd { mid, load } => Ok(Event::ReloadEnd {
+                mid: *mid,
+                load: *load,
+            }),
+            Event::AddLazy { spec, text } => Ok(Event::AddLazy {
+                spec: spec.copy()?,
+                text: text.copy()?,
+            }),
+            Event::Rouse(mid) => Ok(Event::Rouse(*mid)),
+            Event::Main { spec, text } => Ok(Event::Main {
+                spec: spec.copy()?,
+                text: text.copy()?,
+            }),
+            Event::End { outcome, spent } => Ok(Event::End {
+                outcome: outcome.copy()?,
+                spent: *spent,
+            }),
         }
+    }
+}
+
+impl Exact for Reply {
+    fn copy(&self) -> Result<Reply, NoMemory> {
+        match self {
+            Reply::Module(module) => Ok(Reply::Module(module.copy()?)),
+            Reply::Cycle(module) => Ok(Reply::Cycle(module.copy()?)),
+            Reply::Halted => Ok(Reply::Halted),
+            Reply::Missing => Ok(Reply::Missing),
+            Reply::Deadlock => Ok(Reply::Deadlock),
+            Reply::Wait(name) => Ok(Reply::Wait(name.copy()?)),
+            Reply::Mine(epoch) => Ok(Reply::Mine(*epoch)),
+            Reply::Woken => Ok(Reply::Woken),
+            Reply::Load(load, mid) => Ok(Reply::Load(*load, *mid)),
+            Reply::Kept(slot) => Ok(Reply::Kept(slot.copy()?)),
+            Reply::Lost => Ok(Reply::Lost),
+            Reply::LostParent => Ok(Reply::LostParent),
+            Reply::Value(value) => Ok(Reply::Value(value.copy()?)),
+            Reply::Unset(init) => Ok(Reply::Unset(*init)),
+            Reply::Sleeping => Ok(Reply::Sleeping),
+            Reply::Fixed => Ok(Reply::Fixed),
+            Reply::Names(names) => Ok(Reply::Names(names.copy()?)),
+            Reply::Loaded(module, text) => Ok(Reply::Loaded(module.copy()?, text.copy()?)),
+            Reply::Path(items) => Ok(Reply::Path(items.copy()?)),
+            Reply::Full => Ok(Reply::Full),
+            Reply::Ns(state, epoch) => Ok(Reply::Ns(state.copy()?, *epoch)),
+            Reply::Slot(slot) => Ok(Reply::Slot(slot.copy()?)),
+            Reply::Was(slot) => Ok(Reply::Was(slot.copy()?)),
+            Reply::NotThere => Ok(Reply::NotThere),
+            Reply::Busy(module) => Ok(Reply::Busy(module.copy()?)),
+            Reply::Begun(epoch) => Ok(Reply::Begun(*epoch)),
+            Reply::Yours(load, text) => Ok(Reply::Yours(*load, text.copy()?)),
+            Reply::NoListing => Ok(Reply::NoListing),
+            Reply::Listing(time, part, file) => Ok(Reply::Listing(*time, *part, *file)),
+            Reply::Ready => Ok(Reply::Ready),
+            Reply::Done => Ok(Reply::Done),
+        }
+    }
+}
+
+impl Exact for Entry {
+    fn copy(&self) -> Result<Entry, NoMemory> {
+        Ok(Entry {
+            thread: self.thread,
+            event: self.event.copy()?,
+            reply: self.reply.copy()?,
+        })
+    }
+}
+
+impl Exact for Pair {
+    fn copy(&self) -> Result<Pair, NoMemory> {
+        Ok(Pair {
+            event: self.event.copy()?,
+            reply: self.reply.copy()?,
+        })
     }
 }

@@ -5,7 +5,7 @@ use py_value::{Items, ModRef, NsState, Raised, Value};
 use spec_core::{Dotted, Spec};
 
 /// How a script ended.
-#[derive(Clone, Drop)]
+#[derive(Drop)]
 pub enum Outcome {
     /// Its body came to its end.
     Normal,
@@ -18,7 +18,7 @@ pub enum Outcome {
 }
 
 /// What a thread asks of the machine, one atomic step each.
-#[derive(Clone, Drop)]
+#[derive(Drop)]
 pub enum Event {
     /// Is the name in the cache?
     Ask(Dotted),
@@ -27,13 +27,23 @@ pub enum Event {
     /// The thread stops waiting for a lock.
     Wake,
     /// A module is made and entered, and its body begins.
-    Add { spec: Spec, text: Seq<u8> },
+    Add {
+        spec: Spec,
+        text: Seq<u8>,
+    },
     /// A body has ended.
-    Finish { load: u32, good: bool },
+    Finish {
+        load: u32,
+        good: bool,
+    },
     /// A lock that was taken is given back without a load.
     Release(Dotted),
     /// A variable is read.
-    GetVar { mid: u32, name: Text, raw: bool },
+    GetVar {
+        mid: u32,
+        name: Text,
+        raw: bool,
+    },
     /// A variable is set.
     SetVar {
         mid: u32,
@@ -42,7 +52,11 @@ pub enum Event {
         raw: bool,
     },
     /// A variable is deleted.
-    DelVar { mid: u32, name: Text, raw: bool },
+    DelVar {
+        mid: u32,
+        name: Text,
+        raw: bool,
+    },
     /// The names of a module's variables are read.
     Names(u32),
     /// The text of a load is read.
@@ -52,41 +66,75 @@ pub enum Event {
     /// The search path is read.
     PathGet,
     /// An item is put into the search path, at an index or last.
-    PathAdd { at: Option<i128>, value: Value },
+    PathAdd {
+        at: Option<i128>,
+        value: Value,
+    },
     /// The kept listing of a directory is looked at.
-    DirGet { dir: TreePath, part: Text },
+    DirGet {
+        dir: TreePath,
+        part: Text,
+    },
     /// A listing is kept.
-    DirSet { dir: TreePath, listing: Listing },
+    DirSet {
+        dir: TreePath,
+        listing: Listing,
+    },
     /// All listings are dropped.
     Invalidate,
     /// The search state of a namespace is read.
     NsGet(u32),
     /// The search state of a namespace is kept.
-    NsSet { mid: u32, state: NsState },
+    NsSet {
+        mid: u32,
+        state: NsState,
+    },
     /// A cache entry is read.
     TabGet(Dotted),
     /// A cache entry is set.
-    TabSet { name: Dotted, slot: Slot },
+    TabSet {
+        name: Dotted,
+        slot: Slot,
+    },
     /// A cache entry is dropped.
     TabDel(Dotted),
     /// A reload begins.
-    ReloadBegin { mid: u32, raw: bool },
+    ReloadBegin {
+        mid: u32,
+        raw: bool,
+    },
     /// The body of a reload begins.
-    ReloadTake { mid: u32, spec: Spec, text: Seq<u8> },
+    ReloadTake {
+        mid: u32,
+        spec: Spec,
+        text: Seq<u8>,
+    },
     /// A reload ends, with its load where it has one.
-    ReloadEnd { mid: u32, load: Option<u32> },
+    ReloadEnd {
+        mid: u32,
+        load: Option<u32>,
+    },
     /// A module is made whose body runs at the first use.
-    AddLazy { spec: Spec, text: Seq<u8> },
+    AddLazy {
+        spec: Spec,
+        text: Seq<u8>,
+    },
     /// A lazy module is to run its body.
     Rouse(u32),
     /// A module that runs as a program gets its file and its text.
-    Main { spec: Spec, text: Seq<u8> },
+    Main {
+        spec: Spec,
+        text: Seq<u8>,
+    },
     /// The script has ended, with this many units paid.
-    End { outcome: Outcome, spent: u64 },
+    End {
+        outcome: Outcome,
+        spent: u64,
+    },
 }
 
 /// What the machine answers.
-#[derive(Clone, Drop)]
+#[derive(Drop)]
 pub enum Reply {
     Module(ModRef),
     Cycle(ModRef),
@@ -126,7 +174,7 @@ pub enum Reply {
 }
 
 /// One event of one thread, with its reply: a line of a history.
-#[derive(Clone, Drop)]
+#[derive(Drop)]
 pub struct Entry {
     pub thread: u32,
     pub event: Event,
@@ -134,7 +182,7 @@ pub struct Entry {
 }
 
 /// An event of a thread that is known, with its reply.
-#[derive(Clone, Drop)]
+#[derive(Drop)]
 pub struct Pair {
     pub event: Event,
     pub reply: Reply,

@@ -7,7 +7,7 @@ use py_value::{ModRef, Place};
 use spec_core::{Spec, SpecKind};
 
 /// What the cache has at a name, as `sys.modules` does: nothing, the entry `None`, or a module.
-#[derive(Clone, Drop)]
+#[derive(Drop)]
 pub enum Slot {
     Absent,
     Halted,
