@@ -111,9 +111,13 @@ answered (r.Wait n) doing = Waiting
 answered reply doing = doing
 
 abbrev pub does : Event → Reply → Doing → Doing
+does (e.Ask n) reply doing = answered reply doing
+does (e.Take n) reply doing = answered reply doing
+does (e.ReloadTake mid spec text) reply doing = answered reply doing
+does (e.Rouse mid) reply doing = answered reply doing
 does e.Wake reply doing = Running
 does (e.End outcome spent) reply doing = Over
-does event reply doing = answered reply doing
+does event reply doing = doing
 
 -- what one more pair shows
 abbrev pub shown_more : Shown → Event × Reply → Shown

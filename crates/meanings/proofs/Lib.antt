@@ -1,0 +1,3 @@
+pub mod Spends
+pub mod Law
+pub mod Stand

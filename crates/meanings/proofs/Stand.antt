@@ -1,0 +1,132 @@
+-- From where a script stands to where it stands next, and to its end.
+use Rattle.std.proofs.Common.{◌≡◌, ◌≤◌, ℕ, ◌+◌, ◌-◌, Bool, true, false, not, cond, nat_lt, nat_eq, inl, if◌then◌else◌, List, [], ◌∷◌, ◌++◌, Option, Some, None, Result, Ok, Err, OnErr, refl, sym, ◌∙◌, ap, subst, arith}
+use Rattle.std.proofs.lemmas.Bool.{ltb-false, ltb-true, lt-ltb, eq-eqb}
+use Rattle.std.proofs.lemmas.List.{append-nil}
+use Rattle.machine_events.specs.declared.event.Event.{Event}
+use Rattle.machine_events.specs.declared.event.Event.TheVariants.{End}
+use Rattle.machine_events.specs.declared.event.Reply.{Reply}
+use Rattle.machine_events.specs.declared.event.Reply.TheVariants.{Done}
+use Rattle.machine_events.specs.declared.event.Outcome.{Outcome}
+use Rattle.machine_events.specs.Knowing.{Shown, Holding, Taken, Loading, Doing, Running, Has, shown, shown_first, holds, does, IsShown}
+use Rattle.std.specs.Cmp.Lexicographic.{pointwise}
+use Rattle.meanings.specs.Runs.{Run, Over, Pays, Makes, How, Spent, gives_up, spend, play, on_budget, Ending, Came, replies_of, Reaches, starts, pays, makes, Stands, StandsIn, IsSpent, IsUnread, AfterPay, AfterAsk, gives, GivesUp, Safe}
+use Rattle.meanings.specs.Follows.{Follows, IsPart, Ends}
+use Rattle.meanings.proofs.Spends.{on_budget_at, spend_reaches, played, safe_reaches, shown-snoc}
+
+pub stands_start : (whole : Run) (fuel : ℕ) → Stands whole fuel [] fuel whole
+stands_start whole fuel = record { paid = 0; sum = omega arith; reaches = starts }
+
+pub stands_paid : {whole : Run} {fuel : ℕ} {mine : List (Event × Reply)} {b n : ℕ} {of_tree : Bool} {next : Run} → n ≤ b → Stands whole fuel mine b (Pays of_tree n next) → Stands whole fuel mine (b - n) next
+stands_paid {mine = mine} {b} {n} {of_tree} {next} enough s = record { paid = s.paid + n; sum = omega (arith, s.sum, enough); reaches = pays s.paid n mine of_tree next s.reaches }
+
+pub stands_made : {whole : Run} {fuel : ℕ} {mine mine' : List (Event × Reply)} {b : ℕ} {e : Event} {r : Reply} {next : Reply → Run} → mine' ≡ mine ++ (e, r) ∷ [] → Stands whole fuel mine b (Makes e next) → Stands whole fuel mine' b (next r)
+stands_made {mine = mine} {e = e} {r} {next} is s = rw is (record { paid = s.paid; sum = s.sum; reaches = makes s.paid mine e r next s.reaches })
+
+pub after_pay : (b n b' : ℕ) (paid : Bool) → paid ≡ not (nat_lt b n) → b' ≡ cond paid (b - n) b → (whole : Run) (fuel : ℕ) (mine : List (Event × Reply)) (of_tree : Bool) (next : Run) → Stands whole fuel mine b (Pays of_tree n next) → AfterPay paid whole fuel mine b' next
+after_pay b n b' paid is left whole fuel mine of_tree next s = rw left (rw is (at (nat_lt b n) refl))
+  where
+    at : (short : Bool) → nat_lt b n ≡ short → AfterPay (not short) whole fuel mine (cond (not short) (b - n) b) next
+    at true e = record { of_tree = of_tree; units = n; next = next; stands = s; short = ltb-true b n e }
+    at false e = stands_paid (ltb-false b n e) s
+
+pub safe_stands : (t : ℕ) {whole : Run} {fuel : ℕ} {mine : List (Event × Reply)} {b : ℕ} {rest : Run} → Stands whole fuel mine b rest → Safe (shown_first t) whole → Safe (shown t mine) rest
+safe_stands t s safe = safe_reaches t s.reaches safe
+
+pub in_some : {whole : Run} {fuel : ℕ} {mine : List (Event × Reply)} {b : ℕ} {rest : Run} → Stands whole fuel mine b rest → StandsIn whole fuel mine
+in_some {b = b} {rest} s = record { budget = b; rest = rest; stands = s }
+
+-- where a script breaks off, its pairs are a part of those of its run
+play_none : (run : Run) (pairs : List (Event × Reply)) → (play run pairs []).pairs ≡ pairs
+play_none (Over how) pairs = refl
+play_none (Pays of_tree n next) pairs = play_none next pairs
+play_none (Makes e next) pairs = refl
+
+pub part_reached : (t : ℕ) {whole : Run} {paid : ℕ} {mine : List (Event × Reply)} {rest : Run} → Reaches whole paid mine rest → (k budget : ℕ) → budget ≡ paid + k → IsPart t whole budget mine
+part_reached t {mine = mine} {rest} r k budget same =
+    ap (λ (e : Ending). e.pairs) (on_budget_at t r k [] same (sym (append-nil (replies_of mine)))) ∙ play_none (spend k (shown t mine) rest) mine
+
+pub part : (t : ℕ) {whole : Run} {fuel : ℕ} {mine : List (Event × Reply)} → StandsIn whole fuel mine → IsPart t whole fuel mine
+part t s = part_reached t s.stands.reaches s.budget _ (sym s.stands.sum)
+
+-- what a run with a budget comes to
+pub came : (t : ℕ) (whole : Run) (budget : ℕ) {mine : List (Event × Reply)} {how : How} → Reaches (spend budget (shown_first t) whole) 0 mine (Over how) → on_budget t whole budget (replies_of mine) ≡ record { pairs = mine; stop = Came how; left = [] }
+came t whole budget {mine} {how} r = ap (on_budget t whole budget) (sym (append-nil (replies_of mine))) ∙ played r []
+
+-- while it gives up, it breaks off
+pub part_given : (t : ℕ) (whole : Run) (budget : ℕ) {mine : List (Event × Reply)} {rest : Run} → Reaches (spend budget (shown_first t) whole) 0 mine rest → IsPart t whole budget mine
+part_given t whole budget {mine} {rest} r = ap (λ (e : Ending). e.pairs) (ap (on_budget t whole budget) (sym (append-nil (replies_of mine))) ∙ played r []) ∙ play_none rest mine
+
+pub over_reached : (t : ℕ) {whole : Run} {fuel : ℕ} {mine : List (Event × Reply)} {b : ℕ} {how : How} → Stands whole fuel mine b (Over how) → Reaches (spend fuel (shown_first t) whole) 0 mine (Over how)
+over_reached t {whole} {fuel} {mine} {b} {how} s = subst (λ f. Reaches (spend f (shown_first t) whole) 0 mine (Over how)) s.sum (spend_reaches t s.reaches b)
+
+-- a spent script gives up
+pub spent_gives_up : (t : ℕ) {whole : Run} {fuel : ℕ} {mine : List (Event × Reply)} {b : ℕ} → (s : IsSpent whole fuel mine b) → GivesUp t whole fuel mine s.of_tree
+spent_gives_up t {whole} {fuel} {mine} {b} s =
+    subst (λ f. Reaches (spend f (shown_first t) whole) 0 mine (gives_up s.of_tree (shown t mine).held)) s.stands.sum
+    (subst (λ (short : Bool). Reaches (spend (s.stands.paid + b) (shown_first t) whole) 0 mine (if short then gives_up s.of_tree (shown t mine).held else spend (b - s.units) (shown t mine) s.next)) (lt-ltb b s.units s.short)
+    (spend_reaches t s.stands.reaches b))
+
+-- a failed call of the file tree: the same, with the budget that was paid before its payment
+pub unread_gives_up : (t : ℕ) {whole : Run} {fuel : ℕ} {mine : List (Event × Reply)} {b : ℕ} → (s : IsUnread whole fuel mine b) → GivesUp t whole (fuel - b) mine true
+unread_gives_up t {whole} {fuel} {mine} {b} s =
+    let same : s.stands.paid + 0 ≡ fuel - b = omega (arith, s.stands.sum) in
+    subst (λ f. Reaches (spend f (shown_first t) whole) 0 mine (gives_up true (shown t mine).held)) same
+    (subst (λ (short : Bool). Reaches (spend (s.stands.paid + 0) (shown_first t) whole) 0 mine (if short then gives_up true (shown t mine).held else spend (0 - s.units) (shown t mine) s.next)) (lt-ltb 0 s.units s.some)
+    (spend_reaches t s.stands.reaches 0))
+
+-- the whole script
+pub whole_of : (t : ℕ) {run : Run} {fuel : ℕ} {before mine : List (Event × Reply)} {outcome : Outcome} (paid : ℕ) {how : How} {r : Reply} → mine ≡ before ++ (End outcome paid, r) ∷ [] → r ≡ Done → Reaches (spend paid (shown_first t) run) 0 before (Over how) → Ends fuel outcome paid how → Follows t run fuel mine outcome
+whole_of t {run} {fuel} {before} {mine} {outcome} paid {how} {r} is done reached ends = record {
+  before = before;
+  paid = paid;
+  how = how;
+  whole = is ∙ ap (λ x. before ++ (End outcome paid, x) ∷ []) done;
+  eval = came t run paid reached;
+  ends = ends;
+}
+
+-- the answer of an event that was asked for is known
+pub asked_none : {whole : Run} {fuel : ℕ} {mine : List (Event × Reply)} {b : ℕ} (next : Reply → Run) {answer : Option Reply} → answer ≡ None → AfterAsk answer whole fuel mine b next → IsSpent whole fuel mine b
+asked_none {whole} {fuel} {mine} {b} next is a = subst (λ x. AfterAsk x whole fuel mine b next) is a
+
+pub asked_some : {whole : Run} {fuel : ℕ} {mine : List (Event × Reply)} {b : ℕ} (next : Reply → Run) {answer : Option Reply} {r : Reply} → answer ≡ Some r → AfterAsk answer whole fuel mine b next → Stands whole fuel mine b (next r)
+asked_some {whole} {fuel} {mine} {b} next is a = subst (λ x. AfterAsk x whole fuel mine b next) is a
+
+pub on_err : {T E : Type 0} (r : Result T E) {P : Type 0} → P → OnErr r P
+on_err (Ok x) p = tt
+on_err (Err e) p = p
+
+-- after it was given up, the first thing that was held is held no more
+same_name : (n : List ℕ) → pointwise nat_eq n n ≡ true
+same_name [] = refl
+same_name (b ∷ bs) = rw (eq-eqb b b refl) (same_name bs)
+
+pub given : (h : Holding) (r : Reply) (held : List Holding) → holds (gives h) r (h ∷ held) ≡ held
+given (Taken n) r held = rw (same_name n) refl
+given (Loading load mid n) r held = rw (eq-eqb load load refl) refl
+
+-- what one more pair shows
+pub held_more : (t : ℕ) (h : Holding) (held : List Holding) (mine mine' : List (Event × Reply)) (r : Reply) → (shown t mine).held ≡ h ∷ held → mine' ≡ mine ++ (gives h, r) ∷ [] → (shown t mine').held ≡ held
+held_more t h held mine mine' r is more = rw more (ap (λ (s : Shown). s.held) (shown-snoc t mine (gives h, r)) ∙ (ap (holds (gives h) r) is ∙ given h r held))
+
+-- one more is given up
+pub gives_more : (t : ℕ) (whole : Run) (budget : ℕ) (h : Holding) (held : List Holding) (mine mine' : List (Event × Reply)) (of_tree : Bool) (r : Reply) → (shown t mine).held ≡ h ∷ held → mine' ≡ mine ++ (gives h, r) ∷ [] → GivesUp t whole budget mine of_tree → GivesUp t whole budget mine' of_tree
+gives_more t whole budget h held mine mine' of_tree r is more up =
+    let here : Reaches (spend budget (shown_first t) whole) 0 mine (gives_up of_tree (h ∷ held)) = subst (λ (held : List Holding). Reaches (spend budget (shown_first t) whole) 0 mine (gives_up of_tree held)) is up in
+    let after : (shown t (mine ++ (gives h, r) ∷ [])).held ≡ held = held_more t h held mine (mine ++ (gives h, r) ∷ []) r is refl in
+    rw more (subst (λ (held : List Holding). Reaches (spend budget (shown_first t) whole) 0 (mine ++ (gives h, r) ∷ []) (gives_up of_tree held)) (sym after) (makes 0 mine (gives h) r (λ _. gives_up of_tree held) here))
+
+still : (h : Holding) (r : Reply) (d : Doing) → does (gives h) r d ≡ d
+still (Taken n) r d = refl
+still (Loading load mid n) r d = refl
+
+pub runs_more : (t : ℕ) (h : Holding) (mine mine' : List (Event × Reply)) (r : Reply) → (shown t mine).doing ≡ Running → mine' ≡ mine ++ (gives h, r) ∷ [] → (shown t mine').doing ≡ Running
+runs_more t h mine mine' r is more = rw more (ap (λ (s : Shown). s.doing) (shown-snoc t mine (gives h, r)) ∙ (still h r (shown t mine).doing ∙ is))
+
+pub all_given : (t : ℕ) (whole : Run) (budget : ℕ) (mine : List (Event × Reply)) (of_tree : Bool) → (shown t mine).held ≡ [] → GivesUp t whole budget mine of_tree → Reaches (spend budget (shown_first t) whole) 0 mine (Over (Spent of_tree))
+all_given t whole budget mine of_tree is up = subst (λ (held : List Holding). Reaches (spend budget (shown_first t) whole) 0 mine (gives_up of_tree held)) is up
+
+-- what is held first may be given up
+pub may_give : (s : Shown) (h : Holding) (held : List Holding) → s.doing ≡ Running → s.held ≡ h ∷ held → IsShown s (gives h)
+may_give s (Taken n) held runs is = (runs, subst (λ (held : List Holding). Has held (Taken n)) (sym is) (inl refl))
+may_give s (Loading load mid n) held runs is = (runs, (mid, n, subst (λ (held : List Holding). Has held (Loading load mid n)) (sym is) (inl refl)))

@@ -1,0 +1,130 @@
+-- What a script means: a tree of payments and events. Budgets and replies come after it, here, once
+-- for all forms of the language.
+use Rattle.std.specs.Prelude.{◌≡◌, ◌<◌, ◌≤◌, ℕ, ◌+◌, ◌-◌, Bool, true, false, List, [], ◌∷◌, ◌++◌, map, nat_lt, if◌then◌else◌, Option, Some, None}
+use Rattle.machine_events.specs.declared.event.Event.{Event}
+use Rattle.machine_events.specs.declared.event.Event.TheVariants as e
+use Rattle.machine_events.specs.declared.event.Reply.{Reply}
+use Rattle.machine_events.specs.declared.event.Outcome.{Outcome}
+use Rattle.machine_events.specs.declared.event.Outcome.TheVariants as o
+use Rattle.machine_events.specs.Knowing.{Holding, Taken, Loading, Shown, Running, Waiting, shown, shown_first, shown_more, IsShown}
+
+-- how a run ends: by itself, or at a payment that could not be made, which was one for a call of the tree or not
+pub data How : Type 0 where
+  Ended : (outcome : Outcome) → How
+  Spent : (of_tree : Bool) → How
+
+-- a run: it is over, or it pays, or it makes an event and goes on by the reply
+pub data Run : Type 0 where
+  Over : (how : How) → Run
+  Pays : (of_tree : Bool) (units : ℕ) (next : Run) → Run
+  Makes : (event : Event) (next : Reply → Run) → Run
+
+-- how one thing that is held is given up: a take by Release, an open body by a bad Finish
+abbrev pub gives : Holding → Event
+gives (Taken name) = e.Release name
+gives (Loading load mid name) = e.Finish load false
+
+-- all that is held is given up, the innermost first; these events are free, and their replies are not looked at
+abbrev pub gives_up : Bool → List Holding → Run
+gives_up of_tree [] = Over (Spent of_tree)
+gives_up of_tree (h ∷ held) = Makes (gives h) (λ _. gives_up of_tree held)
+
+-- the run with a budget: up to the first payment that cannot be made, and then that of a spent script
+abbrev pub spend : ℕ → Shown → Run → Run
+spend budget s (Over how) = Over how
+spend budget s (Pays of_tree n next) = if nat_lt budget n then gives_up of_tree s.held else spend (budget - n) s next
+spend budget s (Makes event next) = Makes event (λ r. spend budget (shown_more s (event, r)) (next r))
+
+-- where a run stops: it is over, or an event is due and no reply is left
+pub data Stop : Type 0 where
+  Came : (how : How) → Stop
+  Cut : (event : Event) → Stop
+
+-- what a run gives on a list of replies: the events that were made with their replies, where it stops, and the replies that are left
+pub record Ending : Type 0 where
+  pub pairs : List (Event × Reply)
+  pub stop : Stop
+  pub left : List Reply
+
+abbrev pub play : Run → List (Event × Reply) → List Reply → Ending
+play (Over how) pairs replies = record { pairs = pairs; stop = Came how; left = replies }
+play (Pays of_tree n next) pairs replies = play next pairs replies
+play (Makes event next) pairs [] = record { pairs = pairs; stop = Cut event; left = [] }
+play (Makes event next) pairs (r ∷ replies) = play (next r) (pairs ++ (event, r) ∷ []) replies
+
+-- the run of thread t with a budget, on a list of replies
+abbrev pub on_budget : ℕ → Run → ℕ → List Reply → Ending
+on_budget t run budget replies = play (spend budget (shown_first t) run) [] replies
+
+abbrev pub replies_of : List (Event × Reply) → List Reply
+replies_of pairs = map (λ p. p.1) pairs
+
+-- the whole comes, by these payments and these pairs, to the rest
+pub data Reaches (whole : Run) : ℕ → List (Event × Reply) → Run → Type 0 where
+  starts : Reaches whole 0 [] whole
+  pays : (paid n : ℕ) (pairs : List (Event × Reply)) (of_tree : Bool) (next : Run) → Reaches whole paid pairs (Pays of_tree n next) → Reaches whole (paid + n) pairs next
+  makes : (paid : ℕ) (pairs : List (Event × Reply)) (event : Event) (r : Reply) (next : Reply → Run) → Reaches whole paid pairs (Makes event next) → Reaches whole paid (pairs ++ (event, r) ∷ []) (next r)
+
+-- where a script with this fuel stands: what is left of its budget, its pairs and the rest of its run
+pub record Stands (whole : Run) (fuel : ℕ) (pairs : List (Event × Reply)) (budget : ℕ) (rest : Run) : Type 0 where
+  pub paid : ℕ
+  pub sum : paid + budget ≡ fuel
+  pub reaches : Reaches whole paid pairs rest
+
+-- it stands somewhere
+pub record StandsIn (whole : Run) (fuel : ℕ) (pairs : List (Event × Reply)) : Type 0 where
+  pub budget : ℕ
+  pub rest : Run
+  pub stands : Stands whole fuel pairs budget rest
+
+-- it stands at a payment that it cannot make
+pub record IsSpent (whole : Run) (fuel : ℕ) (pairs : List (Event × Reply)) (budget : ℕ) : Type 0 where
+  pub of_tree : Bool
+  pub units : ℕ
+  pub next : Run
+  pub stands : Stands whole fuel pairs budget (Pays of_tree units next)
+  pub short : budget < units
+
+-- it stands at a payment for a call of the tree, and the call failed
+pub record IsUnread (whole : Run) (fuel : ℕ) (pairs : List (Event × Reply)) (budget : ℕ) : Type 0 where
+  pub units : ℕ
+  pub next : Run
+  pub stands : Stands whole fuel pairs budget (Pays true units next)
+  pub some : 0 < units
+  pub enough : units ≤ budget
+
+-- after a payment, by whether it was made
+abbrev pub AfterPay : Bool → Run → ℕ → List (Event × Reply) → ℕ → Run → Type 0
+AfterPay true whole fuel pairs budget next = Stands whole fuel pairs budget next
+AfterPay false whole fuel pairs budget next = IsSpent whole fuel pairs budget
+
+-- a paid event
+abbrev pub make : Event → (Reply → Run) → Run
+make event next = Pays false 1 (Makes event next)
+
+-- after an event that was to be paid: with its reply, or spent
+abbrev pub AfterAsk : Option Reply → Run → ℕ → List (Event × Reply) → ℕ → (Reply → Run) → Type 0
+AfterAsk None whole fuel pairs budget next = IsSpent whole fuel pairs budget
+AfterAsk (Some r) whole fuel pairs budget next = Stands whole fuel pairs budget (next r)
+
+-- the script is spent or a call of the tree failed: with this budget all that is held is still to be given up
+abbrev pub GivesUp : ℕ → Run → ℕ → List (Event × Reply) → Bool → Type 0
+GivesUp t whole budget pairs of_tree = Reaches (spend budget (shown_first t) whole) 0 pairs (gives_up of_tree (shown t pairs).held)
+
+-- what is shown is enough for each event of the run, for each that gives up, and for the end
+abbrev pub IsLast : How → Type 0
+IsLast (Ended o.Normal) = Unit {0}
+IsLast (Ended (o.Raised error)) = Unit {0}
+IsLast (Ended o.Fuel) = ⊥
+IsLast (Ended o.Read) = ⊥
+IsLast (Spent of_tree) = Unit {0}
+
+-- an event may be made: a Wake where the thread waits, and any other where that is shown
+abbrev pub MayMake : Shown → Event → Type 0
+MayMake s e.Wake = s.doing ≡ Waiting
+MayMake s event = IsShown s event
+
+abbrev pub Safe : Shown → Run → Type 0
+Safe s (Over how) = IsLast how × ((s.doing ≡ Running) × (s.held ≡ []))
+Safe s (Pays of_tree n next) = (s.doing ≡ Running) × Safe s next
+Safe s (Makes event next) = MayMake s event × ((r : Reply) → Safe (shown_more s (event, r)) (next r))
