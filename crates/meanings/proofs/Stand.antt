@@ -7,90 +7,92 @@ use Rattle.machine_events.specs.declared.event.Event.TheVariants.{End}
 use Rattle.machine_events.specs.declared.event.Reply.{Reply}
 use Rattle.machine_events.specs.declared.event.Reply.TheVariants.{Done}
 use Rattle.machine_events.specs.declared.event.Outcome.{Outcome}
+use Rattle.tree_files.specs.Files.{Files}
 use Rattle.machine_events.specs.Knowing.{Shown, Holding, Taken, Loading, Doing, Running, Has, shown, shown_first, holds, does, IsShown}
 use Rattle.std.specs.Cmp.Lexicographic.{pointwise}
-use Rattle.meanings.specs.Runs.{Run, Over, Pays, Makes, How, Spent, gives_up, spend, play, on_budget, Ending, Came, replies_of, Reaches, starts, pays, makes, Stands, StandsIn, IsSpent, IsUnread, AfterPay, AfterAsk, gives, GivesUp, Safe}
+use Rattle.meanings.specs.Runs.{Run, Over, Pays, Makes, How, Spent, gives_up, spend, play, on_budget, Ending, Came, replies_of, Reaches, starts, pays, looks, makes, Question, Answer, IsTold, told, Looks, Stands, StandsIn, IsSpent, IsUnread, AfterPay, AfterAsk, gives, GivesUp, Safe}
 use Rattle.meanings.specs.Follows.{Follows, IsPart, Ends}
 use Rattle.meanings.proofs.Spends.{on_budget_at, spend_reaches, played, safe_reaches, shown-snoc}
 
-pub stands_start : (whole : Run) (fuel : ℕ) → Stands whole fuel [] fuel whole
+pub stands_start : {files : Option Files} (whole : Run) (fuel : ℕ) → Stands files whole fuel [] fuel whole
 stands_start whole fuel = record { paid = 0; sum = omega arith; reaches = starts }
 
-pub stands_paid : {whole : Run} {fuel : ℕ} {mine : List (Event × Reply)} {b n : ℕ} {of_tree : Bool} {next : Run} → n ≤ b → Stands whole fuel mine b (Pays of_tree n next) → Stands whole fuel mine (b - n) next
+pub stands_paid : {files : Option Files} {whole : Run} {fuel : ℕ} {mine : List (Event × Reply)} {b n : ℕ} {of_tree : Bool} {next : Run} → n ≤ b → Stands files whole fuel mine b (Pays of_tree n next) → Stands files whole fuel mine (b - n) next
 stands_paid {mine = mine} {b} {n} {of_tree} {next} enough s = record { paid = s.paid + n; sum = omega (arith, s.sum, enough); reaches = pays s.paid n mine of_tree next s.reaches }
 
-pub stands_made : {whole : Run} {fuel : ℕ} {mine mine' : List (Event × Reply)} {b : ℕ} {e : Event} {r : Reply} {next : Reply → Run} → mine' ≡ mine ++ (e, r) ∷ [] → Stands whole fuel mine b (Makes e next) → Stands whole fuel mine' b (next r)
+pub stands_made : {files : Option Files} {whole : Run} {fuel : ℕ} {mine mine' : List (Event × Reply)} {b : ℕ} {e : Event} {r : Reply} {next : Reply → Run} → mine' ≡ mine ++ (e, r) ∷ [] → Stands files whole fuel mine b (Makes e next) → Stands files whole fuel mine' b (next r)
 stands_made {mine = mine} {e = e} {r} {next} is s = rw is (record { paid = s.paid; sum = s.sum; reaches = makes s.paid mine e r next s.reaches })
 
-pub after_pay : (b n b' : ℕ) (paid : Bool) → paid ≡ not (nat_lt b n) → b' ≡ cond paid (b - n) b → (whole : Run) (fuel : ℕ) (mine : List (Event × Reply)) (of_tree : Bool) (next : Run) → Stands whole fuel mine b (Pays of_tree n next) → AfterPay paid whole fuel mine b' next
+pub after_pay : {files : Option Files} (b n b' : ℕ) (paid : Bool) → paid ≡ not (nat_lt b n) → b' ≡ cond paid (b - n) b → (whole : Run) (fuel : ℕ) (mine : List (Event × Reply)) (of_tree : Bool) (next : Run) → Stands files whole fuel mine b (Pays of_tree n next) → AfterPay paid files whole fuel mine b' next
 after_pay b n b' paid is left whole fuel mine of_tree next s = rw left (rw is (at (nat_lt b n) refl))
   where
-    at : (short : Bool) → nat_lt b n ≡ short → AfterPay (not short) whole fuel mine (cond (not short) (b - n) b) next
+    at : (short : Bool) → nat_lt b n ≡ short → AfterPay (not short) files whole fuel mine (cond (not short) (b - n) b) next
     at true e = record { of_tree = of_tree; units = n; next = next; stands = s; short = ltb-true b n e }
     at false e = stands_paid (ltb-false b n e) s
 
-pub safe_stands : (t : ℕ) {whole : Run} {fuel : ℕ} {mine : List (Event × Reply)} {b : ℕ} {rest : Run} → Stands whole fuel mine b rest → Safe (shown_first t) whole → Safe (shown t mine) rest
+pub safe_stands : {files : Option Files} (t : ℕ) {whole : Run} {fuel : ℕ} {mine : List (Event × Reply)} {b : ℕ} {rest : Run} → Stands files whole fuel mine b rest → Safe (shown_first t) whole → Safe (shown t mine) rest
 safe_stands t s safe = safe_reaches t s.reaches safe
 
-pub in_some : {whole : Run} {fuel : ℕ} {mine : List (Event × Reply)} {b : ℕ} {rest : Run} → Stands whole fuel mine b rest → StandsIn whole fuel mine
+pub in_some : {files : Option Files} {whole : Run} {fuel : ℕ} {mine : List (Event × Reply)} {b : ℕ} {rest : Run} → Stands files whole fuel mine b rest → StandsIn files whole fuel mine
 in_some {b = b} {rest} s = record { budget = b; rest = rest; stands = s }
 
 -- where a script breaks off, its pairs are a part of those of its run
-play_none : (run : Run) (pairs : List (Event × Reply)) → (play run pairs []).pairs ≡ pairs
-play_none (Over how) pairs = refl
-play_none (Pays of_tree n next) pairs = play_none next pairs
-play_none (Makes e next) pairs = refl
+play_none : (f : Files) (run : Run) (pairs : List (Event × Reply)) → (play f run pairs []).pairs ≡ pairs
+play_none f (Over how) pairs = refl
+play_none f (Pays of_tree n next) pairs = play_none f next pairs
+play_none f (Looks q next) pairs = play_none f (next (told f q)) pairs
+play_none f (Makes e next) pairs = refl
 
-pub part_reached : (t : ℕ) {whole : Run} {paid : ℕ} {mine : List (Event × Reply)} {rest : Run} → Reaches whole paid mine rest → (k budget : ℕ) → budget ≡ paid + k → IsPart t whole budget mine
-part_reached t {mine = mine} {rest} r k budget same =
-    ap (λ (e : Ending). e.pairs) (on_budget_at t r k [] same (sym (append-nil (replies_of mine)))) ∙ play_none (spend k (shown t mine) rest) mine
+pub part_reached : (f : Files) (t : ℕ) {whole : Run} {paid : ℕ} {mine : List (Event × Reply)} {rest : Run} → Reaches (Some f) whole paid mine rest → (k budget : ℕ) → budget ≡ paid + k → IsPart f t whole budget mine
+part_reached f t {mine = mine} {rest} r k budget same =
+    ap (λ (e : Ending). e.pairs) (on_budget_at f t r k [] same (sym (append-nil (replies_of mine)))) ∙ play_none f (spend k (shown t mine) rest) mine
 
-pub part : (t : ℕ) {whole : Run} {fuel : ℕ} {mine : List (Event × Reply)} → StandsIn whole fuel mine → IsPart t whole fuel mine
-part t s = part_reached t s.stands.reaches s.budget _ (sym s.stands.sum)
+pub part : (f : Files) (t : ℕ) {whole : Run} {fuel : ℕ} {mine : List (Event × Reply)} → StandsIn (Some f) whole fuel mine → IsPart f t whole fuel mine
+part f t s = part_reached f t s.stands.reaches s.budget _ (sym s.stands.sum)
 
 -- what a run with a budget comes to
-pub came : (t : ℕ) (whole : Run) (budget : ℕ) {mine : List (Event × Reply)} {how : How} → Reaches (spend budget (shown_first t) whole) 0 mine (Over how) → on_budget t whole budget (replies_of mine) ≡ record { pairs = mine; stop = Came how; left = [] }
-came t whole budget {mine} {how} r = ap (on_budget t whole budget) (sym (append-nil (replies_of mine))) ∙ played r []
+pub came : (f : Files) (t : ℕ) (whole : Run) (budget : ℕ) {mine : List (Event × Reply)} {how : How} → Reaches (Some f) (spend budget (shown_first t) whole) 0 mine (Over how) → on_budget f t whole budget (replies_of mine) ≡ record { pairs = mine; stop = Came how; left = [] }
+came f t whole budget {mine} {how} r = ap (on_budget f t whole budget) (sym (append-nil (replies_of mine))) ∙ played f r []
 
 -- while it gives up, it breaks off
-pub part_given : (t : ℕ) (whole : Run) (budget : ℕ) {mine : List (Event × Reply)} {rest : Run} → Reaches (spend budget (shown_first t) whole) 0 mine rest → IsPart t whole budget mine
-part_given t whole budget {mine} {rest} r = ap (λ (e : Ending). e.pairs) (ap (on_budget t whole budget) (sym (append-nil (replies_of mine))) ∙ played r []) ∙ play_none rest mine
+pub part_given : (f : Files) (t : ℕ) (whole : Run) (budget : ℕ) {mine : List (Event × Reply)} {rest : Run} → Reaches (Some f) (spend budget (shown_first t) whole) 0 mine rest → IsPart f t whole budget mine
+part_given f t whole budget {mine} {rest} r = ap (λ (e : Ending). e.pairs) (ap (on_budget f t whole budget) (sym (append-nil (replies_of mine))) ∙ played f r []) ∙ play_none f rest mine
 
-pub over_reached : (t : ℕ) {whole : Run} {fuel : ℕ} {mine : List (Event × Reply)} {b : ℕ} {how : How} → Stands whole fuel mine b (Over how) → Reaches (spend fuel (shown_first t) whole) 0 mine (Over how)
-over_reached t {whole} {fuel} {mine} {b} {how} s = subst (λ f. Reaches (spend f (shown_first t) whole) 0 mine (Over how)) s.sum (spend_reaches t s.reaches b)
+pub over_reached : {files : Option Files} (t : ℕ) {whole : Run} {fuel : ℕ} {mine : List (Event × Reply)} {b : ℕ} {how : How} → Stands files whole fuel mine b (Over how) → Reaches files (spend fuel (shown_first t) whole) 0 mine (Over how)
+over_reached t {whole} {fuel} {mine} {b} {how} s = subst (λ f. Reaches files (spend f (shown_first t) whole) 0 mine (Over how)) s.sum (spend_reaches t s.reaches b)
 
 -- a spent script gives up
-pub spent_gives_up : (t : ℕ) {whole : Run} {fuel : ℕ} {mine : List (Event × Reply)} {b : ℕ} → (s : IsSpent whole fuel mine b) → GivesUp t whole fuel mine s.of_tree
+pub spent_gives_up : {files : Option Files} (t : ℕ) {whole : Run} {fuel : ℕ} {mine : List (Event × Reply)} {b : ℕ} → (s : IsSpent files whole fuel mine b) → GivesUp files t whole fuel mine s.of_tree
 spent_gives_up t {whole} {fuel} {mine} {b} s =
-    subst (λ f. Reaches (spend f (shown_first t) whole) 0 mine (gives_up s.of_tree (shown t mine).held)) s.stands.sum
-    (subst (λ (short : Bool). Reaches (spend (s.stands.paid + b) (shown_first t) whole) 0 mine (if short then gives_up s.of_tree (shown t mine).held else spend (b - s.units) (shown t mine) s.next)) (lt-ltb b s.units s.short)
+    subst (λ f. Reaches files (spend f (shown_first t) whole) 0 mine (gives_up s.of_tree (shown t mine).held)) s.stands.sum
+    (subst (λ (short : Bool). Reaches files (spend (s.stands.paid + b) (shown_first t) whole) 0 mine (if short then gives_up s.of_tree (shown t mine).held else spend (b - s.units) (shown t mine) s.next)) (lt-ltb b s.units s.short)
     (spend_reaches t s.stands.reaches b))
 
 -- a failed call of the file tree: the same, with the budget that was paid before its payment
-pub unread_gives_up : (t : ℕ) {whole : Run} {fuel : ℕ} {mine : List (Event × Reply)} {b : ℕ} → (s : IsUnread whole fuel mine b) → GivesUp t whole (fuel - b) mine true
+pub unread_gives_up : {files : Option Files} (t : ℕ) {whole : Run} {fuel : ℕ} {mine : List (Event × Reply)} {b : ℕ} → (s : IsUnread files whole fuel mine b) → GivesUp files t whole (fuel - b) mine true
 unread_gives_up t {whole} {fuel} {mine} {b} s =
     let same : s.stands.paid + 0 ≡ fuel - b = omega (arith, s.stands.sum) in
-    subst (λ f. Reaches (spend f (shown_first t) whole) 0 mine (gives_up true (shown t mine).held)) same
-    (subst (λ (short : Bool). Reaches (spend (s.stands.paid + 0) (shown_first t) whole) 0 mine (if short then gives_up true (shown t mine).held else spend (0 - s.units) (shown t mine) s.next)) (lt-ltb 0 s.units s.some)
+    subst (λ f. Reaches files (spend f (shown_first t) whole) 0 mine (gives_up true (shown t mine).held)) same
+    (subst (λ (short : Bool). Reaches files (spend (s.stands.paid + 0) (shown_first t) whole) 0 mine (if short then gives_up true (shown t mine).held else spend (0 - s.units) (shown t mine) s.next)) (lt-ltb 0 s.units s.some)
     (spend_reaches t s.stands.reaches 0))
 
 -- the whole script
-pub whole_of : (t : ℕ) {run : Run} {fuel : ℕ} {before mine : List (Event × Reply)} {outcome : Outcome} (paid : ℕ) {how : How} {r : Reply} → mine ≡ before ++ (End outcome paid, r) ∷ [] → r ≡ Done → Reaches (spend paid (shown_first t) run) 0 before (Over how) → Ends fuel outcome paid how → Follows t run fuel mine outcome
-whole_of t {run} {fuel} {before} {mine} {outcome} paid {how} {r} is done reached ends = record {
+pub whole_of : (f : Files) (t : ℕ) {run : Run} {fuel : ℕ} {before mine : List (Event × Reply)} {outcome : Outcome} (paid : ℕ) {how : How} {r : Reply} → mine ≡ before ++ (End outcome paid, r) ∷ [] → r ≡ Done → Reaches (Some f) (spend paid (shown_first t) run) 0 before (Over how) → Ends fuel outcome paid how → Follows f t run fuel mine outcome
+whole_of f t {run} {fuel} {before} {mine} {outcome} paid {how} {r} is done reached ends = record {
   before = before;
   paid = paid;
   how = how;
   whole = is ∙ ap (λ x. before ++ (End outcome paid, x) ∷ []) done;
-  eval = came t run paid reached;
+  eval = came f t run paid reached;
   ends = ends;
 }
 
 -- the answer of an event that was asked for is known
-pub asked_none : {whole : Run} {fuel : ℕ} {mine : List (Event × Reply)} {b : ℕ} (next : Reply → Run) {answer : Option Reply} → answer ≡ None → AfterAsk answer whole fuel mine b next → IsSpent whole fuel mine b
-asked_none {whole} {fuel} {mine} {b} next is a = subst (λ x. AfterAsk x whole fuel mine b next) is a
+pub asked_none : {files : Option Files} {whole : Run} {fuel : ℕ} {mine : List (Event × Reply)} {b : ℕ} (next : Reply → Run) {answer : Option Reply} → answer ≡ None → AfterAsk answer files whole fuel mine b next → IsSpent files whole fuel mine b
+asked_none {whole} {fuel} {mine} {b} next is a = subst (λ x. AfterAsk x files whole fuel mine b next) is a
 
-pub asked_some : {whole : Run} {fuel : ℕ} {mine : List (Event × Reply)} {b : ℕ} (next : Reply → Run) {answer : Option Reply} {r : Reply} → answer ≡ Some r → AfterAsk answer whole fuel mine b next → Stands whole fuel mine b (next r)
-asked_some {whole} {fuel} {mine} {b} next is a = subst (λ x. AfterAsk x whole fuel mine b next) is a
+pub asked_some : {files : Option Files} {whole : Run} {fuel : ℕ} {mine : List (Event × Reply)} {b : ℕ} (next : Reply → Run) {answer : Option Reply} {r : Reply} → answer ≡ Some r → AfterAsk answer files whole fuel mine b next → Stands files whole fuel mine b (next r)
+asked_some {whole} {fuel} {mine} {b} next is a = subst (λ x. AfterAsk x files whole fuel mine b next) is a
 
 pub on_err : {T E : Type 0} (r : Result T E) {P : Type 0} → P → OnErr r P
 on_err (Ok x) p = tt
@@ -110,11 +112,11 @@ pub held_more : (t : ℕ) (h : Holding) (held : List Holding) (mine mine' : List
 held_more t h held mine mine' r is more = rw more (ap (λ (s : Shown). s.held) (shown-snoc t mine (gives h, r)) ∙ (ap (holds (gives h) r) is ∙ given h r held))
 
 -- one more is given up
-pub gives_more : (t : ℕ) (whole : Run) (budget : ℕ) (h : Holding) (held : List Holding) (mine mine' : List (Event × Reply)) (of_tree : Bool) (r : Reply) → (shown t mine).held ≡ h ∷ held → mine' ≡ mine ++ (gives h, r) ∷ [] → GivesUp t whole budget mine of_tree → GivesUp t whole budget mine' of_tree
+pub gives_more : {files : Option Files} (t : ℕ) (whole : Run) (budget : ℕ) (h : Holding) (held : List Holding) (mine mine' : List (Event × Reply)) (of_tree : Bool) (r : Reply) → (shown t mine).held ≡ h ∷ held → mine' ≡ mine ++ (gives h, r) ∷ [] → GivesUp files t whole budget mine of_tree → GivesUp files t whole budget mine' of_tree
 gives_more t whole budget h held mine mine' of_tree r is more up =
-    let here : Reaches (spend budget (shown_first t) whole) 0 mine (gives_up of_tree (h ∷ held)) = subst (λ (held : List Holding). Reaches (spend budget (shown_first t) whole) 0 mine (gives_up of_tree held)) is up in
+    let here : Reaches files (spend budget (shown_first t) whole) 0 mine (gives_up of_tree (h ∷ held)) = subst (λ (held : List Holding). Reaches files (spend budget (shown_first t) whole) 0 mine (gives_up of_tree held)) is up in
     let after : (shown t (mine ++ (gives h, r) ∷ [])).held ≡ held = held_more t h held mine (mine ++ (gives h, r) ∷ []) r is refl in
-    rw more (subst (λ (held : List Holding). Reaches (spend budget (shown_first t) whole) 0 (mine ++ (gives h, r) ∷ []) (gives_up of_tree held)) (sym after) (makes 0 mine (gives h) r (λ _. gives_up of_tree held) here))
+    rw more (subst (λ (held : List Holding). Reaches files (spend budget (shown_first t) whole) 0 (mine ++ (gives h, r) ∷ []) (gives_up of_tree held)) (sym after) (makes 0 mine (gives h) r (λ _. gives_up of_tree held) here))
 
 still : (h : Holding) (r : Reply) (d : Doing) → does (gives h) r d ≡ d
 still (Taken n) r d = refl
@@ -123,8 +125,8 @@ still (Loading load mid n) r d = refl
 pub runs_more : (t : ℕ) (h : Holding) (mine mine' : List (Event × Reply)) (r : Reply) → (shown t mine).doing ≡ Running → mine' ≡ mine ++ (gives h, r) ∷ [] → (shown t mine').doing ≡ Running
 runs_more t h mine mine' r is more = rw more (ap (λ (s : Shown). s.doing) (shown-snoc t mine (gives h, r)) ∙ (still h r (shown t mine).doing ∙ is))
 
-pub all_given : (t : ℕ) (whole : Run) (budget : ℕ) (mine : List (Event × Reply)) (of_tree : Bool) → (shown t mine).held ≡ [] → GivesUp t whole budget mine of_tree → Reaches (spend budget (shown_first t) whole) 0 mine (Over (Spent of_tree))
-all_given t whole budget mine of_tree is up = subst (λ (held : List Holding). Reaches (spend budget (shown_first t) whole) 0 mine (gives_up of_tree held)) is up
+pub all_given : {files : Option Files} (t : ℕ) (whole : Run) (budget : ℕ) (mine : List (Event × Reply)) (of_tree : Bool) → (shown t mine).held ≡ [] → GivesUp files t whole budget mine of_tree → Reaches files (spend budget (shown_first t) whole) 0 mine (Over (Spent of_tree))
+all_given t whole budget mine of_tree is up = subst (λ (held : List Holding). Reaches files (spend budget (shown_first t) whole) 0 mine (gives_up of_tree held)) is up
 
 -- what is held first may be given up
 pub may_give : (s : Shown) (h : Holding) (held : List Holding) → s.doing ≡ Running → s.held ≡ h ∷ held → IsShown s (gives h)

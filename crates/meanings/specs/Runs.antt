@@ -1,11 +1,14 @@
 -- What a script means: a tree of payments and events. Budgets and replies come after it, here, once
 -- for all forms of the language.
-use Rattle.std.specs.Prelude.{◌≡◌, ◌<◌, ◌≤◌, ℕ, ◌+◌, ◌-◌, Bool, true, false, List, [], ◌∷◌, ◌++◌, map, nat_lt, if◌then◌else◌, Option, Some, None}
+use Rattle.std.specs.Prelude.{◌≡◌, ◌<◌, ◌≤◌, ℕ, ◌+◌, ◌-◌, Bool, true, false, List, [], ◌∷◌, ◌++◌, map, length, nat_lt, nat_le, if◌then◌else◌, Option, Some, None}
 use Rattle.machine_events.specs.declared.event.Event.{Event}
 use Rattle.machine_events.specs.declared.event.Event.TheVariants as e
 use Rattle.machine_events.specs.declared.event.Reply.{Reply}
 use Rattle.machine_events.specs.declared.event.Outcome.{Outcome}
 use Rattle.machine_events.specs.declared.event.Outcome.TheVariants as o
+use Rattle.base_types.specs.Path.{Path}
+use Rattle.tree_files.specs.declared.tree.Stamp.{Stamp}
+use Rattle.tree_files.specs.Files.{Files, node_at, stamp_of, bytes_of}
 use Rattle.machine_events.specs.Knowing.{Holding, Taken, Loading, Shown, Running, Waiting, shown, shown_first, shown_more, IsShown}
 
 -- how a run ends: by itself, or at a payment that could not be made, which was one for a call of the tree or not
@@ -13,10 +16,35 @@ pub data How : Type 0 where
   Ended : (outcome : Outcome) → How
   Spent : (of_tree : Bool) → How
 
--- a run: it is over, or it pays, or it makes an event and goes on by the reply
+-- what is looked up in the tree
+pub data Question : Type 0 where
+  StampOf : (path : Path) → Question
+  TextOf : (path : Path) → Question
+
+-- what it can answer: what stands at the path; the text of a file, and none where that is too long for a source
+abbrev pub Answer : Question → Type 0
+Answer (StampOf path) = Stamp
+Answer (TextOf path) = Option (List ℕ)
+
+-- a source has at most 1,048,576 bytes
+abbrev pub within_source : List ℕ → Option (List ℕ)
+within_source bytes = if nat_le (length bytes) 1048576 then Some bytes else None
+
+-- what these files answer
+abbrev pub told : Files → (question : Question) → Answer question
+told files (StampOf path) = stamp_of (node_at files path)
+told files (TextOf path) = within_source (bytes_of (node_at files path))
+
+-- an answer is the one of the files, where the tree tells them
+abbrev pub IsTold : Option Files → (question : Question) → Answer question → Type 0
+IsTold None question answer = Unit {0}
+IsTold (Some files) question answer = answer ≡ told files question
+
+-- a run: it is over, or it pays, or it looks into the tree and goes on by the answer, or it makes an event and goes on by the reply
 pub data Run : Type 0 where
   Over : (how : How) → Run
   Pays : (of_tree : Bool) (units : ℕ) (next : Run) → Run
+  Looks : (question : Question) (next : Answer question → Run) → Run
   Makes : (event : Event) (next : Reply → Run) → Run
 
 -- how one thing that is held is given up: a take by Release, an open body by a bad Finish
@@ -33,6 +61,7 @@ gives_up of_tree (h ∷ held) = Makes (gives h) (λ _. gives_up of_tree held)
 abbrev pub spend : ℕ → Shown → Run → Run
 spend budget s (Over how) = Over how
 spend budget s (Pays of_tree n next) = if nat_lt budget n then gives_up of_tree s.held else spend (budget - n) s next
+spend budget s (Looks q next) = Looks q (λ a. spend budget s (next a))
 spend budget s (Makes event next) = Makes event (λ r. spend budget (shown_more s (event, r)) (next r))
 
 -- where a run stops: it is over, or an event is due and no reply is left
@@ -46,70 +75,72 @@ pub record Ending : Type 0 where
   pub stop : Stop
   pub left : List Reply
 
-abbrev pub play : Run → List (Event × Reply) → List Reply → Ending
-play (Over how) pairs replies = record { pairs = pairs; stop = Came how; left = replies }
-play (Pays of_tree n next) pairs replies = play next pairs replies
-play (Makes event next) pairs [] = record { pairs = pairs; stop = Cut event; left = [] }
-play (Makes event next) pairs (r ∷ replies) = play (next r) (pairs ++ (event, r) ∷ []) replies
+abbrev pub play : Files → Run → List (Event × Reply) → List Reply → Ending
+play files (Over how) pairs replies = record { pairs = pairs; stop = Came how; left = replies }
+play files (Pays of_tree n next) pairs replies = play files next pairs replies
+play files (Looks q next) pairs replies = play files (next (told files q)) pairs replies
+play files (Makes event next) pairs [] = record { pairs = pairs; stop = Cut event; left = [] }
+play files (Makes event next) pairs (r ∷ replies) = play files (next r) (pairs ++ (event, r) ∷ []) replies
 
--- the run of thread t with a budget, on a list of replies
-abbrev pub on_budget : ℕ → Run → ℕ → List Reply → Ending
-on_budget t run budget replies = play (spend budget (shown_first t) run) [] replies
+-- the run of thread t with a budget, over these files and on a list of replies
+abbrev pub on_budget : Files → ℕ → Run → ℕ → List Reply → Ending
+on_budget files t run budget replies = play files (spend budget (shown_first t) run) [] replies
 
 abbrev pub replies_of : List (Event × Reply) → List Reply
 replies_of pairs = map (λ p. p.1) pairs
 
--- the whole comes, by these payments and these pairs, to the rest
-pub data Reaches (whole : Run) : ℕ → List (Event × Reply) → Run → Type 0 where
-  starts : Reaches whole 0 [] whole
-  pays : (paid n : ℕ) (pairs : List (Event × Reply)) (of_tree : Bool) (next : Run) → Reaches whole paid pairs (Pays of_tree n next) → Reaches whole (paid + n) pairs next
-  makes : (paid : ℕ) (pairs : List (Event × Reply)) (event : Event) (r : Reply) (next : Reply → Run) → Reaches whole paid pairs (Makes event next) → Reaches whole paid (pairs ++ (event, r) ∷ []) (next r)
+-- the whole comes, by these payments and these pairs, to the rest, over a tree that tells its files or does not
+pub data Reaches (files : Option Files) (whole : Run) : ℕ → List (Event × Reply) → Run → Type 0 where
+  starts : Reaches files whole 0 [] whole
+  pays : (paid n : ℕ) (pairs : List (Event × Reply)) (of_tree : Bool) (next : Run) → Reaches files whole paid pairs (Pays of_tree n next) → Reaches files whole (paid + n) pairs next
+  looks : (paid : ℕ) (pairs : List (Event × Reply)) (q : Question) (a : Answer q) (next : Answer q → Run) → IsTold files q a → Reaches files whole paid pairs (Looks q next) → Reaches files whole paid pairs (next a)
+  makes : (paid : ℕ) (pairs : List (Event × Reply)) (event : Event) (r : Reply) (next : Reply → Run) → Reaches files whole paid pairs (Makes event next) → Reaches files whole paid (pairs ++ (event, r) ∷ []) (next r)
 
 -- where a script with this fuel stands: what is left of its budget, its pairs and the rest of its run
-pub record Stands (whole : Run) (fuel : ℕ) (pairs : List (Event × Reply)) (budget : ℕ) (rest : Run) : Type 0 where
+pub record Stands (files : Option Files) (whole : Run) (fuel : ℕ) (pairs : List (Event × Reply)) (budget : ℕ) (rest : Run) : Type 0 where
   pub paid : ℕ
   pub sum : paid + budget ≡ fuel
-  pub reaches : Reaches whole paid pairs rest
+  pub reaches : Reaches files whole paid pairs rest
 
 -- it stands somewhere
-pub record StandsIn (whole : Run) (fuel : ℕ) (pairs : List (Event × Reply)) : Type 0 where
+pub record StandsIn (files : Option Files) (whole : Run) (fuel : ℕ) (pairs : List (Event × Reply)) : Type 0 where
   pub budget : ℕ
   pub rest : Run
-  pub stands : Stands whole fuel pairs budget rest
+  pub stands : Stands files whole fuel pairs budget rest
 
 -- it stands at a payment that it cannot make
-pub record IsSpent (whole : Run) (fuel : ℕ) (pairs : List (Event × Reply)) (budget : ℕ) : Type 0 where
+pub record IsSpent (files : Option Files) (whole : Run) (fuel : ℕ) (pairs : List (Event × Reply)) (budget : ℕ) : Type 0 where
   pub of_tree : Bool
   pub units : ℕ
   pub next : Run
-  pub stands : Stands whole fuel pairs budget (Pays of_tree units next)
+  pub stands : Stands files whole fuel pairs budget (Pays of_tree units next)
   pub short : budget < units
 
 -- it stands at a payment for a call of the tree, and the call failed
-pub record IsUnread (whole : Run) (fuel : ℕ) (pairs : List (Event × Reply)) (budget : ℕ) : Type 0 where
+pub record IsUnread (files : Option Files) (whole : Run) (fuel : ℕ) (pairs : List (Event × Reply)) (budget : ℕ) : Type 0 where
   pub units : ℕ
   pub next : Run
-  pub stands : Stands whole fuel pairs budget (Pays true units next)
+  pub stands : Stands files whole fuel pairs budget (Pays true units next)
   pub some : 0 < units
   pub enough : units ≤ budget
 
 -- after a payment, by whether it was made
-abbrev pub AfterPay : Bool → Run → ℕ → List (Event × Reply) → ℕ → Run → Type 0
-AfterPay true whole fuel pairs budget next = Stands whole fuel pairs budget next
-AfterPay false whole fuel pairs budget next = IsSpent whole fuel pairs budget
+abbrev pub AfterPay : Bool → Option Files → Run → ℕ → List (Event × Reply) → ℕ → Run → Type 0
+AfterPay true files whole fuel pairs budget next = Stands files whole fuel pairs budget next
+AfterPay false files whole fuel pairs budget next = IsSpent files whole fuel pairs budget
 
 -- a paid event
 abbrev pub make : Event → (Reply → Run) → Run
 make event next = Pays false 1 (Makes event next)
 
 -- after an event that was to be paid: with its reply, or spent
-abbrev pub AfterAsk : Option Reply → Run → ℕ → List (Event × Reply) → ℕ → (Reply → Run) → Type 0
-AfterAsk None whole fuel pairs budget next = IsSpent whole fuel pairs budget
-AfterAsk (Some r) whole fuel pairs budget next = Stands whole fuel pairs budget (next r)
+abbrev pub AfterAsk : Option Reply → Option Files → Run → ℕ → List (Event × Reply) → ℕ → (Reply → Run) → Type 0
+AfterAsk None files whole fuel pairs budget next = IsSpent files whole fuel pairs budget
+AfterAsk (Some r) files whole fuel pairs budget next = Stands files whole fuel pairs budget (next r)
 
 -- the script is spent or a call of the tree failed: with this budget all that is held is still to be given up
-abbrev pub GivesUp : ℕ → Run → ℕ → List (Event × Reply) → Bool → Type 0
-GivesUp t whole budget pairs of_tree = Reaches (spend budget (shown_first t) whole) 0 pairs (gives_up of_tree (shown t pairs).held)
+abbrev pub GivesUp : Option Files → ℕ → Run → ℕ → List (Event × Reply) → Bool → Type 0
+GivesUp files t whole budget pairs of_tree = Reaches files (spend budget (shown_first t) whole) 0 pairs (gives_up of_tree (shown t pairs).held)
 
 -- what is shown is enough for each event of the run, for each that gives up, and for the end
 abbrev pub IsLast : How → Type 0
@@ -127,4 +158,5 @@ MayMake s event = IsShown s event
 abbrev pub Safe : Shown → Run → Type 0
 Safe s (Over how) = IsLast how × ((s.doing ≡ Running) × (s.held ≡ []))
 Safe s (Pays of_tree n next) = (s.doing ≡ Running) × Safe s next
+Safe s (Looks q next) = (s.doing ≡ Running) × ((a : Answer q) → Safe s (next a))
 Safe s (Makes event next) = MayMake s event × ((r : Reply) → Safe (shown_more s (event, r)) (next r))

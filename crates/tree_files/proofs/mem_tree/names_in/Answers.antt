@@ -1,0 +1,22 @@
+use Rattle.std.proofs.Common.{◌≡◌, ◌∙◌, rules, ap, sym, subst, List, ℕ, [], ◌++◌, ◌∷◌, is_some}
+use Rattle.std.specs.List.{filter_map}
+use Rattle.std.specs.List.Sorted.{IsStrictlySortedBy}
+use Rattle.std.specs.Ordering.{nat_cmp}
+use Rattle.std.specs.Cmp.Lexicographic.{slice_cmp}
+use Rattle.std.specs.BTreeMap.{keys}
+use Rattle.std.specs.FinMap.{get-from_entries}
+use Rattle.tree_files.specs.Files.{IsListing, name_below}
+use Rattle.tree_files.specs.MemFiles.{mem_files}
+use Rattle.tree_files.proofs.NamesBelow.{has_name-find, names_sorted}
+use Rattle.tree_files.proofs.MemFilesLemmas.{path_total}
+use Rattle.tree_files.proofs.mem_tree.names_in.Goals as goal
+
+pub returns : goal.returns
+returns c =
+    let nodes = c.args.nodes.now in
+    let dir = c.args.dir.now in
+    let made : c.loop-path.names ≡ filter_map (name_below dir) (keys nodes) = search rules in
+    subst (IsListing (mem_files nodes) dir) (sym made) (record {
+      ordered = names_sorted dir (keys nodes) c.keys-path-items.ensures.ordered;
+      exact = λ name. has_name-find dir name nodes.entries ∙ ap is_some (sym (get-from_entries path_total nodes.entries (dir ++ name ∷ [])));
+    })
