@@ -1,12 +1,12 @@
 -- A run that comes somewhere comes there with each budget that is enough for it.
-use Rattle.std.proofs.Common.{◌≡◌, ℕ, ◌+◌, Bool, false, nat_lt, List, [], ◌∷◌, ◌++◌, fold, refl, sym, ◌∙◌, ap, subst, arith}
+use Rattle.std.proofs.Common.{◌≡◌, ℕ, ◌+◌, Bool, false, nat_lt, List, [], ◌∷◌, ◌++◌, fold, refl, sym, ◌∙◌, ap, subst, arith, Option, Some}
 use Rattle.std.proofs.lemmas.Bool.{le-ltb}
 use Rattle.std.proofs.lemmas.List.{append-nil, append_assoc, map-append}
 use Rattle.machine_events.specs.declared.event.Event.{Event}
 use Rattle.machine_events.specs.declared.event.Reply.{Reply}
 use Rattle.tree_files.specs.Files.{Files}
 use Rattle.machine_events.specs.Knowing.{Shown, shown, shown_first, shown_more}
-use Rattle.meanings.specs.Runs.{Run, Over, Pays, Makes, spend, play, on_budget, replies_of, Reaches, starts, pays, looks, makes, Question, Answer, IsTold, told, Looks, Safe}
+use Rattle.meanings.specs.Runs.{Run, Over, Pays, Makes, spend, play, on_budget, replies_of, Reaches, starts, pays, looks, makes, Answer, told, Looks, Safe}
 
 -- what one more pair shows
 pub shown-snoc : (t : ℕ) (pairs : List (Event × Reply)) (p : Event × Reply) → shown t (pairs ++ p ∷ []) ≡ shown_more (shown t pairs) p

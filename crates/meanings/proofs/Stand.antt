@@ -10,7 +10,7 @@ use Rattle.machine_events.specs.declared.event.Outcome.{Outcome}
 use Rattle.tree_files.specs.Files.{Files}
 use Rattle.machine_events.specs.Knowing.{Shown, Holding, Taken, Loading, Doing, Running, Has, shown, shown_first, holds, does, IsShown}
 use Rattle.std.specs.Cmp.Lexicographic.{pointwise}
-use Rattle.meanings.specs.Runs.{Run, Over, Pays, Makes, How, Spent, gives_up, spend, play, on_budget, Ending, Came, replies_of, Reaches, starts, pays, looks, makes, Question, Answer, IsTold, told, Looks, Stands, StandsIn, IsSpent, IsUnread, AfterPay, AfterAsk, gives, GivesUp, Safe}
+use Rattle.meanings.specs.Runs.{Run, Over, Pays, Makes, How, Spent, gives_up, spend, play, on_budget, Ending, Came, replies_of, Reaches, starts, pays, makes, told, Looks, Stands, StandsIn, IsSpent, IsUnread, AfterPay, AfterAsk, gives, GivesUp, Safe}
 use Rattle.meanings.specs.Follows.{Follows, IsPart, Ends}
 use Rattle.meanings.proofs.Spends.{on_budget_at, spend_reaches, played, safe_reaches, shown-snoc}
 
@@ -24,7 +24,7 @@ pub stands_made : {files : Option Files} {whole : Run} {fuel : ℕ} {mine mine' 
 stands_made {mine = mine} {e = e} {r} {next} is s = rw is (record { paid = s.paid; sum = s.sum; reaches = makes s.paid mine e r next s.reaches })
 
 pub after_pay : {files : Option Files} (b n b' : ℕ) (paid : Bool) → paid ≡ not (nat_lt b n) → b' ≡ cond paid (b - n) b → (whole : Run) (fuel : ℕ) (mine : List (Event × Reply)) (of_tree : Bool) (next : Run) → Stands files whole fuel mine b (Pays of_tree n next) → AfterPay paid files whole fuel mine b' next
-after_pay b n b' paid is left whole fuel mine of_tree next s = rw left (rw is (at (nat_lt b n) refl))
+after_pay {files = files} b n b' paid is left whole fuel mine of_tree next s = rw left (rw is (at (nat_lt b n) refl))
   where
     at : (short : Bool) → nat_lt b n ≡ short → AfterPay (not short) files whole fuel mine (cond (not short) (b - n) b) next
     at true e = record { of_tree = of_tree; units = n; next = next; stands = s; short = ltb-true b n e }
@@ -59,18 +59,18 @@ pub part_given : (f : Files) (t : ℕ) (whole : Run) (budget : ℕ) {mine : List
 part_given f t whole budget {mine} {rest} r = ap (λ (e : Ending). e.pairs) (ap (on_budget f t whole budget) (sym (append-nil (replies_of mine))) ∙ played f r []) ∙ play_none f rest mine
 
 pub over_reached : {files : Option Files} (t : ℕ) {whole : Run} {fuel : ℕ} {mine : List (Event × Reply)} {b : ℕ} {how : How} → Stands files whole fuel mine b (Over how) → Reaches files (spend fuel (shown_first t) whole) 0 mine (Over how)
-over_reached t {whole} {fuel} {mine} {b} {how} s = subst (λ f. Reaches files (spend f (shown_first t) whole) 0 mine (Over how)) s.sum (spend_reaches t s.reaches b)
+over_reached {files = files} t {whole} {fuel} {mine} {b} {how} s = subst (λ f. Reaches files (spend f (shown_first t) whole) 0 mine (Over how)) s.sum (spend_reaches t s.reaches b)
 
 -- a spent script gives up
 pub spent_gives_up : {files : Option Files} (t : ℕ) {whole : Run} {fuel : ℕ} {mine : List (Event × Reply)} {b : ℕ} → (s : IsSpent files whole fuel mine b) → GivesUp files t whole fuel mine s.of_tree
-spent_gives_up t {whole} {fuel} {mine} {b} s =
+spent_gives_up {files = files} t {whole} {fuel} {mine} {b} s =
     subst (λ f. Reaches files (spend f (shown_first t) whole) 0 mine (gives_up s.of_tree (shown t mine).held)) s.stands.sum
     (subst (λ (short : Bool). Reaches files (spend (s.stands.paid + b) (shown_first t) whole) 0 mine (if short then gives_up s.of_tree (shown t mine).held else spend (b - s.units) (shown t mine) s.next)) (lt-ltb b s.units s.short)
     (spend_reaches t s.stands.reaches b))
 
 -- a failed call of the file tree: the same, with the budget that was paid before its payment
 pub unread_gives_up : {files : Option Files} (t : ℕ) {whole : Run} {fuel : ℕ} {mine : List (Event × Reply)} {b : ℕ} → (s : IsUnread files whole fuel mine b) → GivesUp files t whole (fuel - b) mine true
-unread_gives_up t {whole} {fuel} {mine} {b} s =
+unread_gives_up {files = files} t {whole} {fuel} {mine} {b} s =
     let same : s.stands.paid + 0 ≡ fuel - b = omega (arith, s.stands.sum) in
     subst (λ f. Reaches files (spend f (shown_first t) whole) 0 mine (gives_up true (shown t mine).held)) same
     (subst (λ (short : Bool). Reaches files (spend (s.stands.paid + 0) (shown_first t) whole) 0 mine (if short then gives_up true (shown t mine).held else spend (0 - s.units) (shown t mine) s.next)) (lt-ltb 0 s.units s.some)
@@ -89,10 +89,10 @@ whole_of f t {run} {fuel} {before} {mine} {outcome} paid {how} {r} is done reach
 
 -- the answer of an event that was asked for is known
 pub asked_none : {files : Option Files} {whole : Run} {fuel : ℕ} {mine : List (Event × Reply)} {b : ℕ} (next : Reply → Run) {answer : Option Reply} → answer ≡ None → AfterAsk answer files whole fuel mine b next → IsSpent files whole fuel mine b
-asked_none {whole} {fuel} {mine} {b} next is a = subst (λ x. AfterAsk x files whole fuel mine b next) is a
+asked_none {files = files} {whole} {fuel} {mine} {b} next is a = subst (λ x. AfterAsk x files whole fuel mine b next) is a
 
 pub asked_some : {files : Option Files} {whole : Run} {fuel : ℕ} {mine : List (Event × Reply)} {b : ℕ} (next : Reply → Run) {answer : Option Reply} {r : Reply} → answer ≡ Some r → AfterAsk answer files whole fuel mine b next → Stands files whole fuel mine b (next r)
-asked_some {whole} {fuel} {mine} {b} next is a = subst (λ x. AfterAsk x files whole fuel mine b next) is a
+asked_some {files = files} {whole} {fuel} {mine} {b} next is a = subst (λ x. AfterAsk x files whole fuel mine b next) is a
 
 pub on_err : {T E : Type 0} (r : Result T E) {P : Type 0} → P → OnErr r P
 on_err (Ok x) p = tt
@@ -113,7 +113,7 @@ held_more t h held mine mine' r is more = rw more (ap (λ (s : Shown). s.held) (
 
 -- one more is given up
 pub gives_more : {files : Option Files} (t : ℕ) (whole : Run) (budget : ℕ) (h : Holding) (held : List Holding) (mine mine' : List (Event × Reply)) (of_tree : Bool) (r : Reply) → (shown t mine).held ≡ h ∷ held → mine' ≡ mine ++ (gives h, r) ∷ [] → GivesUp files t whole budget mine of_tree → GivesUp files t whole budget mine' of_tree
-gives_more t whole budget h held mine mine' of_tree r is more up =
+gives_more {files = files} t whole budget h held mine mine' of_tree r is more up =
     let here : Reaches files (spend budget (shown_first t) whole) 0 mine (gives_up of_tree (h ∷ held)) = subst (λ (held : List Holding). Reaches files (spend budget (shown_first t) whole) 0 mine (gives_up of_tree held)) is up in
     let after : (shown t (mine ++ (gives h, r) ∷ [])).held ≡ held = held_more t h held mine (mine ++ (gives h, r) ∷ []) r is refl in
     rw more (subst (λ (held : List Holding). Reaches files (spend budget (shown_first t) whole) 0 (mine ++ (gives h, r) ∷ []) (gives_up of_tree held)) (sym after) (makes 0 mine (gives h) r (λ _. gives_up of_tree held) here))
@@ -126,7 +126,7 @@ pub runs_more : (t : ℕ) (h : Holding) (mine mine' : List (Event × Reply)) (r 
 runs_more t h mine mine' r is more = rw more (ap (λ (s : Shown). s.doing) (shown-snoc t mine (gives h, r)) ∙ (still h r (shown t mine).doing ∙ is))
 
 pub all_given : {files : Option Files} (t : ℕ) (whole : Run) (budget : ℕ) (mine : List (Event × Reply)) (of_tree : Bool) → (shown t mine).held ≡ [] → GivesUp files t whole budget mine of_tree → Reaches files (spend budget (shown_first t) whole) 0 mine (Over (Spent of_tree))
-all_given t whole budget mine of_tree is up = subst (λ (held : List Holding). Reaches files (spend budget (shown_first t) whole) 0 mine (gives_up of_tree held)) is up
+all_given {files = files} t whole budget mine of_tree is up = subst (λ (held : List Holding). Reaches files (spend budget (shown_first t) whole) 0 mine (gives_up of_tree held)) is up
 
 -- what is held first may be given up
 pub may_give : (s : Shown) (h : Holding) (held : List Holding) → s.doing ≡ Running → s.held ≡ h ∷ held → IsShown s (gives h)

@@ -1,5 +1,5 @@
 -- How a script's pairs follow its meaning, and the law on budgets.
-use Rattle.std.specs.Prelude.{◌≡◌, ◌<◌, ◌≤◌, ◌⊎◌, ℕ, ◌+◌, Option, Some, Bool, true, List, [], ◌∷◌, ◌++◌}
+use Rattle.std.specs.Prelude.{◌≡◌, ◌<◌, ◌≤◌, ◌⊎◌, ℕ, ◌+◌, Some, Bool, true, List, [], ◌∷◌, ◌++◌}
 use Rattle.machine_events.specs.declared.event.Event.{Event}
 use Rattle.machine_events.specs.declared.event.Event.TheVariants.{End}
 use Rattle.machine_events.specs.declared.event.Reply.{Reply}
