@@ -1,62 +1,31 @@
-//! The parts of a dotted name.
-ghost use Rattle.std.specs.Prelude.{◌≡◌, IfOk, take, drop, ◌+◌};
-ghost use Rattle.spec_core.specs.Names.{last_dot, parent_of, tail_of};
+//! The parts of a dotted name, as borrowed texts.
+ghost use Rattle.std.specs.Prelude.{◌≡◌, ◌<◌, length, IfSome, MatchOption};
+ghost use Rattle.spec_core.specs.Names.{tail_of, front_of, joined, NoDot};
 
-use crate::name::Dotted;
-use std::alloc::Global;
-use base_types::{NoMemory, Text};
-
-#[tactic(auto, unfolding(crate::specs::Names::last_dot))]
-fn last_dot(bytes: &[u8]) -> Option<usize>
-    ensures { result ≡ last_dot bytes.now }
+/// What stands before the last dot, and what stands after it.
+pub(crate) fn around_last_dot(name: &str) -> Option<(&str, &str)>
+    ensures value { MatchOption result (NoDot name.now) (λ p. (name.now ≡ joined p.0.now p.1.now) × NoDot p.1.now) }
+    ensures shorter { IfSome result (λ p. length p.0.now < length name.now) }
 {
-    let mut at = None;
-    for i in 0..bytes.len() {
-        if bytes[i] == b'.' {
-            at = Some(i);
-        }
-    }
-    at
+    name.rsplit_once('.')
 }
 
-fn text_of(alloc: Global, bytes: &[u8]) -> Result<Text, NoMemory>
-    ensures { IfOk result (λ text. text ≡ bytes.now) }
+/// The last part.
+pub(crate) fn tail_of(name: &str) -> &str
+    ensures { result.now ≡ tail_of name.now }
 {
-    match str::from_utf8(bytes) {
-        Ok(text) => Text::from_str(alloc, text),
-        Err(_) => Err(NoMemory),
+    match around_last_dot(name) {
+        Some((_, tail)) => tail,
+        None => name,
     }
 }
 
-impl Dotted {
-    /// The name without its last part.
-    pub fn parent(&self) -> Result<Option<Dotted>, NoMemory>
-        ensures { IfOk result (λ parent. parent ≡ parent_of self.now) }
-    {
-        let bytes = self.text().as_bytes();
-        let Some(at) = last_dot(bytes) else {
-            return Ok(None);
-        };
-        let Some(front) = bytes.get(..at) else {
-            return Err(NoMemory);
-        };
-        Ok(Some(Dotted::new(text_of(self.alloc(), front)?)))
-    }
-
-    /// The last part of the name.
-    pub fn tail(&self) -> Result<Text, NoMemory>
-        ensures { IfOk result (λ text. text ≡ tail_of self.now) }
-    {
-        let bytes = self.text().as_bytes();
-        let Some(at) = last_dot(bytes) else {
-            return Ok(self.owned()?);
-        };
-        let Some(from) = at.checked_add(1) else {
-            return Err(NoMemory);
-        };
-        let Some(tail) = bytes.get(from..) else {
-            return Err(NoMemory);
-        };
-        text_of(self.alloc(), tail)
+/// The first part.
+pub(crate) fn front_of(name: &str) -> &str
+    ensures { result.now ≡ front_of name.now }
+{
+    match name.split_once('.') {
+        Some((front, _)) => front,
+        None => name,
     }
 }
