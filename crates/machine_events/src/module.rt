@@ -2,7 +2,7 @@
 ghost use Rattle.std.specs.Prelude.{◌≡◌, IfOk};
 ghost use Rattle.machine_events.specs.Modules.{place_of, module_of};
 
-use base_types::{Exact, NoMemory};
+use base_types::{Exact, NoMemory, Text};
 use py_value::{ModRef, Place};
 use spec_core::{Spec, SpecKind};
 
@@ -31,7 +31,7 @@ pub fn module_of(spec: &Spec, mid: u32) -> Result<ModRef, NoMemory>
 {
     Ok(ModRef {
         mid,
-        name: spec.name.owned()?,
+        name: Text::from_str(spec.name.alloc(), spec.name.text())?,
         place: place_of(&spec.kind)?,
     })
 }
