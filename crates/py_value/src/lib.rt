@@ -12,7 +12,7 @@ mod value;
 use base_types::Seq;
 pub use kind::{Kind, Native};
 pub use measures::{nesting, size, truth};
-pub use names::type_name;
+pub use names::{TypeName, type_name, type_of};
 pub use operator::{Applied, BinOp, CmpOp};
 pub use value::{ModRef, NsState, Place, Raised, Value};
 

@@ -1,0 +1,5 @@
+//! The operators on values, and their texts.
+#![tactic(auto)]
+
+mod comparison;
+mod outcome;
