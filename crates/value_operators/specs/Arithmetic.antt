@@ -9,7 +9,7 @@ use Rattle.py_value.specs.declared.operator.Applied.{Applied}
 use Rattle.py_value.specs.declared.operator.BinOp.{BinOp}
 use Rattle.py_value.specs.declared.operator.BinOp.TheVariants as ops
 use Rattle.py_value.specs.Names.{type_name}
-use Rattle.value_operators.specs.Outcomes.{raises, type_error, not_in_profile, named, is_special, number_of, limited, fitting, number}
+use Rattle.value_operators.specs.Outcomes.{raises, type_error, not_in_profile, is_special, number_of, limited, fitting, number}
 
 -- the operator as it is written
 abbrev pub written : BinOp → List ℕ
@@ -50,7 +50,7 @@ calculated ops.Mod a b = remainder a b
 
 abbrev pub unsupported : BinOp → Value → Value → Applied
 unsupported op left right =
-  type_error (codes "unsupported operand type(s) for " ++ written op ++ codes ": " ++ named (type_name left) ++ codes " and " ++ named (type_name right))
+  type_error (codes "unsupported operand type(s) for " ++ written op ++ codes ": '" ++ type_name left ++ codes "' and '" ++ type_name right ++ codes "'")
 
 -- two texts, lists or tuples joined
 abbrev pub joined : Value-F Value → Value-F Value → Applied → Applied
@@ -112,7 +112,7 @@ augmented op left right = augmented_at op (out-Value left) (binary op left right
 
 abbrev pub negated_number : Value → Option ℤ → Applied
 negated_number value (Some n) = number (fitting (neg_ℤ n))
-negated_number value None = type_error (codes "bad operand type for unary -: " ++ named (type_name value))
+negated_number value None = type_error (codes "bad operand type for unary -: '" ++ type_name value ++ codes "'")
 
 abbrev pub negated : Value → Applied
 negated value = if is_special value then not_in_profile else negated_number value (number_of value)

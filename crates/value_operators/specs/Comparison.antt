@@ -19,7 +19,7 @@ use Rattle.py_value.specs.declared.operator.CmpOp.TheVariants as ops
 use Rattle.py_value.specs.Names.{type_at, type_of, type_text}
 use Rattle.value_operators.specs.declared.comparison.Compared.{Compared}
 use Rattle.value_operators.specs.declared.comparison.Compared.TheVariants as compares
-use Rattle.value_operators.specs.Outcomes.{type_error, not_in_profile, named, is_special, is_plain, bool_number, number_of, truth_value}
+use Rattle.value_operators.specs.Outcomes.{type_error, not_in_profile, is_special, is_plain, bool_number, number_of, truth_value}
 
 abbrev pub compared_numbers : ℤ → ℤ → Compared
 compared_numbers a b = if int_lt a b then compares.Less else if int_lt b a then compares.Greater else compares.Same
@@ -118,7 +118,7 @@ written ops.Ge = codes ">="
 
 abbrev pub no_order : CmpOp → TypeName → TypeName → Applied
 no_order op left right =
-  type_error (named (written op) ++ codes " not supported between instances of " ++ named (type_text left) ++ codes " and " ++ named (type_text right))
+  type_error (codes "'" ++ written op ++ codes "' not supported between instances of '" ++ type_text left ++ codes "' and '" ++ type_text right ++ codes "'")
 
 abbrev pub where_less : CmpOp → Bool
 where_less ops.Lt = true

@@ -12,7 +12,7 @@ use Rattle.py_value.specs.declared.value.Value.TheOpen.{Value-F}
 use Rattle.py_value.specs.declared.operator.Applied.{Applied}
 use Rattle.py_value.specs.declared.operator.Applied.TheVariants as applied
 use Rattle.py_value.specs.Names.{type_name}
-use Rattle.value_operators.specs.Outcomes.{raises, type_error, not_in_profile, named, is_special, is_plain, number_of, truth_value}
+use Rattle.value_operators.specs.Outcomes.{raises, type_error, not_in_profile, is_special, is_plain, number_of, truth_value}
 use Rattle.value_operators.specs.Comparison.{compared, is_same}
 
 -- item by item: the first that equals, or that is not compared, decides
@@ -28,7 +28,7 @@ holds_text [] needle = starts_with nat_eq [] needle
 holds_text (b ∷ text) needle = starts_with nat_eq (b ∷ text) needle || holds_text text needle
 
 abbrev pub not_iterable : Value → Applied
-not_iterable container = type_error (codes "argument of type " ++ named (type_name container) ++ codes " is not iterable")
+not_iterable container = type_error (codes "argument of type '" ++ type_name container ++ codes "' is not iterable")
 
 abbrev pub inside_text : List ℕ → Value-F Value → Applied → Applied
 inside_text text (Value-F.Text needle) otherwise = truth_value (holds_text text needle)
@@ -77,7 +77,7 @@ has_items (Value-F.Text text) = true
 has_items _ = false
 
 abbrev pub not_subscriptable : Value → Applied
-not_subscriptable value = type_error (named (type_name value) ++ codes " object is not subscriptable")
+not_subscriptable value = type_error (codes "'" ++ type_name value ++ codes "' object is not subscriptable")
 
 abbrev pub at_index : Value → Option ℤ → Applied
 at_index value (Some n) = subscript_at (out-Value value) n (not_subscriptable value)

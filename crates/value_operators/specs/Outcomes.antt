@@ -26,10 +26,6 @@ profile_error text = raises kinds.ProfileError text
 abbrev pub not_in_profile : Applied
 not_in_profile = profile_error (codes "not in the profile")
 
--- a type's name between quotes
-abbrev pub named : List ℕ → List ℕ
-named name = codes "'" ++ name ++ codes "'"
-
 -- a value that stands for something in the machine is no operand
 abbrev pub is_special_at : Value-F Value → Bool
 is_special_at Value-F.SysModules = true

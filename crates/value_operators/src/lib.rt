@@ -1,5 +1,6 @@
 //! The operators on values, and their texts.
 #![tactic(auto)]
 
+mod arithmetic;
 mod comparison;
 mod outcome;
