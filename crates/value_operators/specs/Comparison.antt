@@ -100,8 +100,8 @@ compared_at (Value-F.Kind kind) right = same_where (is_kind kind (out-Value righ
 compared_at (Value-F.Module held) right = same_where (is_module held.mid (out-Value right)) types.Module right
 compared_at left right = compares.Apart (type_at left) (type_of right)
 
-abbrev pub compared : Value → Value → Compared
-compared = fold-Value (Value → Compared) compared_at
+abbrev pub order_of : Value → Value → Compared
+order_of = fold-Value (Value → Compared) compared_at
 
 abbrev pub is_same : Compared → Bool
 is_same compares.Same = true
@@ -152,12 +152,12 @@ has_order _ = false
 
 abbrev pub ordered : CmpOp → Value → Value → Applied
 ordered op left right =
-  if has_order (out-Value left) then by_order op (compared left right)
+  if has_order (out-Value left) then by_order op (order_of left right)
   else no_order op (type_of left) (type_of right)
 
 abbrev pub answered : CmpOp → Value → Value → Applied
-answered ops.Eq left right = truth_value (is_same (compared left right))
-answered ops.Ne left right = truth_value (not (is_same (compared left right)))
+answered ops.Eq left right = truth_value (is_same (order_of left right))
+answered ops.Ne left right = truth_value (not (is_same (order_of left right)))
 answered op left right = ordered op left right
 
 -- what is or holds an error, or holds what stands for something in the machine, is not compared
@@ -166,11 +166,19 @@ compare op left right =
   if is_plain left && is_plain right then answered op left right else not_in_profile
 
 -- `is`: beside None, or between modules
+abbrev pub module_beside : ℕ → Value-F Value → Applied
+module_beside mid Value-F.Nothing = truth_value false
+module_beside mid (Value-F.Module other) = truth_value (mid == other.mid)
+module_beside mid right = not_in_profile
+
+abbrev pub other_beside : Value-F Value → Applied
+other_beside Value-F.Nothing = truth_value false
+other_beside right = not_in_profile
+
 abbrev pub identical_at : Value-F Value → Value-F Value → Applied
 identical_at Value-F.Nothing right = truth_value (is_nothing right)
-identical_at left Value-F.Nothing = truth_value false
-identical_at (Value-F.Module a) (Value-F.Module b) = truth_value (a.mid == b.mid)
-identical_at left right = not_in_profile
+identical_at (Value-F.Module held) right = module_beside held.mid right
+identical_at left right = other_beside right
 
 abbrev pub identical : Value → Value → Applied
 identical left right =

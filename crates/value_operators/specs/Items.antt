@@ -13,13 +13,13 @@ use Rattle.py_value.specs.declared.operator.Applied.{Applied}
 use Rattle.py_value.specs.declared.operator.Applied.TheVariants as applied
 use Rattle.py_value.specs.Names.{type_name}
 use Rattle.value_operators.specs.Outcomes.{raises, type_error, not_in_profile, is_special, is_plain, number_of, truth_value}
-use Rattle.value_operators.specs.Comparison.{compared, is_same}
+use Rattle.value_operators.specs.Comparison.{order_of, is_same}
 
 -- item by item: the first that equals, or that is not compared, decides
 abbrev pub among : List Value → Value → Applied
 among [] item = truth_value false
 among (x ∷ xs) item =
-  if is_plain x && is_plain item then (if is_same (compared x item) then truth_value true else among xs item)
+  if is_plain x && is_plain item then (if is_same (order_of x item) then truth_value true else among xs item)
   else not_in_profile
 
 -- whether the needle's bytes stand somewhere in the text
