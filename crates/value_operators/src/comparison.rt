@@ -1,9 +1,9 @@
 ghost use Rattle.std.specs.Prelude.{◌≡◌, map, not, IfOk};
 ghost use Rattle.py_value.specs.declared.value.Value.{out-Value};
-ghost use Rattle.value_operators.specs.Outcomes.{number_of, truth_value};
+ghost use Rattle.value_operators.specs.Outcomes.{number_of};
 ghost use Rattle.value_operators.specs.Comparison as table;
 
-use crate::outcome::{bool_number, is_plain, is_special, not_in_profile, number_of, raise};
+use crate::outcome::{bool_number, is_plain, is_special, not_in_profile, number_of, raise, truth_value};
 use base_types::{NoMemory, Text};
 use py_value::{Applied, CmpOp, Items, Kind, ModRef, Native, TypeName, Value, type_of};
 use std::alloc::Global;
@@ -289,12 +289,6 @@ pub fn compare(alloc: Global, op: CmpOp, left: &Value, right: &Value) -> Result<
         return not_in_profile(alloc);
     }
     answered(alloc, op, left, right)
-}
-
-fn truth_value(b: bool) -> Applied
-    ensures { result ≡ truth_value b }
-{
-    Applied::Value(Value::Bool(b))
 }
 
 fn same_module(alloc: Global, held: &ModRef, right: &Value) -> Result<Applied, NoMemory>

@@ -3,4 +3,5 @@
 
 mod arithmetic;
 mod comparison;
+mod items;
 mod outcome;

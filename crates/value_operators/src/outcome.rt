@@ -1,6 +1,6 @@
 ghost use Rattle.std.specs.Prelude.{◌≡◌, IfOk, map, codes};
 ghost use Rattle.std.specs.List.{list_all};
-ghost use Rattle.value_operators.specs.Outcomes.{raises, type_error, profile_error, not_in_profile, is_special, is_plain, bool_number, number_of, limited, number};
+ghost use Rattle.value_operators.specs.Outcomes.{raises, type_error, profile_error, not_in_profile, is_special, is_plain, bool_number, number_of, limited, number, truth_value};
 
 use base_types::{NoMemory, Text};
 use py_value::{Applied, Items, Kind, Raised, Value, nesting};
@@ -83,6 +83,12 @@ pub(crate) fn number(alloc: Global, n: Option<i128>) -> Result<Applied, NoMemory
         Some(n) => Ok(Applied::Value(Value::Int(n))),
         None => raise(alloc, Kind::ProfileError, "number past 128 bits"),
     }
+}
+
+pub(crate) fn truth_value(b: bool) -> Applied
+    ensures { result ≡ truth_value b }
+{
+    Applied::Value(Value::Bool(b))
 }
 
 /// Whether the value stands for something in the machine.
