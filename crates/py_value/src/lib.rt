@@ -3,12 +3,16 @@
 
 mod copies;
 mod kind;
+mod measures;
+mod names;
 mod operator;
 mod sames;
 mod value;
 
 use base_types::Seq;
 pub use kind::{Kind, Native};
+pub use measures::{nesting, size, truth};
+pub use names::{TypeName, type_name, type_of};
 pub use operator::{Applied, BinOp, CmpOp};
 pub use value::{ModRef, NsState, Place, Raised, Value};
 

@@ -1,0 +1,5 @@
+pub mod Outcomes
+pub mod Texts
+pub mod Arithmetic
+pub mod Comparison
+pub mod Items

@@ -1,0 +1,92 @@
+-- `str` and `repr` (Library Reference, "Built-in Functions" and "Text Sequence Type").
+use Rattle.std.specs.Prelude.{ℕ, ◌+◌, ◌/◌, ◌%◌, List, [], ◌∷◌, ◌++◌, codes, Bool, true, false, nat_lt, ◌==◌, ◌&&◌, ◌||◌, not, if◌then◌else◌}
+use Rattle.std.specs.List.{flat_map, list_any}
+use Rattle.std.specs.Fmt.{signed_decimal}
+use Rattle.py_value.specs.declared.kind.Native.{Native}
+use Rattle.py_value.specs.declared.kind.Native.TheVariants as natives
+use Rattle.py_value.specs.declared.value.Place.{Place}
+use Rattle.py_value.specs.declared.value.Place.TheVariants as places
+use Rattle.py_value.specs.declared.value.Value.{Value, out-Value}
+use Rattle.py_value.specs.declared.value.Value.TheVariants as values
+use Rattle.py_value.specs.declared.value.Value.TheOpen.{Value-F}
+use Rattle.py_value.specs.declared.value.Value.TheFolds.{fold-Value}
+use Rattle.py_value.specs.declared.operator.Applied.{Applied}
+use Rattle.py_value.specs.Names.{kind_name, native_name}
+use Rattle.value_operators.specs.Outcomes.{not_in_profile, is_plain, limited}
+
+abbrev pub has_byte : ℕ → List ℕ → Bool
+has_byte byte text = list_any (λ b. b == byte) text
+
+-- `"` where the text holds `'` and no `"`, and else `'`
+abbrev pub quote_of : List ℕ → ℕ
+quote_of text = if has_byte 39 text && not (has_byte 34 text) then 34 else 39
+
+abbrev pub hex_digit : ℕ → ℕ
+hex_digit n = if nat_lt n 10 then 48 + n else 87 + n
+
+-- a byte between the quotes: backslash, the quote, line feed, carriage return and tab behind a
+-- backslash, the other control characters of ASCII by two hexadecimal digits, and else itself
+abbrev pub escaped : ℕ → ℕ → List ℕ
+escaped quote b =
+  if b == 92 || b == quote then 92 ∷ b ∷ []
+  else if b == 10 then codes "\\n"
+  else if b == 13 then codes "\\r"
+  else if b == 9 then codes "\\t"
+  else if nat_lt b 32 || b == 127 then 92 ∷ 120 ∷ hex_digit (b / 16) ∷ hex_digit (b % 16) ∷ []
+  else b ∷ []
+
+abbrev pub quoted_in : ℕ → List ℕ → List ℕ
+quoted_in quote text = quote ∷ (flat_map (escaped quote) text ++ quote ∷ [])
+
+abbrev pub quoted : List ℕ → List ℕ
+quoted text = quoted_in (quote_of text) text
+
+abbrev pub with_commas : List (List ℕ) → List ℕ
+with_commas [] = []
+with_commas (text ∷ []) = text
+with_commas (text ∷ next ∷ texts) = text ++ codes ", " ++ with_commas (next ∷ texts)
+
+-- a tuple of one has a comma behind its item
+abbrev pub tuple_text : List (List ℕ) → List ℕ
+tuple_text (text ∷ []) = codes "(" ++ text ++ codes ",)"
+tuple_text texts = codes "(" ++ with_commas texts ++ codes ")"
+
+-- `str` is a class in Python
+abbrev pub native_text : Native → List ℕ
+native_text natives.Str = codes "<class 'str'>"
+native_text native = codes "<built-in function " ++ native_name native ++ codes ">"
+
+abbrev pub place_text : Place → List ℕ
+place_text (places.File file) = codes " from " ++ quoted file ++ codes ">"
+place_text places.BuiltIn = codes " (built-in)>"
+place_text places.Namespace = codes " (namespace)>"
+
+-- one layer, with the text of each item in its place; what is not plain has no text
+abbrev pub repr_at : Value-F (List ℕ) → List ℕ
+repr_at Value-F.Nothing = codes "None"
+repr_at (Value-F.Bool true) = codes "True"
+repr_at (Value-F.Bool false) = codes "False"
+repr_at (Value-F.Int n) = signed_decimal n
+repr_at (Value-F.Text text) = quoted text
+repr_at (Value-F.List texts) = codes "[" ++ with_commas texts ++ codes "]"
+repr_at (Value-F.Tuple texts) = tuple_text texts
+repr_at (Value-F.Func load index name) = codes "<function " ++ name ++ codes ">"
+repr_at (Value-F.Native native) = native_text native
+repr_at (Value-F.Kind kind) = codes "<class '" ++ kind_name kind ++ codes "'>"
+repr_at (Value-F.Module held) = codes "<module " ++ quoted held.name ++ place_text held.place
+repr_at _ = []
+
+abbrev pub repr_text : Value → List ℕ
+repr_text = fold-Value (List ℕ) repr_at
+
+abbrev pub repr_of : Value → Applied
+repr_of value = if is_plain value then limited (values.Text (repr_text value)) else not_in_profile
+
+-- a text is itself, an error gives its text, and all else is as in `repr`
+abbrev pub str_at : Value-F Value → Applied → Applied
+str_at (Value-F.Text text) otherwise = limited (values.Text text)
+str_at (Value-F.Error error) otherwise = limited (values.Text error.text)
+str_at value otherwise = otherwise
+
+abbrev pub str_of : Value → Applied
+str_of value = str_at (out-Value value) (repr_of value)
