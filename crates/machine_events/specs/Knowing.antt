@@ -1,5 +1,5 @@
 -- What a thread's own events and replies show, and which events they show to be allowed.
-use Rattle.std.specs.Prelude.{◌≡◌, ◌⊎◌, ◌≤◌, ℕ, Bool, true, false, List, [], ◌∷◌, ◌++◌, fold, flat_map, nat_eq, All, length, if◌then◌else◌}
+use Rattle.std.specs.Prelude.{◌≡◌, ◌⊎◌, ◌≤◌, ℕ, Bool, true, false, List, [], ◌∷◌, ◌++◌, fold, flat_map, nat_eq, length, if◌then◌else◌}
 use Rattle.std.specs.Cmp.Lexicographic.{pointwise}
 use Rattle.py_value.specs.declared.value.Value.{Value}
 use Rattle.py_value.specs.declared.value.Value.TheVariants as values
@@ -140,9 +140,13 @@ Has (y ∷ ys) x = (x ≡ y) ⊎ Has ys x
 abbrev pub HasMid : Shown → ℕ → Type 0
 HasMid s mid = Has s.mids mid ⊎ ((m : ModRef) × Has s.modules m × (m.mid ≡ mid))
 
+abbrev pub HasAll : {X : Type 0} → List X → List X → Type 0
+HasAll xs [] = Unit {0}
+HasAll xs (y ∷ ys) = Has xs y × HasAll xs ys
+
 -- each module that the value holds exists, with this name and place
 abbrev pub KnowsAll : Shown → Value → Type 0
-KnowsAll s v = All (λ (m : ModRef). Has s.modules m) (modules_in v)
+KnowsAll s v = HasAll s.modules (modules_in v)
 
 abbrev pub is_namespace_path : Value → Bool
 is_namespace_path values.NsPath = true
