@@ -99,9 +99,14 @@ ended_first : (load mid : ℕ) (n : List ℕ) (held : List Holding) → ended lo
 ended_first load mid n held = rw (eq-eqb load load refl) refl
 
 safe_gives_back : (s s' : Shown) (n : List ℕ) (k : Onward) (error : Error) → SafeOn s k → Later s s' (Taken n ∷ s.held) → Safe s' (gives_back n k error)
-safe_gives_back s s' n k error safe f =
-    (f.runs, ((f.runs, subst (λ (held : List Holding). Has held (Taken n)) (sym f.held_is) (inl refl)), λ reply.
-    safe_fails s (shown_more s' (e.Release n, reply)) k error safe (later_more s s' (Taken n ∷ s.held) s.held (e.Release n) reply f (released_first n s.held) f.runs)))
+safe_gives_back s s' n k error safe f = (
+  f.runs,
+  (
+    (f.runs, subst (λ (held : List Holding). Has held (Taken n)) (sym f.held_is) (inl refl)),
+    λ reply.
+        safe_fails s (shown_more s' (e.Release n, reply)) k error safe (later_more s s' (Taken n ∷ s.held) s.held (e.Release n) reply f (released_first n s.held) f.runs),
+  ),
+)
 
 -- after a good body
 safe_finished : (s s' : Shown) (again : Run) (n : List ℕ) (k : Onward) → SafeOn s k → SafeFrom s again → Fits s s' → (reply : Reply) → Safe s' (finished again n k reply)
@@ -144,16 +149,26 @@ after_finish : (s s' : Shown) (load mid : ℕ) (n : List ℕ) (good : Bool) (rep
 after_finish s s' load mid n good reply f = later_more s s' (Loading load mid n ∷ s.held) s.held (e.Finish load good) reply f (ended_first load mid n s.held) f.runs
 
 safe_good : (s s' : Shown) (load mid : ℕ) (again : Run) (n : List ℕ) (k : Onward) → SafeOn s k → SafeFrom s again → Later s s' (Loading load mid n ∷ s.held) → Safe s' (finishes load again n k On)
-safe_good s s' load mid again n k safe again_safe f =
-    (f.runs, ((f.runs, has_load s s' load mid n f), λ reply.
-    safe_finished s (shown_more s' (e.Finish load true, reply)) again n k safe again_safe (after_finish s s' load mid n true reply f) reply))
+safe_good s s' load mid again n k safe again_safe f = (
+  f.runs,
+  (
+    (f.runs, has_load s s' load mid n f),
+    λ reply.
+        safe_finished s (shown_more s' (e.Finish load true, reply)) again n k safe again_safe (after_finish s s' load mid n true reply f) reply,
+  ),
+)
 
 safe_finishes : (s s' : Shown) (load mid : ℕ) (again : Run) (n : List ℕ) (k : Onward) → SafeOn s k → SafeFrom s again → Later s s' (Loading load mid n ∷ s.held) → (flow : Flow) → Safe s' (finishes load again n k flow)
 safe_finishes s s' load mid again n k safe again_safe f On = safe_good s s' load mid again n k safe again_safe f
 safe_finishes s s' load mid again n k safe again_safe f (Found m) = safe_good s s' load mid again n k safe again_safe f
-safe_finishes s s' load mid again n k safe again_safe f (Raised error) =
-    (f.runs, ((f.runs, has_load s s' load mid n f), λ reply.
-    safe_fails s (shown_more s' (e.Finish load false, reply)) k error safe (after_finish s s' load mid n false reply f)))
+safe_finishes s s' load mid again n k safe again_safe f (Raised error) = (
+  f.runs,
+  (
+    (f.runs, has_load s s' load mid n f),
+    λ reply.
+        safe_fails s (shown_more s' (e.Finish load false, reply)) k error safe (after_finish s s' load mid n false reply f),
+  ),
+)
 
 module _ (body : Body) (safe_body : SafeBody body) (s : Shown) (again : Run) (n : List ℕ) (k : Onward) (safe : SafeOn s k) (again_safe : SafeFrom s again) where
   safe_added : (s' : Shown) (text : List ℕ) → Later s s' (Taken n ∷ s.held) → (reply : Reply) → Safe (shown_more s' (e.Add (spec_of n) text, reply)) (added body again n text k reply)
@@ -215,18 +230,24 @@ module _ (body : Body) (safe_body : SafeBody body) (s : Shown) (again : Run) (n 
   safe_searches s' f = (f.runs, (f.runs, safe_by_folder s' f))
 
   safe_finds : (s' : Shown) → Later s s' (Taken n ∷ s.held) → Safe s' (finds body again n k)
-  safe_finds s' f = (f.runs, ((f.runs, tt), λ reply.
-      let g : Later s (shown_more s' (e.PathGet, reply)) (Taken n ∷ s.held) = later_more s s' (Taken n ∷ s.held) (Taken n ∷ s.held) e.PathGet reply f refl f.runs in
-      (g.runs, safe_searches (shown_more s' (e.PathGet, reply)) g)))
+  safe_finds s' f = (
+    f.runs,
+    (
+      (f.runs, tt),
+      λ reply.
+          let g : Later s (shown_more s' (e.PathGet, reply)) (Taken n ∷ s.held) = later_more s s' (Taken n ∷ s.held) (Taken n ∷ s.held) e.PathGet reply f refl f.runs in
+          (g.runs, safe_searches (shown_more s' (e.PathGet, reply)) g),
+    ),
+  )
 
   -- after a wait the thread looks again
   woken : (s₁ s₂ : Shown) (event : Event) (l : List ℕ) → Fits s s₁ → s₂ ≡ shown_more s₁ (event, r.Wait l) → s₂.held ≡ s₁.held → (reply : Reply) → Safe (shown_more s₂ (e.Wake, reply)) again
   woken s₁ s₂ event l f is held reply = again_safe (shown_more s₂ (e.Wake, reply)) (record {
-      mids = λ i h. has_after (numbered reply) s₂.mids i (subst (λ (x : Shown). Has x.mids i) (sym is) (f.mids i h));
-      modules = λ m h. has_after (named reply) s₂.modules m (subst (λ (x : Shown). Has x.modules m) (sym is) (f.modules m h));
-      held_is = held ∙ f.held_is;
-      runs = refl;
-    })
+    mids = λ i h. has_after (numbered reply) s₂.mids i (subst (λ (x : Shown). Has x.mids i) (sym is) (f.mids i h));
+    modules = λ m h. has_after (named reply) s₂.modules m (subst (λ (x : Shown). Has x.modules m) (sym is) (f.modules m h));
+    held_is = held ∙ f.held_is;
+    runs = refl;
+  })
 
   safe_taken : (s' : Shown) → Fits s s' → (reply : Reply) → Safe (shown_more s' (e.Take n, reply)) (taken again (finds body again n k) n k reply)
   safe_taken s' f (r.Module m) = safe (shown_more s' (e.Take n, (r.Module m))) (later_more s s' s.held s.held (e.Take n) (r.Module m) f refl f.runs) (Found m) (inl refl)
@@ -309,9 +330,14 @@ one_module m = ap modules_in (sym (rolls-Module m)) ∙ fold-roll-Value (List Mo
 
 safe_binds : (s : Shown) (mid : ℕ) (n : List ℕ) (k : Onward) → Has s.mids mid → SafeOn s k → SafeOn s (binds mid n k)
 safe_binds s mid n k has safe s' f On known = safe s' f On tt
-safe_binds s mid n k has safe s' f (Found m) known =
-    (f.runs, ((f.runs, (inl (f.mids mid has), refl, subst (λ (ms : List ModRef). HasAll s'.modules ms) (sym (one_module m)) (known, tt))), λ reply.
-    safe (shown_more s' (e.SetVar mid n (values.Module m) true, reply)) (later_more s s' s.held s.held (e.SetVar mid n (values.Module m) true) reply f refl f.runs) On tt))
+safe_binds s mid n k has safe s' f (Found m) known = (
+  f.runs,
+  (
+    (f.runs, (inl (f.mids mid has), refl, subst (λ (ms : List ModRef). HasAll s'.modules ms) (sym (one_module m)) (known, tt))),
+    λ reply.
+        safe (shown_more s' (e.SetVar mid n (values.Module m) true, reply)) (later_more s s' s.held s.held (e.SetVar mid n (values.Module m) true) reply f refl f.runs) On tt,
+  ),
+)
 safe_binds s mid n k has safe s' f (Raised error) known = safe s' f (Raised error) tt
 
 safe_prints : (s s' : Shown) (text : List ℕ) (k : Onward) → SafeOn s k → Fits s s' → Safe s' (prints text k)
@@ -366,10 +392,21 @@ safe_callee s s' text k safe f r.Done = safe_fails s s' k not_built safe f
 
 safe_statement : (imports : Imports) → SafeImports imports → (s : Shown) (mid : ℕ) (stmt : Stmt) (k : Onward) → Has s.mids mid → s.doing ≡ Running → SafeOn s k → Safe s (statement imports mid stmt k)
 safe_statement imports safe_imports s mid (Import n) k has run safe = (run, safe_imports s n (binds mid n k) run (safe_binds s mid n k has safe))
-safe_statement imports safe_imports s mid (Print text) k has run safe =
-    (run, (run, (run, ((run, inl has), λ reply.
-    let ev : Event = e.GetVar mid (codes "print") true in
-    safe_callee s (shown_more s (ev, reply)) text k safe (fits_more s ev reply run refl run) reply))))
+safe_statement imports safe_imports s mid (Print text) k has run safe = (
+  run,
+  (
+    run,
+    (
+      run,
+      (
+        (run, inl has),
+        λ reply.
+            let ev : Event = e.GetVar mid (codes "print") true in
+            safe_callee s (shown_more s (ev, reply)) text k safe (fits_more s ev reply run refl run) reply,
+      ),
+    ),
+  ),
+)
 
 safe_on_good : (s : Shown) (k : Onward) (next : Run) → SafeOn s k → SafeFrom s next → SafeOn s (on_good k next)
 safe_on_good s k next safe more s' f On known = more s' f

@@ -2,5 +2,7 @@
 #![tactic(auto)]
 
 mod flow;
+mod why;
+mod work;
 
 pub use flow::Flow;
