@@ -17,6 +17,8 @@ use Rattle.py_run.specs.declared.work.Item.{Item}
 use Rattle.py_run.specs.declared.work.Item.TheVariants as it
 use Rattle.py_run.specs.declared.work.Hold.{Hold}
 use Rattle.py_run.specs.declared.work.Hold.TheVariants as hold
+use Rattle.py_run.specs.declared.work.Lead.{Lead}
+use Rattle.py_run.specs.declared.work.Lead.TheVariants as lead
 use Rattle.py_run.specs.declared.work.Step.{Step}
 use Rattle.py_run.specs.declared.work.Step.TheVariants as step
 
@@ -89,11 +91,20 @@ abbrev pub hold_at : Option Hold → List Holding
 hold_at None = []
 hold_at (Some h) = hold_of h ∷ []
 
+-- what comes next, where `next` is the rest of the work
+abbrev pub lead_does : Lead → Onward → Run
+lead_does (lead.Go flow) next = next flow
+lead_does (lead.Then item) next = item_does item next On
+lead_does (lead.Both first second) next = item_does first (item_does second next) On
+
+abbrev pub held_lead : Lead → List Holding
+held_lead (lead.Go flow) = []
+held_lead (lead.Then item) = held_at item
+held_lead (lead.Both first second) = held_at first ++ held_at second
+
 -- what a step leaves to be held, beside the rest of the work
 abbrev pub held_after : Step → List Holding
-held_after (step.On flow) = []
-held_after (step.Then item) = held_at item
-held_after (step.Both first second) = held_at first ++ held_at second
+held_after (step.On more) = held_lead more
 held_after (step.Out h) = hold_at h
 
 -- How much work remains until a unit is paid.
@@ -114,10 +125,13 @@ abbrev pub weights : List Item → ℕ
 weights [] = 0
 weights (item ∷ items) = weight item + weights items
 
+abbrev pub weight_lead : Lead → ℕ
+weight_lead (lead.Go flow) = 0
+weight_lead (lead.Then item) = weight item
+weight_lead (lead.Both first second) = weight first + weight second
+
 abbrev pub weight_after : Step → ℕ
-weight_after (step.On flow) = 0
-weight_after (step.Then item) = weight item
-weight_after (step.Both first second) = weight first + weight second
+weight_after (step.On more) = weight_lead more
 weight_after (step.Out h) = 0
 
 -- a step pays, or it leaves less work

@@ -2,6 +2,8 @@
 #![tactic(auto)]
 
 mod flow;
+mod paying;
+mod steps;
 mod why;
 mod work;
 

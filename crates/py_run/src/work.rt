@@ -91,17 +91,50 @@ pub enum Hold {
     Loading { load: u32, mid: u32, name: Dotted },
 }
 
+/// What comes next.
+#[derive(Drop)]
+pub enum Lead {
+    /// The rest of the work, in this way.
+    Go(Flow),
+    /// This piece of work, and then the rest.
+    Then(Item),
+    /// These two pieces of work, and then the rest.
+    Both(Item, Item),
+}
+
 /// Where a step leads.
 #[derive(Drop)]
 pub enum Step {
-    /// On, in this way.
-    On(Flow),
-    /// To this piece of work.
-    Then(Item),
-    /// To this piece of work, and then to the other.
-    Both(Item, Item),
+    On(Lead),
     /// To the end, since a payment could not be made; and what the piece of work held.
     Out(Option<Hold>),
+}
+
+/// Where a step leads that may look into the tree.
+#[derive(Drop)]
+pub enum Reading {
+    Step(Step),
+    /// To the end, since a call of the tree failed after a payment that left so much before it.
+    Unread(u64, Option<Hold>),
+}
+
+/// Where a stretch of work leads.
+#[derive(Drop)]
+pub enum Stretch {
+    /// A unit was paid, and the work goes on.
+    Paid(Flow),
+    /// No work is left.
+    Over(Flow),
+    Out(Option<Hold>),
+    Unread(u64, Option<Hold>),
+}
+
+/// How a run is over, but for what it still holds.
+#[derive(Drop)]
+pub enum Over {
+    Came(Flow),
+    Out(Option<Hold>),
+    Unread(u64, Option<Hold>),
 }
 
 /// The work stack of a script: the list of its items, the next one first.

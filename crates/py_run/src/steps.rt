@@ -1,0 +1,2 @@
+//! The steps of the evaluator, one desk call each.
+pub mod looks;
