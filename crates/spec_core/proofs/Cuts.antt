@@ -1,5 +1,5 @@
 -- What std's searches say of a text that is cut at a dot.
-use Rattle.std.proofs.Common.{◌≡◌, ◌∙◌, sym, ap, ℕ, ◌+◌, ◌<◌, ◌≤◌, List, [], ◌∷◌, ◌++◌, false, length, eqb, All, get_or, take, drop, Option, Some, None, MatchOption, arith, Bor, lit<, ne_eqb, ◌≢◌, subst}
+use Rattle.std.proofs.Common.{◌≡◌, ◌∙◌, sym, ap, ℕ, ◌<◌, List, ◌∷◌, ◌++◌, false, length, eqb, get_or, take, drop, Option, Some, None, MatchOption, Bor, lit<, ne_eqb, ◌≢◌, subst}
 use Rattle.std.specs.Str.Pattern.{RFindsChar, SplitsAroundMatch}
 use Rattle.std.proofs.lemmas.Str.Pattern.{NoCharPasses-char, drop_at_char}
 use Rattle.std.proofs.lemmas.List.{take-append-drop, get_or_default}
@@ -20,6 +20,6 @@ cut_once bs (Some x) h =
     let front = h.3 in
     let back = h.4 in (
       sym (take-append-drop i bs) ∙ ap (λ t. take i bs ++ t) (drop_at_char 46 bs i j finds.1 (lit< tt))
-      ∙ ap (λ t. t ++ 46 ∷ drop j bs) (sym front) ∙ ap (λ t. x.0.now ++ 46 ∷ t) (sym back),
+          ∙ ap (λ t. t ++ 46 ∷ drop j bs) (sym front) ∙ ap (λ t. x.0.now ++ 46 ∷ t) (sym back),
       λ k d low. eqb-absent k d x.1.now low (λ e. NoCharPasses-char 46 (drop j bs) k finds.0 (lit< tt) (subst (λ t. k < length t) back low) (ap (λ t. get_or t k 0) (sym back) ∙ e)),
     )

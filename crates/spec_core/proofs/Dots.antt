@@ -1,8 +1,7 @@
 -- Where a text is cut at its last dot, and what its parts are.
-use Rattle.std.proofs.Common.{◌≡◌, ◌∙◌, refl, sym, ap, ℕ, zero, suc, ◌+◌, ◌<◌, List, [], ◌∷◌, ◌++◌, Bool, true, false, ◌&&◌, IsTrue, cond, length, eqb, ◌==◌, inl, inr, ◌⊎◌, All, get_or, take, drop, Option, Some, None, arith, append_assoc, length-append, if◌then◌else◌, subst, MatchOption, eqb-true}
+use Rattle.std.proofs.Common.{◌≡◌, ◌∙◌, refl, sym, ap, ℕ, zero, suc, ◌+◌, ◌<◌, List, [], ◌∷◌, ◌++◌, Bool, true, false, ◌&&◌, IsTrue, cond, length, eqb, ◌==◌, inl, inr, ◌⊎◌, take, drop, Option, Some, None, arith, if◌then◌else◌, subst, MatchOption, eqb-true}
 use Rattle.std.proofs.Math.Seq.{take-append_seam, take-length}
-use Rattle.std.specs.List.{list_all, slice_split, onto_first, position_or_len}
-use Rattle.std.proofs.lemmas.Grind.{common_steps}
+use Rattle.std.specs.List.{list_all, onto_first, position_or_len}
 use Rattle.std.proofs.lemmas.List.Splits.{slice_split_none, length-slice_split}
 use Rattle.std.proofs.lemmas.List.Folds.{list_all-append}
 use Rattle.std.proofs.lemmas.List.Sums.{position_or_len_is}

@@ -1,11 +1,11 @@
 -- A name without its last parts.
-use Rattle.std.proofs.Common.{◌≡◌, ◌∙◌, refl, sym, ap, subst, ℕ, zero, suc, ◌+◌, ◌-◌, ◌<◌, ◌≤◌, List, [], ◌∷◌, ◌++◌, Bool, true, false, not, length, eqb, take, Some, None, Ok, arith, nat_lt, length-append, if◌then◌else◌, inl, inr, IsTrue, Option, length-take, le-ltb}
+use Rattle.std.proofs.Common.{◌≡◌, ◌∙◌, refl, sym, ap, ℕ, zero, suc, ◌+◌, ◌-◌, ◌<◌, ◌≤◌, List, [], ◌∷◌, ◌++◌, false, length, take, Some, None, Ok, arith, nat_lt, length-append, inl, inr, IsTrue, length-take, le-ltb}
 use Rattle.std.specs.List.{join_with_byte}
 use Rattle.std.proofs.lemmas.List.Splits.{join_with_byte-slice_split}
 use Rattle.std.proofs.Math.Seq.{take-append_seam, take-length}
 use Rattle.spec_core.specs.Names.{parts, parent_of, joined}
 use Rattle.spec_core.specs.Identifiers.{is_dotted}
-use Rattle.spec_core.specs.Relative.{front_parts, resolved, followed}
+use Rattle.spec_core.specs.Relative.{front_parts, resolved}
 use Rattle.spec_core.proofs.Dots.{cut, parent-none, parent-cut, parts-none, parts-joined, some_parts}
 
 take_less : (m n : ℕ) (all : List (List ℕ)) → m ≤ n → take m (take n all) ≡ take m all
@@ -50,7 +50,7 @@ level_up all name p k low e up =
     let enough : k + 1 < length all = omega (arith, less.0) in (
       enough,
       less.1 ∙ ap (λ m. take (m - 1) (parts name)) n ∙ ap (take (length all - k - 1)) e ∙ take_less (length all - k - 1) (length all - k) all (omega arith)
-      ∙ ap (λ m. take m all) (omega arith),
+          ∙ ap (λ m. take m all) (omega arith),
     )
 
 -- there is no more level

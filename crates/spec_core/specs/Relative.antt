@@ -1,5 +1,5 @@
 -- Relative names (Language Reference 5.7; `_resolve_name` of `importlib._bootstrap`).
-use Rattle.std.specs.Prelude.{◌≡◌, ◌⊎◌, ℕ, ◌-◌, not, nat_lt, if◌then◌else◌, List, length, take, Option, Some, None, Result, Ok, Err}
+use Rattle.std.specs.Prelude.{◌≡◌, ℕ, ◌-◌, not, nat_lt, if◌then◌else◌, List, length, take, Option, Some, None, Result, Ok, Err}
 use Rattle.std.specs.List.{join_with_byte}
 use Rattle.spec_core.specs.Names.{parts, joined}
 use Rattle.spec_core.specs.Identifiers.{is_dotted}

@@ -4,10 +4,10 @@ ghost use Rattle.std.specs.FinMap as map;
 ghost use Rattle.std.specs.Option.{option_copied};
 
 use crate::name::Dotted;
+use base_types::{NoMemory, TreePath};
 use std::alloc::Global;
 use std::collections::BTreeMap;
 use std::marker::Model;
-use base_types::{NoMemory, TreePath};
 
 /// A map from names.
 #[derive(Drop)]
@@ -30,6 +30,7 @@ impl<V> Model for NameMap<V> {
 }
 
 impl<V> NameMap<V> {
+    /// An empty map. It takes no memory.
     pub fn new(alloc: Global) -> NameMap<V>
         ensures { result ≡ map.empty }
     {
@@ -38,6 +39,7 @@ impl<V> NameMap<V> {
         }
     }
 
+    /// The value at a name. None exactly where the map has no such key.
     pub fn get(&self, name: &Dotted) -> Option<&V>
         ensures { option_copied result ≡ map.get self.now name.now }
     {
@@ -69,6 +71,7 @@ impl<V> NameMap<V> {
         }
     }
 
+    /// Takes the value at a name out of the map and answers it.
     pub fn remove(&mut self, name: &Dotted) -> Option<V>
         ensures before { result ≡ map.get self.old name.now }
         ensures after { self.new ≡ map.remove self.old name.now }
@@ -98,6 +101,7 @@ impl<V> Model for PathMap<V> {
 }
 
 impl<V> PathMap<V> {
+    /// An empty map. It takes no memory.
     pub fn new(alloc: Global) -> PathMap<V>
         ensures { result ≡ map.empty }
     {
@@ -106,6 +110,7 @@ impl<V> PathMap<V> {
         }
     }
 
+    /// The value at a path. None exactly where the map has no such key.
     pub fn get(&self, path: &TreePath) -> Option<&V>
         ensures { option_copied result ≡ map.get self.now path.now }
     {
@@ -137,6 +142,7 @@ impl<V> PathMap<V> {
         }
     }
 
+    /// Takes the value at a path out of the map and answers it.
     pub fn remove(&mut self, path: &TreePath) -> Option<V>
         ensures before { result ≡ map.get self.old path.now }
         ensures after { self.new ≡ map.remove self.old path.now }
@@ -164,6 +170,7 @@ impl<V> Model for NumberMap<V> {
 }
 
 impl<V> NumberMap<V> {
+    /// An empty map. It takes no memory.
     pub fn new(alloc: Global) -> NumberMap<V>
         ensures { result ≡ map.empty }
     {
@@ -172,18 +179,22 @@ impl<V> NumberMap<V> {
         }
     }
 
+    /// How many numbers have a value.
     pub fn len(&self) -> usize
         ensures { result ≡ map.len self.now }
     {
         self.map.len()
     }
 
+    /// The value at a number. None exactly where the map has no such key.
     pub fn get(&self, number: u32) -> Option<&V>
         ensures { option_copied result ≡ map.get self.now number }
     {
         self.map.get(&number)
     }
 
+    /// Sets the value at a number, and drops the one before. An `Err` changes nothing, and comes only
+    /// where there was none.
     pub fn insert(&mut self, number: u32, value: V) -> Result<(), NoMemory>
     where
         V: Drop,
@@ -195,6 +206,7 @@ impl<V> NumberMap<V> {
         Ok(())
     }
 
+    /// Takes the value at a number out of the map and answers it.
     pub fn remove(&mut self, number: u32) -> Option<V>
         ensures before { result ≡ map.get self.old number }
         ensures after { self.new ≡ map.remove self.old number }

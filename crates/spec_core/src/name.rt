@@ -68,8 +68,16 @@ impl Dotted {
         self.text.as_str()
     }
 
+    /// The allocator that the name was made with.
     pub fn alloc(&self) -> Global {
         self.text.alloc()
+    }
+
+    /// The whole name as a text of its own.
+    pub fn owned(&self) -> Result<Text, NoMemory>
+        ensures { IfOk result (λ text. text ≡ self.now) }
+    {
+        self.text.copy()
     }
 
     /// The name, borrowed.

@@ -34,7 +34,11 @@ impl From<NoMemory> for RelativeError {
 /// The name that is meant by `level` dots and a name behind them in a module of this package (Language Reference 5.7).
 /// NoParent exactly where the package is None or no dotted name, BeyondTop exactly where it has fewer parts than the
 /// level.
-pub fn resolve(package: Option<&Text>, level: u32, name: Option<&Dotted>) -> Result<Dotted, RelativeError>
+pub fn resolve(
+    package: Option<&Text>,
+    level: u32,
+    name: Option<&Dotted>,
+) -> Result<Dotted, RelativeError>
     requires { 1 ≤ level }
     ensures { Resolves (resolved (option_copied «package».entry) level (option_copied name.entry)) result }
 {

@@ -10,7 +10,7 @@ use std::alloc::Global;
 use std::marker::Model;
 
 /// A dotted name that is borrowed from a longer one, as its parent is. Contracts see its bytes.
-#[derive(Debug, Drop)]
+#[derive(Drop)]
 pub struct DottedView<'a> {
     text: &'a str,
     alloc: Global,

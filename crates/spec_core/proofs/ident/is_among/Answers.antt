@@ -1,4 +1,4 @@
-use Rattle.std.proofs.Common.{◌≡◌, ◌∙◌, sym, ap, get_or, map, List, ℕ, Bor, true, rules}
+use Rattle.std.proofs.Common.{sym}
 use Rattle.std.specs.Str.{bytes_eq}
 use Rattle.spec_core.proofs.Among.{among}
 use Rattle.spec_core.proofs.ident.is_among.Goals as goal

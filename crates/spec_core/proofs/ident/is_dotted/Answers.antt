@@ -1,7 +1,6 @@
-use Rattle.std.proofs.Common.{rules, ◌≡◌, ◌∙◌, sym, ap, ◌&&◌, false}
+use Rattle.std.proofs.Common.{rules, ◌∙◌, sym}
 use Rattle.std.proofs.lemmas.Result.{IfOk-weaker}
-use Rattle.spec_core.specs.Identifiers.{is_dotted, is_name}
-use Rattle.spec_core.proofs.Dots.{dotted-joined, dotted-none, dotted_good, dotted_bad}
+use Rattle.spec_core.proofs.Dots.{dotted-none, dotted_good, dotted_bad}
 use Rattle.spec_core.proofs.ident.is_dotted.Goals as goal
 
 pub returns-then-not-branch : goal.returns-then-not-branch

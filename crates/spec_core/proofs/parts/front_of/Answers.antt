@@ -1,6 +1,5 @@
-use Rattle.std.proofs.Common.{◌≡◌, ◌∙◌, sym, lit<, Some, None}
-use Rattle.std.specs.Str.Pattern.{FindsChar}
-use Rattle.std.proofs.lemmas.Str.Pattern.{split_once_first, IsSplitOnceResult}
+use Rattle.std.proofs.Common.{sym, lit<, Some, None}
+use Rattle.std.proofs.lemmas.Str.Pattern.{split_once_first}
 use Rattle.spec_core.proofs.Dots.{front-none}
 use Rattle.spec_core.proofs.parts.front_of.Goals as goal
 

@@ -1,4 +1,4 @@
-use Rattle.std.proofs.Common.{◌≡◌, ◌∙◌, sym, ap, ◌-◌, take, length, arith, subst, List, ℕ}
+use Rattle.std.proofs.Common.{◌≡◌, ◌∙◌, ap, ◌-◌, length, arith}
 use Rattle.spec_core.specs.Names.{parts}
 use Rattle.spec_core.specs.Relative.{front_parts}
 use Rattle.spec_core.proofs.Dots.{some_parts}
