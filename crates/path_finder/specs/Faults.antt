@@ -1,0 +1,9 @@
+-- Whether a load failed because a call of the tree did.
+use Rattle.std.specs.Prelude.{Result, Ok, Err}
+use Rattle.tree_files.specs.declared.tree.TreeFault.TheVariants as of_tree
+use Rattle.path_finder.specs.declared.load.LoadFault.{LoadFault}
+use Rattle.path_finder.specs.declared.load.LoadFault.TheVariants as fault
+
+abbrev pub HasFailed : {X : Type 0} → Result X LoadFault → Type 0
+HasFailed (Err (fault.Tree of_tree.Failed)) = Unit {0}
+HasFailed _ = ⊥
