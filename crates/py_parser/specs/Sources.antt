@@ -9,8 +9,8 @@ use Rattle.spec_core.specs.Identifiers.{is_dotted}
 use Rattle.py_parser.specs.declared.script.Stmt.{Stmt}
 use Rattle.py_parser.specs.declared.script.Stmt.TheVariants.{Import, Print}
 use Rattle.py_parser.specs.declared.script.Script.{Script}
-use Rattle.py_parser.specs.declared.parse.ParseError.{ParseError}
-use Rattle.py_parser.specs.declared.parse.ParseError.TheVariants as error
+use Rattle.py_parser.specs.declared.source.ParseError.{ParseError}
+use Rattle.py_parser.specs.declared.source.ParseError.TheVariants as error
 
 abbrev pub is_between : ℕ → ℕ → ℕ → Bool
 is_between low high b = nat_le low b && nat_le b high

@@ -1,8 +1,8 @@
 //! From sources to the trees of their statements.
 #![tactic(auto)]
 
-mod parse;
 mod script;
+mod source;
 
-pub use parse::ParseError;
 pub use script::{Script, Stmt};
+pub use source::{ParseError, parse};

@@ -1,8 +1,8 @@
 //! The tree of a script.
+ghost use Rattle.std.specs.Prelude.{◌≡◌, IfOk};
+
 use base_types::{Exact, NoMemory, Seq, Text};
 use spec_core::Dotted;
-
-ghost use Rattle.std.specs.Prelude.{◌≡◌, IfOk};
 
 /// A statement.
 #[derive(Drop)]

@@ -15,14 +15,14 @@ use Rattle.machine_events.specs.declared.event.Event.TheVariants as e
 use Rattle.machine_events.specs.declared.event.Reply.{Reply}
 use Rattle.machine_events.specs.declared.event.Reply.TheVariants as r
 use Rattle.machine_events.specs.Knowing.{Shown, Holding, Taken, Loading, Running, Has, shown_first, shown_more, holds, does, modules_at, modules_in, HasAll, named, numbered, loaded, released, finished as ended}
-use Rattle.meanings.specs.Runs.{Run, Safe, Pays, Makes, Looks}
+use Rattle.meanings.specs.Runs.{Run, Safe, Pays, Makes, Looks, StampOf}
 use Rattle.py_parser.specs.Sources.{script_of}
 use Rattle.py_parser.specs.declared.script.Stmt.{Stmt}
 use Rattle.py_parser.specs.declared.script.Stmt.TheVariants.{Import, Print}
 use Rattle.py_run.specs.Errors.{halted, not_found, deadlock, lost, too_long, too_deep, text_too_long, not_built, no_reply}
 use Rattle.py_run.specs.declared.flow.Flow.{Flow}
 use Rattle.py_run.specs.declared.flow.Flow.TheVariants.{On, Found, Raised}
-use Rattle.py_run.specs.Meaning.{Onward, Body, Imports, most, fails, asked, taken, gives_back, spec_of, finished, finishes, added, adds, has_text, reads, by_file, by_folder, searches, finds, takes, asks, binds, prints, argument, callee, statement, on_good, statements, parsed, runs, bodies, imports, outcome_of, ends, meaning}
+use Rattle.py_run.specs.Meaning.{Onward, Body, Imports, most, fails, asked, taken, gives_back, spec_of, finished, finishes, added, adds, has_text, reads, by_file, by_folder, searches, is_searched, finds, takes, asks, binds, prints, argument, callee, statement, on_good, statements, parsed, runs, bodies, imports, outcome_of, ends, meaning}
 
 -- after s comes s', which shows as much; it runs, and holds this
 record Later (s s' : Shown) (held : List Holding) : Type 0 where
@@ -227,7 +227,11 @@ module _ (body : Body) (safe_body : SafeBody body) (s : Shown) (again : Run) (n 
   safe_by_folder s' f stamps.Absent = (f.runs, safe_by_file s' f)
 
   safe_searches : (s' : Shown) → Later s s' (Taken n ∷ s.held) → Safe s' (searches body again n k)
-  safe_searches s' f = (f.runs, (f.runs, safe_by_folder s' f))
+  safe_searches s' f = (f.runs, at (is_searched n))
+    where
+      at : (b : Bool) → Safe s' (if b then Looks (StampOf (n ∷ [])) (by_folder body again n k) else gives_back n k (not_found n))
+      at true = (f.runs, safe_by_folder s' f)
+      at false = safe_gives_back s s' n k (not_found n) safe f
 
   safe_finds : (s' : Shown) → Later s s' (Taken n ∷ s.held) → Safe s' (finds body again n k)
   safe_finds s' f = (

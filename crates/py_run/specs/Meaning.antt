@@ -1,5 +1,6 @@
 -- What the sources built so far mean: a script's run, by recursion on how many more bodies and imports may be open.
-use Rattle.std.specs.Prelude.{ℕ, zero, suc, ◌+◌, ◌/◌, ◌-◌, ◌^◌, min, length, List, [], ◌∷◌, ◌++◌, codes, drop, Option, Some, None, nat_lt, if◌then◌else◌, Bool, true, false}
+use Rattle.std.specs.Prelude.{ℕ, zero, suc, ◌+◌, ◌/◌, ◌-◌, ◌^◌, min, length, List, [], ◌∷◌, ◌++◌, codes, drop, Option, Some, None, nat_lt, ◌&&◌, if◌then◌else◌, Bool, true, false}
+use Rattle.base_types.specs.Path.{is_part}
 use Rattle.py_value.specs.Measures.{size_of}
 use Rattle.py_value.specs.declared.value.Value.{Value}
 use Rattle.py_value.specs.declared.value.Value.TheVariants as values
@@ -113,9 +114,14 @@ abbrev pub by_folder : Body → Run → List ℕ → Onward → Stamp → Run
 by_folder body again n k (stamps.Dir time) = gives_back n k not_built
 by_folder body again n k stamp = Looks (StampOf (file_of n ∷ [])) (by_file body again n k)
 
+-- a name and its file are parts of a tree path, as those of an identifier are
+abbrev pub is_searched : List ℕ → Bool
+is_searched n = is_part n && is_part (file_of n)
+
 -- the search, in the root alone: a folder of this name, else a file
 abbrev pub searches : Body → Run → List ℕ → Onward → Run
-searches body again n k = pay_tree (Looks (StampOf (n ∷ [])) (by_folder body again n k))
+searches body again n k =
+    pay_tree (if is_searched n then Looks (StampOf (n ∷ [])) (by_folder body again n k) else gives_back n k (not_found n))
 
 -- with the lock, the path is read and the module is searched for
 abbrev pub finds : Body → Run → List ℕ → Onward → Run

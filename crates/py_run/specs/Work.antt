@@ -7,7 +7,7 @@ use Rattle.meanings.specs.Runs.{Run, Makes}
 use Rattle.py_parser.specs.Sources.{script_of}
 use Rattle.py_parser.specs.declared.script.Stmt.{Stmt}
 use Rattle.py_run.specs.Errors.{halted, not_found, deadlock, lost, too_long, too_deep, text_too_long, not_built, no_reply}
-use Rattle.py_run.specs.Meaning.{Onward, fails, bodies, imports, asks, takes, finds, searches, reads, adds, gives_back, finishes, statements, statement, argument, binds, on_good, ends}
+use Rattle.py_run.specs.Meaning.{Onward, fails, bodies, imports, asks, takes, finds, searches, adds, gives_back, finishes, statements, statement, argument, binds, on_good, ends}
 use Rattle.py_run.specs.declared.flow.Flow.{Flow}
 use Rattle.py_run.specs.declared.flow.Flow.TheVariants.{On, Found, Raised}
 use Rattle.py_run.specs.declared.why.Why.{Why}
@@ -56,7 +56,6 @@ item_does (it.Take i) next = on_good next (takes (bodies i.left) (again i next) 
 item_does (it.Wait i) next = on_good next (Makes e.Wake (λ _. again i next))
 item_does (it.Path i) next = holding i.name next (finds (bodies i.left) (again i next) i.name next)
 item_does (it.Search i) next = holding i.name next (searches (bodies i.left) (again i next) i.name next)
-item_does (it.Read i) next = holding i.name next (reads (bodies i.left) (again i next) i.name next)
 item_does (it.Add i text) next = holding i.name next (adds (bodies i.left) (again i next) i.name next text)
 item_does (it.GiveBack name reason) next = holding name next (gives_back name next (error_of reason name))
 item_does (it.Fail name reason) next = on_good next (fails next (error_of reason name))
@@ -72,7 +71,6 @@ rest (item ∷ items) = item_does item (rest items)
 abbrev pub held_at : Item → List Holding
 held_at (it.Path i) = Taken i.name ∷ []
 held_at (it.Search i) = Taken i.name ∷ []
-held_at (it.Read i) = Taken i.name ∷ []
 held_at (it.Add i text) = Taken i.name ∷ []
 held_at (it.GiveBack name reason) = Taken name ∷ []
 held_at (it.Finish load mid i) = Loading load mid i.name ∷ []

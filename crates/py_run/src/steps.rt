@@ -1,2 +1,4 @@
-//! The steps of the evaluator, one desk call each.
+//! The steps of the evaluator, at most one desk call each.
+pub mod bodies;
+pub mod lines;
 pub mod looks;

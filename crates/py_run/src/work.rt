@@ -52,9 +52,7 @@ pub enum Item {
     Path(Import),
     /// The search.
     Search(Import),
-    /// A file was found.
-    Read(Import),
-    /// Its text was read.
+    /// A file was found, and its text was read.
     Add {
         import: Import,
         text: Seq<u8>,

