@@ -6,6 +6,8 @@ mod mem_tree;
 mod real_tree;
 mod sink;
 mod std_sink;
+#[cfg(test)]
+mod tests;
 mod tree;
 
 pub use base_types::{Exact, Listing, NoMemory, Same, Seq, Text, Texts, TreePath};

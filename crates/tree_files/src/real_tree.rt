@@ -80,7 +80,7 @@ impl<R: Files + AllocGlobal + Clone + Drop> Tree for RealTree<R> {
     }
 
     fn list(&mut self, dir: &TreePath) -> Result<Texts, TreeFault> {
-            let name = self.name(dir)?;
+        let name = self.name(dir)?;
         match names_in(&self.rt, name.as_str()) {
             Ok(names) => {
                 self.lists = self.lists.saturating_add(1);
