@@ -168,3 +168,19 @@ fn a_real_folder_is_read(rt: HostRuntime) -> Result<(), Fail> {
     fs::remove_dir_all(&rt, folder)?;
     Ok(())
 }
+
+#[test]
+fn an_edit_is_copied(rt: HostRuntime) -> Result<(), Fail> {
+    let edit = Edit::File {
+        path: path(&rt, "a/b.py")?,
+        bytes: Seq::from_vec(Vec::from_slice(rt.alloc(), b"hello")?),
+    };
+    match edit.copy()? {
+        Edit::File { path, bytes } => {
+            assert_eq!(rt; path.text()?.as_str(), "a/b.py");
+            assert_eq!(rt; bytes.as_slice(), b"hello".as_slice());
+        }
+        _ => return Err("no edit of a file".into()),
+    }
+    Ok(())
+}
