@@ -1,5 +1,5 @@
 -- Edits keep the shape of a tree, and the map in memory follows them.
-use Rattle.std.proofs.Common.{◌≡◌, ◌≢◌, ◌∙◌, refl, sym, ap, subst, ℕ, zero, suc, ◌+◌, ◌<◌, List, [], ◌∷◌, ◌++◌, Bool, true, false, cond, Option, None, Some, IsTrue, is_some, length, take, map, get_or, add-one, arith, not, ◌&&◌}
+use Rattle.std.proofs.Common.{◌≡◌, ◌≢◌, ◌∙◌, refl, sym, ap, subst, ℕ, zero, suc, ◌+◌, ◌<◌, List, [], ◌∷◌, ◌++◌, Bool, true, false, cond, Option, Some, IsTrue, is_some, length, take, map, get_or, add-one, arith, not, ◌&&◌}
 use Rattle.std.proofs.lemmas.List.{same_from_push, take_more, length-map, map-append}
 use Rattle.std.specs.Cmp.{tied_itself}
 use Rattle.std.specs.Ordering.{eq_by_cmp, is_eq, ordering_then}
@@ -7,7 +7,7 @@ use Rattle.std.specs.List.{AllByRecursion}
 use Rattle.std.specs.declared.cmp.Ordering.{Ordering}
 use Rattle.std.specs.declared.cmp.Ordering.TheVariants.{Less, Equal, Greater}
 use Rattle.std.specs.Cmp.{eq_by_cmp_equiv}
-use Rattle.std.specs.Cmp.Lexicographic.{slice_cmp, nat_list_cmp_total}
+use Rattle.std.specs.Cmp.Lexicographic.{nat_list_cmp_total}
 use Rattle.std.specs.FinMap.{insert, get-insert, same_map, IsAntisymmetric, slice_cmp-IsAntisymmetric, nat_cmp-IsAntisymmetric}
 use Rattle.std.specs.BTreeMap.{BTreeMap, Updates, get}
 use Rattle.base_types.specs.Path.{Path, path_cmp}
@@ -15,7 +15,7 @@ use Rattle.std.specs.List.{list_all}
 use Rattle.std.proofs.lemmas.List.Folds.{list_all_at, list_all_more}
 use Rattle.std.proofs.Math.Seq.{take-length}
 use Rattle.tree_files.specs.Files.{Files, node_at, is_dir, is_file, IsDirAt, IsTree}
-use Rattle.tree_files.specs.Edits.{prefixes, with_dir_at, with_dirs, placed, HasParent, HasDirs, is_way_free}
+use Rattle.tree_files.specs.Edits.{prefixes, with_dir_at, with_dirs, HasParent, HasDirs, is_way_free}
 use Rattle.tree_files.specs.MemFiles.{mem_files}
 use Rattle.tree_files.proofs.MemFilesLemmas.{path_total, get_by-node_at}
 use Rattle.tree_files.specs.declared.tree.Node.{Node}

@@ -1,5 +1,5 @@
 -- What a map of paths in memory and its tree have to do with each other.
-use Rattle.std.proofs.Common.{◌≡◌, ◌∙◌, refl, sym, ap, List, [], ◌∷◌, ◌++◌, ℕ, Bool, true, false, cond, Option, None, Some, IsTrue, is_some, subst}
+use Rattle.std.proofs.Common.{◌≡◌, ◌∙◌, refl, sym, ap, List, [], ◌∷◌, ◌++◌, ℕ, Bool, true, false, cond, None, Some, IsTrue, is_some, subst}
 use Rattle.std.specs.Map.{lookup}
 use Rattle.std.specs.BTreeMap.{BTreeMap, get_by, is_at}
 use Rattle.std.specs.FinMap.{find, get-from_entries, get-insert, get-empty, empty}

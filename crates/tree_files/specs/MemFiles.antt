@@ -1,9 +1,9 @@
 -- The tree that a map of paths in memory holds, and the calls of it that are to fail.
-use Rattle.std.specs.Prelude.{ℕ, Bool, List, [], ◌∷◌, ◌==◌, ◌&&◌, Option, Some, None, is_none, if◌then◌else◌}
+use Rattle.std.specs.Prelude.{ℕ, Bool, List, [], ◌==◌, ◌&&◌, Option, Some, None, is_none, if◌then◌else◌}
 use Rattle.std.specs.List.{list_any, filter_map}
 use Rattle.std.specs.BTreeMap.{BTreeMap}
 use Rattle.std.specs.FinMap.{from_entries, empty, insert}
-use Rattle.base_types.specs.Path.{Path, path_cmp}
+use Rattle.base_types.specs.Path.{Path}
 use Rattle.tree_files.specs.Files.{Files, IsTree}
 use Rattle.tree_files.specs.Count.{raised}
 use Rattle.tree_files.specs.declared.mem_tree.Due.{Due}

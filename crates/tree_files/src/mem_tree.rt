@@ -1,4 +1,4 @@
-ghost use Rattle.std.specs.Prelude.{◌≡◌, ◌≤◌, ◌↔◌, ℕ, [], ◌∷◌, ◌++◌, take, length, IfOk, IfSome, IsErrOf, OnOk, OnErr, MatchResult, Some, IsTrue, false, if◌then◌else◌};
+ghost use Rattle.std.specs.Prelude.{◌≡◌, ◌≤◌, ◌+◌, ◌↔◌, ℕ, [], ◌∷◌, ◌++◌, take, length, IfOk, IfSome, IsErrOf, OnOk, OnErr, MatchResult, Some, IsTrue, false, if◌then◌else◌};
 ghost use Rattle.std.specs.Option.{option_copied};
 ghost use Rattle.tree_files.specs.Count.{Rose, raised};
 ghost use Rattle.tree_files.specs.Files.{IsRead, IsListing, node_at, name_below, stamp_of, bytes_of, IsFileAt, is_dir, is_file, IsDirAt};
@@ -150,6 +150,7 @@ impl Tree for MemTree {
         ensures is_tree { IsTreeMap self.old.nodes }
         ensures files_stay { mem_files self.new.nodes ≡ mem_files self.old.nodes }
         ensures faults_grow { self.old.faults ≤ self.new.faults }
+        ensures counted { self.new.faults ≡ if is_next_due self.old.due then raised self.old.faults 1 else self.old.faults }
         ensures due { self.new.due ≡ after_call self.old.due }
         ensures lists_stay { self.new.lists ≡ self.old.lists }
     {
@@ -170,13 +171,13 @@ impl Tree for MemTree {
         ensures is_tree { IsTreeMap self.old.nodes }
         ensures files_stay { mem_files self.new.nodes ≡ mem_files self.old.nodes }
         ensures faults_grow { self.old.faults ≤ self.new.faults }
+        ensures counted { self.new.faults ≡ if is_next_due self.old.due then raised self.old.faults 1 else self.old.faults }
         ensures due { self.new.due ≡ after_call self.old.due }
         ensures listed { OnOk result (self.new.lists ≡ raised self.old.lists 1) }
         ensures not_listed { OnErr result (self.new.lists ≡ self.old.lists) }
         ensures lists_grow { self.old.lists ≤ self.new.lists }
-        ensures lists_bound { self.new.lists ≤ raised self.old.lists 1 }
+        ensures lists_bound { self.new.lists ≤ self.old.lists + 1 }
     {
-        let _lists = self.lists;
         if self.fails() {
             return Err(TreeFault::Failed);
         }
@@ -194,6 +195,7 @@ impl Tree for MemTree {
         ensures is_tree { IsTreeMap self.old.nodes }
         ensures files_stay { mem_files self.new.nodes ≡ mem_files self.old.nodes }
         ensures faults_grow { self.old.faults ≤ self.new.faults }
+        ensures counted { self.new.faults ≡ if is_next_due self.old.due then raised self.old.faults 1 else self.old.faults }
         ensures due { self.new.due ≡ after_call self.old.due }
         ensures lists_stay { self.new.lists ≡ self.old.lists }
     {

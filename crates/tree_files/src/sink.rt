@@ -1,5 +1,5 @@
 ghost use Rattle.std.specs.Prelude.{◌≡◌, ◌≤◌, ◌<◌, ◌↔◌, ◌-◌, ℕ, List, [], ◌++◌, take, length, IfOk, IsErrOf, OnOk, OnErr, Option, Some, None, MatchResult, option_map};
-ghost use Rattle.tree_files.specs.Count.{Rose};
+ghost use Rattle.tree_files.specs.Count.{Rose, raised};
 ghost use Rattle.tree_files.specs.Writing.{appended, HasPrefixOf, room_for, room_after};
 
 use base_types::NoMemory;
@@ -139,7 +139,9 @@ impl Sink for MemSink {
         ensures count { IfOk result (λ n. n ≡ room_for self.old.room (length piece.now)) }
         ensures room { MatchResult result (λ n. self.new.room ≡ room_after self.old.room n) (λ _. self.new.room ≡ self.old.room) }
         ensures exact { IsErrOf result SinkFault.Failed ↔ ((self.old.room ≡ Some 0) × (0 < length piece.now)) }
-        ensures failed { IsErrOf result SinkFault.Failed → Rose self.old.faults self.new.faults }
+        ensures failed { IsErrOf result SinkFault.Failed → self.new.faults ≡ raised self.old.faults 1 }
+        ensures wanting { IsErrOf result SinkFault.NoMemory → self.new.faults ≡ self.old.faults }
+        ensures ok { OnOk result (self.new.faults ≡ self.old.faults) }
         ensures faults_grow { self.old.faults ≤ self.new.faults }
     {
         let n = match self.room {
@@ -157,7 +159,14 @@ impl Sink for MemSink {
         Ok(n)
     }
 
-    fn lend(&mut self) -> MemSink {
+    fn lend(&mut self) -> MemSink
+        ensures given { result.bytes.items ≡ self.old.bytes.items }
+        ensures given_room { result.room ≡ self.old.room }
+        ensures given_faults { result.faults ≡ self.old.faults }
+        ensures emptied { self.new.bytes.items ≡ [] }
+        ensures room_stays { self.new.room ≡ self.old.room }
+        ensures faults_stay { self.new.faults ≡ self.old.faults }
+    {
         let none = Vec::new(*self.bytes.allocator());
         MemSink {
             bytes: mem::replace(&mut self.bytes, none),
@@ -166,7 +175,9 @@ impl Sink for MemSink {
         }
     }
 
-    fn restore(&mut self, lent: MemSink) {
+    fn restore(&mut self, lent: MemSink)
+        ensures { self.new ≡ lent }
+    {
         *self = lent;
     }
 }

@@ -1,4 +1,4 @@
-ghost use Rattle.std.specs.Prelude.{◌≡◌, ◌≤◌, ℕ, length, IfOk, IfSome, IsErrOf, OnOk, Option};
+ghost use Rattle.std.specs.Prelude.{◌≡◌, ◌≤◌, ◌+◌, ℕ, length, IfOk, IfSome, IsErrOf, OnOk, Option};
 ghost use Rattle.std.specs.Option.{ForSome};
 ghost use Rattle.tree_files.specs.Count.{Rose, raised};
 ghost use Rattle.tree_files.specs.Files.{Files, IsTree, node_at, stamp_of, bytes_of, IsDirAt, IsFileAt, IsListing, IsRead};
@@ -93,7 +93,7 @@ pub trait Tree: Sized + Drop {
         ensures faults_grow { faults self.old ≤ faults self.new }
         ensures listed { OnOk result (lists self.new ≡ raised (lists self.old) 1) }
         ensures lists_grow { lists self.old ≤ lists self.new }
-        ensures lists_bound { lists self.new ≤ raised (lists self.old) 1 }
+        ensures lists_bound { lists self.new ≤ lists self.old + 1 }
         ensures not_listed { IsErrOf result TreeFault.Failed → lists self.new ≡ lists self.old };
 
     /// Puts bytes of a file, from the place `at` on, to the front of a buffer, and answers how many.

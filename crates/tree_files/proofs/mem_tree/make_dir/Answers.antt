@@ -1,7 +1,6 @@
-use Rattle.std.proofs.Common.{◌≡◌, ◌∙◌, refl, sym, subst, ap, take}
+use Rattle.std.proofs.Common.{refl, sym, subst, take}
 use Rattle.std.proofs.lemmas.Result.{on_ok_weaker}
 use Rattle.tree_files.specs.Files.{IsDirAt}
-use Rattle.tree_files.specs.MemFiles.{mem_files}
 use Rattle.tree_files.specs.declared.tree.Node.TheVariants.{Dir}
 use Rattle.tree_files.proofs.EditLemmas.{IsDirAt-insert}
 use Rattle.tree_files.proofs.mem_tree.make_dir.Goals as goal

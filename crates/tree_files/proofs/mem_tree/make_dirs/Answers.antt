@@ -1,6 +1,5 @@
-use Rattle.std.proofs.Common.{◌≡◌, ◌∙◌, sym, subst, ap, rules, arith, ◌<◌, length, take}
+use Rattle.std.proofs.Common.{◌≡◌, ◌∙◌, ap, rules, arith, ◌<◌, length, take}
 use Rattle.std.proofs.Math.Seq.{take-length}
-use Rattle.tree_files.specs.Files.{IsDirAt}
 use Rattle.tree_files.specs.Edits.{prefixes, with_dirs, with_dir_at}
 use Rattle.tree_files.specs.MemFiles.{mem_files}
 use Rattle.tree_files.proofs.EditLemmas.{HasParent-more, with_dirs_more, length-prefixes}

@@ -1,8 +1,5 @@
-use Rattle.std.proofs.Common.{◌≡◌, ◌∙◌, rules, ap, sym, subst, List, ℕ, [], ◌++◌, ◌∷◌, is_some}
+use Rattle.std.proofs.Common.{◌≡◌, ◌∙◌, rules, ap, sym, subst, [], ◌++◌, ◌∷◌, is_some}
 use Rattle.std.specs.List.{filter_map}
-use Rattle.std.specs.List.Sorted.{IsStrictlySortedBy}
-use Rattle.std.specs.Ordering.{nat_cmp}
-use Rattle.std.specs.Cmp.Lexicographic.{slice_cmp}
 use Rattle.std.specs.BTreeMap.{keys}
 use Rattle.std.specs.FinMap.{get-from_entries}
 use Rattle.tree_files.specs.Files.{IsListing, name_below}
