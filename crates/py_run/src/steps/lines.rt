@@ -31,10 +31,10 @@ pub fn statements(mid: u32, stmts: Seq<Stmt>, at: usize, left: u32) -> Result<St
     ensures holds { IfOk result (λ step. held_after step ≡ []) }
     ensures falls { IfOk result (λ step. weight_after step < 2 + 3 * (length stmts - at)) }
 {
-    if at >= stmts.len() {
-        return Ok(Step::On(Lead::Go(Flow::On)));
-    }
-    let stmt = stmts.as_slice()[at].copy()?;
+    let stmt = match stmts.get(at) {
+        None => return Ok(Step::On(Lead::Go(Flow::On))),
+        Some(stmt) => stmt.copy()?,
+    };
     Ok(Step::On(Lead::Both(
         Item::Statement { mid, stmt, left },
         Item::Statements {
