@@ -2,6 +2,7 @@
 #![tactic(auto)]
 
 mod flow;
+mod parts;
 mod paying;
 mod steps;
 mod why;

@@ -2,3 +2,4 @@
 pub mod bodies;
 pub mod lines;
 pub mod looks;
+pub mod searching;
