@@ -414,7 +414,7 @@ safe_statement imports safe_imports s mid (Print text) k has run safe = (
 
 safe_on_good : (s : Shown) (k : Onward) (next : Run) → SafeOn s k → SafeFrom s next → SafeOn s (on_good k next)
 safe_on_good s k next safe more s' f On known = more s' f
-safe_on_good s k next safe more s' f (Found m) known = more s' f
+safe_on_good s k next safe more s' f (Found m) known = safe s' f (Found m) known
 safe_on_good s k next safe more s' f (Raised error) known = safe s' f (Raised error) tt
 
 safe_statements : (imports : Imports) → SafeImports imports → (s : Shown) (mid : ℕ) (stmts : List Stmt) (k : Onward) → Has s.mids mid → s.doing ≡ Running → SafeOn s k → Safe s (statements imports mid stmts k)

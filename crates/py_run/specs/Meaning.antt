@@ -169,7 +169,7 @@ statement imports mid (Print text) k = pay (pay (make (e.GetVar mid (codes "prin
 
 abbrev pub on_good : Onward → Run → Onward
 on_good k next On = next
-on_good k next (Found m) = next
+on_good k next (Found m) = k (Found m)
 on_good k next (Raised error) = k (Raised error)
 
 abbrev pub statements : Imports → ℕ → List Stmt → Onward → Run

@@ -54,6 +54,14 @@ abbrev pub weight_reading : Reading → ℕ
 weight_reading (reading.Step step) = weight_after step
 weight_reading (reading.Unread left hold) = 0
 
+abbrev pub MovesReading : Option Files → List (Event × Reply) → ℕ → (Onward → Run) → List (Event × Reply) → ℕ → Reading → Type 0
+MovesReading files mine budget run mine' budget' reading =
+    (next : Onward) (whole : Run) (fuel : ℕ) → Stands files whole fuel mine budget (run next) → AfterReading files whole fuel mine' budget' reading next
+
+abbrev pub KeepsReading : ℕ → List (Event × Reply) → List Holding → List (Event × Reply) → Reading → Type 0
+KeepsReading t mine before mine' reading =
+    (held : List Holding) → (shown t mine).held ≡ before ++ held → (shown t mine').held ≡ held_reading reading ++ held
+
 -- a call of the tree fails only where its count of faults rose
 abbrev pub Counts : ℕ → ℕ → Reading → Type 0
 Counts old new (reading.Step step) = Unit {0}

@@ -39,10 +39,10 @@ error_of (why.Given error) n = error
 abbrev pub again : Import → Onward → Run
 again i next = asks (bodies i.left) i.turns i.name next
 
--- what holds the lock of the name gives it back where an error comes to it
+-- what holds the lock of the name gives it back where an error comes to it; a module never does
 abbrev pub holding : List ℕ → Onward → Run → Onward
 holding n next run On = run
-holding n next run (Found m) = run
+holding n next run (Found m) = gives_back n next no_reply
 holding n next run (Raised error) = gives_back n next error
 
 -- one item, where `next` is the rest of the work
@@ -116,7 +116,6 @@ weight (it.Statements mid stmts at left) = 2 + 3 * (length stmts - at)
 weight (it.Start name mid text left) = 3 + 3 * many (script_of text)
 weight (it.Statement mid stmt left) = 2
 weight (it.Wait i) = 2
-weight (it.GiveBack name reason) = 2
 weight item = 1
 
 abbrev pub weights : List Item → ℕ

@@ -1,6 +1,7 @@
 //! Runs scripts: the events that a script's meaning makes, each on a desk, until its End.
 #![tactic(auto)]
 
+mod dispatch;
 mod flow;
 mod parts;
 mod paying;

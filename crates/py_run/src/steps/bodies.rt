@@ -269,7 +269,7 @@ pub fn give_back<D: Desk>(
     ensures continues { Continues (D.sight desk.old) (D.sight desk.new) }
     ensures moves { IfOk result (Moves (D.sight desk.old).mine budget.old (λ next. spec.gives_back name next (error_of why name)) (D.sight desk.new).mine budget.new) }
     ensures keeps { IfOk result (Keeps script (D.sight desk.old).mine (Taken name ∷ []) (D.sight desk.new).mine) }
-    ensures falls { IfOk result (λ step. Falls budget.old 2 budget.new (weight_after step)) }
+    ensures falls { IfOk result (λ step. Falls budget.old 1 budget.new (weight_after step)) }
     ensures err { OnErr result ((D.sight desk.new).mine ≡ (D.sight desk.old).mine) }
 {
     if !paid(budget, 1) {
