@@ -3,5 +3,7 @@
 
 mod arithmetic;
 mod comparison;
+mod draft;
 mod items;
 mod outcome;
+mod quoting;
