@@ -6,10 +6,10 @@ use Rattle.value_operators.specs.declared.draft.Draft.{Draft}
 use Rattle.value_operators.specs.declared.draft.Draft.TheVariants as drafts
 use Rattle.value_operators.specs.Texts.{put}
 
-over : (text piece : List ℕ) → 65536 < length (text ++ piece) → put (drafts.Within text) piece ≡ drafts.Over
+pub over : (text piece : List ℕ) → 65536 < length (text ++ piece) → put (drafts.Within text) piece ≡ drafts.Over
 over text piece h = grind arith
 
-within : (text piece : List ℕ) → length (text ++ piece) ≤ 65536 → put (drafts.Within text) piece ≡ drafts.Within (text ++ piece)
+pub within : (text piece : List ℕ) → length (text ++ piece) ≤ 65536 → put (drafts.Within text) piece ≡ drafts.Within (text ++ piece)
 within text piece h = grind arith
 
 pub put_put : (draft : Draft) (a b : List ℕ) → put (put draft a) b ≡ put draft (a ++ b)

@@ -1,3 +1,4 @@
+pub mod Commas
 pub mod Copies
 pub mod Drafts
 pub mod Ends

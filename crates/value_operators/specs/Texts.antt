@@ -1,6 +1,6 @@
 -- `str` and `repr` (Library Reference, "Built-in Functions" and "Text Sequence Type").
-use Rattle.std.specs.Prelude.{ℕ, ◌+◌, ◌/◌, ◌%◌, List, [], ◌∷◌, ◌++◌, length, codes, Bool, true, false, nat_lt, ◌==◌, ◌&&◌, ◌||◌, not, if◌then◌else◌}
-use Rattle.std.specs.List.{flat_map, list_any}
+use Rattle.std.specs.Prelude.{ℕ, zero, suc, ◌+◌, ◌/◌, ◌%◌, List, [], ◌∷◌, ◌++◌, length, codes, Bool, true, false, nat_lt, ◌==◌, ◌&&◌, ◌||◌, not, if◌then◌else◌}
+use Rattle.std.specs.List.{flat_map, list_any, join_by}
 use Rattle.std.specs.Fmt.{signed_decimal}
 use Rattle.py_value.specs.declared.kind.Native.{Native}
 use Rattle.py_value.specs.declared.kind.Native.TheVariants as natives
@@ -57,28 +57,42 @@ abbrev pub quoted : List ℕ → List ℕ
 quoted text = quoted_in (quote_byte (quote_of text)) text
 
 abbrev pub with_commas : List (List ℕ) → List ℕ
-with_commas [] = []
-with_commas (text ∷ texts) = text ++ flat_map (λ t. codes ", " ++ t) texts
+with_commas texts = join_by (λ text. text) (codes ", ") texts
+
+-- what stands before the n-th item, from 0
+abbrev pub comma_before : ℕ → List ℕ
+comma_before zero = []
+comma_before (suc n) = codes ", "
 
 -- a tuple of one has a comma behind its item
 abbrev pub tuple_end : ℕ → List ℕ
 tuple_end len = if len == 1 then codes ",)" else codes ")"
 
 -- `str` is a class in Python
+abbrev pub native_opening : Native → List ℕ
+native_opening natives.Str = codes "<class '"
+native_opening _ = codes "<built-in function "
+
+abbrev pub native_end : Native → List ℕ
+native_end natives.Str = codes "'>"
+native_end _ = codes ">"
+
 abbrev pub native_text : Native → List ℕ
-native_text natives.Str = codes "<class 'str'>"
-native_text native = codes "<built-in function " ++ native_name native ++ codes ">"
+native_text native = native_opening native ++ native_name native ++ native_end native
 
 abbrev pub place_text : Place → List ℕ
 place_text (places.File file) = codes " from " ++ quoted file ++ codes ">"
 place_text places.BuiltIn = codes " (built-in)>"
 place_text places.Namespace = codes " (namespace)>"
 
+abbrev pub bool_text : Bool → List ℕ
+bool_text true = codes "True"
+bool_text false = codes "False"
+
 -- one layer, with the text of each item in its place; what is not plain has no text
 abbrev pub repr_at : Value-F (List ℕ) → List ℕ
 repr_at Value-F.Nothing = codes "None"
-repr_at (Value-F.Bool true) = codes "True"
-repr_at (Value-F.Bool false) = codes "False"
+repr_at (Value-F.Bool b) = bool_text b
 repr_at (Value-F.Int n) = signed_decimal n
 repr_at (Value-F.Text text) = quoted text
 repr_at (Value-F.List texts) = codes "[" ++ with_commas texts ++ codes "]"

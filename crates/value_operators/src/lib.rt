@@ -7,3 +7,4 @@ mod draft;
 mod items;
 mod outcome;
 mod quoting;
+mod texts;
