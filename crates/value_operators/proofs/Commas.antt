@@ -1,10 +1,10 @@
 -- Texts with commas between, and one more behind.
-use Rattle.std.proofs.Common.{◌≡◌, ◌∙◌, refl, sym, ap, ℕ, suc, ◌+◌, ◌<◌, ◌≤◌, List, [], ◌∷◌, ◌++◌, append_assoc, length, get_or, take, map, arith, rules, codes, inl, inr}
+use Rattle.std.proofs.Common.{◌≡◌, ◌∙◌, sym, ap, ℕ, ◌+◌, ◌<◌, List, [], ◌∷◌, ◌++◌, append_assoc, length, get_or, take, map, arith, codes, inl, inr}
 use Rattle.std.proofs.lemmas.Bool.{cases_lt}
-use Rattle.std.proofs.lemmas.Grind.{common_steps, flat_map-append}
+use Rattle.std.proofs.lemmas.Grind.{flat_map-append}
 use Rattle.std.proofs.lemmas.List.{take_more, map_push, append-nil, length-map, length-take}
 use Rattle.std.specs.List.{flat_map}
-use Rattle.py_value.specs.declared.value.Value.{Value, the_lemmas}
+use Rattle.py_value.specs.declared.value.Value.{Value}
 use Rattle.py_value.specs.declared.value.Value.TheVariants as values
 use Rattle.value_operators.specs.declared.draft.Draft.TheVariants as drafts
 use Rattle.value_operators.specs.Outcomes.{limited}

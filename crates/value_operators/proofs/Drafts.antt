@@ -1,7 +1,6 @@
 -- Two pieces that are put one after the other are one piece.
-use Rattle.std.proofs.Common.{◌≡◌, ◌∙◌, refl, sym, ap, ℕ, ◌<◌, ◌≤◌, ◌+◌, List, [], ◌∷◌, ◌++◌, append_assoc, length, length-append, inl, inr, arith, codes}
+use Rattle.std.proofs.Common.{◌≡◌, ◌∙◌, refl, sym, ap, ℕ, ◌<◌, ◌≤◌, List, ◌++◌, append_assoc, length, length-append, inl, inr, arith}
 use Rattle.std.proofs.lemmas.Bool.{cases_lt}
-use Rattle.std.proofs.lemmas.Grind.{common_steps}
 use Rattle.value_operators.specs.declared.draft.Draft.{Draft}
 use Rattle.value_operators.specs.declared.draft.Draft.TheVariants as drafts
 use Rattle.value_operators.specs.Texts.{put}

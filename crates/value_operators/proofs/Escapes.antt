@@ -1,6 +1,6 @@
 -- Runs of bytes that stand for themselves between quotes.
-use Rattle.std.proofs.Common.{◌≡◌, ◌∙◌, refl, sym, ap, subst, ℕ, zero, suc, ◌+◌, ◌-◌, ◌<◌, ◌≤◌, List, [], ◌∷◌, ◌++◌, append_assoc, Bool, true, false, length, get_or, take, drop, length-take, length-drop, arith, if◌then◌else◌}
-use Rattle.std.proofs.lemmas.Grind.{common_steps, flat_map-append}
+use Rattle.std.proofs.Common.{◌≡◌, ◌∙◌, refl, sym, ap, ℕ, suc, ◌+◌, ◌-◌, ◌<◌, ◌≤◌, List, [], ◌∷◌, ◌++◌, append_assoc, true, false, length, get_or, take, drop, length-take, length-drop, arith, if◌then◌else◌}
+use Rattle.std.proofs.lemmas.Grind.{flat_map-append}
 use Rattle.std.proofs.lemmas.List.{take_more, get_or-drop, get_or-take, take-append-drop, append-nil}
 use Rattle.std.proofs.Math.Seq.{take-add}
 use Rattle.std.specs.List.{flat_map}
@@ -33,10 +33,10 @@ piece quote bytes from n fits plain =
     let run = take n (drop from bytes) in
     let len : length run ≡ n = simp (length-take, length-drop) (omega arith) in
     let same : flat_map (escaped quote) run ≡ run =
-        plain_run quote run (λ k below.
-          let small : k < n = omega arith in
-          let at : get_or run k 0 ≡ get_or bytes (from + k) 0 = get_or-take n (drop from bytes) k 0 small ∙ get_or-drop from bytes k 0 in
-          ap (is_escaped quote) at ∙ plain (from + k) (omega arith) (omega arith))
+    plain_run quote run (λ k below.
+    let small : k < n = omega arith in
+    let at : get_or run k 0 ≡ get_or bytes (from + k) 0 = get_or-take n (drop from bytes) k 0 small ∙ get_or-drop from bytes k 0 in
+    ap (is_escaped quote) at ∙ plain (from + k) (omega arith) (omega arith))
     in
     ap (flat_map (escaped quote)) (take-add from n bytes) ∙ flat_map-append (escaped quote) (take from bytes) run ∙ ap (λ t. flat_map (escaped quote) (take from bytes) ++ t) same
 
@@ -45,7 +45,7 @@ pub run_step : (quote : ℕ) (bytes : List ℕ) (from i : ℕ) → from ≤ i �
 run_step quote bytes from i low high plain last =
     let there : from + (i - from) ≡ i = omega arith in
     let before : flat_map (escaped quote) (take i bytes) ≡ flat_map (escaped quote) (take from bytes) ++ take (i - from) (drop from bytes) =
-        ap (λ n. flat_map (escaped quote) (take n bytes)) (sym there) ∙ piece quote bytes from (i - from) (omega arith) (λ k above below. plain k above (omega arith))
+    ap (λ n. flat_map (escaped quote) (take n bytes)) (sym there) ∙ piece quote bytes from (i - from) (omega arith) (λ k above below. plain k above (omega arith))
     in
     let end : flat_map (escaped quote) (get_or bytes i 0 ∷ []) ≡ escape quote (get_or bytes i 0) = append-nil (escaped quote (get_or bytes i 0)) ∙ turned quote (get_or bytes i 0) last in
     ap (flat_map (escaped quote)) (take_more bytes i 0 high) ∙ flat_map-append (escaped quote) (take i bytes) (get_or bytes i 0 ∷ [])
@@ -56,7 +56,7 @@ pub run_end : (quote : ℕ) (bytes : List ℕ) (from : ℕ) → from ≤ length 
 run_end quote bytes from low plain =
     let len = length-drop from bytes in
     let same : flat_map (escaped quote) (drop from bytes) ≡ drop from bytes =
-        plain_run quote (drop from bytes) (λ k below.
-          ap (is_escaped quote) (get_or-drop from bytes k 0) ∙ plain (from + k) (omega arith) (omega arith))
+    plain_run quote (drop from bytes) (λ k below.
+    ap (is_escaped quote) (get_or-drop from bytes k 0) ∙ plain (from + k) (omega arith) (omega arith))
     in
     ap (flat_map (escaped quote)) (sym (take-append-drop from bytes)) ∙ flat_map-append (escaped quote) (take from bytes) (drop from bytes) ∙ ap (λ t. flat_map (escaped quote) (take from bytes) ++ t) same

@@ -41,11 +41,11 @@ is_escaped quote b = b == 92 || b == quote || nat_lt b 32 || b == 127
 -- characters by two hexadecimal digits
 abbrev pub escape : ℕ → ℕ → List ℕ
 escape quote b =
-  if b == 92 || b == quote then 92 ∷ b ∷ []
-  else if b == 10 then codes "\\n"
-  else if b == 13 then codes "\\r"
-  else if b == 9 then codes "\\t"
-  else codes "\\x" ++ (hex_digit (b / 16) ∷ hex_digit (b % 16) ∷ [])
+    if b == 92 || b == quote then 92 ∷ b ∷ []
+    else if b == 10 then codes "\\n"
+    else if b == 13 then codes "\\r"
+    else if b == 9 then codes "\\t"
+    else codes "\\x" ++ (hex_digit (b / 16) ∷ hex_digit (b % 16) ∷ [])
 
 abbrev pub escaped : ℕ → ℕ → List ℕ
 escaped quote b = if is_escaped quote b then escape quote b else b ∷ []

@@ -15,7 +15,11 @@ use std::alloc::Global;
 fn put_bool(draft: Draft, b: bool) -> Result<Draft, NoMemory>
     ensures { IfOk result (λ it. it ≡ table.put draft (table.bool_text b)) }
 {
-    if b { put(draft, "True") } else { put(draft, "False") }
+    if b {
+        put(draft, "True")
+    } else {
+        put(draft, "False")
+    }
 }
 
 fn put_number(alloc: Global, draft: Draft, n: i128) -> Result<Draft, NoMemory>
@@ -56,7 +60,12 @@ fn native_end(native: Native) -> &'static str
 fn put_native(draft: Draft, native: Native) -> Result<Draft, NoMemory>
     ensures { IfOk result (λ it. it ≡ table.put draft (table.native_text native)) }
 {
-    put_between(draft, native_opening(native), native.name(), native_end(native))
+    put_between(
+        draft,
+        native_opening(native),
+        native.name(),
+        native_end(native),
+    )
 }
 
 #[tactic(auto, using(crate::proofs::Drafts::put_put))]

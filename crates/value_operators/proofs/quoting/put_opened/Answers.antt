@@ -1,4 +1,4 @@
-use Rattle.std.proofs.Common.{◌≡◌, ◌∙◌, sym, ap, subst, ◌∷◌, ◌++◌, ◌+◌, ◌-◌, ◌<◌, ◌≤◌, ℕ, take, drop, get_or, length, true, false, IfOk, arith, inl, inr}
+use Rattle.std.proofs.Common.{◌≡◌, ◌∙◌, sym, ap, subst, ◌∷◌, ◌++◌, ◌-◌, ◌<◌, ◌≤◌, take, drop, get_or, length, true, false, IfOk, arith, inl, inr}
 use Rattle.std.specs.List.{flat_map}
 use Rattle.std.specs.Str.{IsCharBoundary}
 use Rattle.std.proofs.lemmas.Bool.{cases_lt}
@@ -28,17 +28,17 @@ loop-i-preserved c =
       | then-is_escaped+in_ok-draft-2 w ↦
           let yes : is_escaped quote (get_or text at 0) ≡ true = told ∙ w.if-is_escaped.true in
           let pieces : w.in_ok-draft-2.draft ≡ put c.loop-i.draft (take (at - c.loop-i.from) (drop c.loop-i.from text) ++ escape quote (get_or text at 0)) =
-              w.in_ok-draft-2.ensures ∙ (λ k. put c.loop-i.draft (w.range.ensures.value k ++ escape quote (get_or (c.as_bytes-bytes.ensures.value k) at 0)))
+          w.in_ok-draft-2.ensures ∙ (λ k. put c.loop-i.draft (w.range.ensures.value k ++ escape quote (get_or (c.as_bytes-bytes.ensures.value k) at 0)))
           in
           record {
             low = omega (arith, w.from-is);
             cut = subst (IsCharBoundary text) (sym w.from-is) (IsCharBoundary-after_ascii text at c.utf8.text high (ascii c.args.quote (get_or text at 0) yes));
             plain = λ k above below. absurd (omega (arith, w.from-is));
             so_far =
-              w.draft-is ∙ pieces ∙ ap (λ d. put d (take (at - c.loop-i.from) (drop c.loop-i.from text) ++ escape quote (get_or text at 0))) c.loop-i.invariant.so_far
-              ∙ put_put c.args.draft (quote ∷ flat_map (escaped quote) (take c.loop-i.from text)) (take (at - c.loop-i.from) (drop c.loop-i.from text) ++ escape quote (get_or text at 0))
-              ∙ ap (λ t. put c.args.draft (quote ∷ t)) (sym (run_step quote text c.loop-i.from at c.loop-i.invariant.low high c.loop-i.invariant.plain yes))
-              ∙ ap (λ n. put c.args.draft (quote ∷ flat_map (escaped quote) (take n text))) (sym w.from-is);
+                w.draft-is ∙ pieces ∙ ap (λ d. put d (take (at - c.loop-i.from) (drop c.loop-i.from text) ++ escape quote (get_or text at 0))) c.loop-i.invariant.so_far
+                ∙ put_put c.args.draft (quote ∷ flat_map (escaped quote) (take c.loop-i.from text)) (take (at - c.loop-i.from) (drop c.loop-i.from text) ++ escape quote (get_or text at 0))
+                ∙ ap (λ t. put c.args.draft (quote ∷ t)) (sym (run_step quote text c.loop-i.from at c.loop-i.invariant.low high c.loop-i.invariant.plain yes))
+                ∙ ap (λ n. put c.args.draft (quote ∷ flat_map (escaped quote) (take n text))) (sym w.from-is);
           }
       | else-is_escaped w ↦
           let none : is_escaped quote (get_or text at 0) ≡ false = told ∙ w.if-is_escaped.false in
@@ -61,8 +61,8 @@ returns c =
     let low : from ≤ length text = omega (arith, c.range_from.ensures.len) in
     let whole = run_end quote text from low (λ k above below. c.loop-i.invariant.plain k above (omega (arith, c.as_bytes-bytes.ensures.len))) in
     let same : put c.loop-i.draft c.range_from.result.now ≡ put c.args.draft (quote ∷ flat_map (escaped quote) text) =
-        (λ k. put (c.loop-i.invariant.so_far k) (c.range_from.ensures.value k))
-        ∙ put_put c.args.draft (quote ∷ flat_map (escaped quote) (take from text)) (drop from text)
-        ∙ ap (λ t. put c.args.draft (quote ∷ t)) (sym whole)
+    (λ k. put (c.loop-i.invariant.so_far k) (c.range_from.ensures.value k))
+    ∙ put_put c.args.draft (quote ∷ flat_map (escaped quote) (take from text)) (drop from text)
+    ∙ ap (λ t. put c.args.draft (quote ∷ t)) (sym whole)
     in
     subst (λ x. IfOk c.put-2.result (λ it. it ≡ x)) same c.put-2.ensures

@@ -1,0 +1,21 @@
+//! Laws of kinds and of the operators on values. Each function does nothing: its contract is the
+//! law.
+#![tactic(auto)]
+
+ghost use Rattle.value_laws.specs.Laws.{IsOrder, StandsApart, TextIsItself};
+
+/// The kinds are ordered: each is itself, what is above what is above is above, and no two are above
+/// one another.
+pub fn kinds_are_ordered()
+    ensures { IsOrder }
+{}
+
+/// A ProfileError is no other kind, and no other kind is a ProfileError.
+pub fn profile_error_stands_apart()
+    ensures { StandsApart }
+{}
+
+/// The `str` of a text within the limit is the text.
+pub fn str_of_text_is_itself()
+    ensures { TextIsItself }
+{}
