@@ -1,2 +1,6 @@
+pub mod Chains
+pub mod Classes
+pub mod Comparing
 pub mod KindOrder
+pub mod Ranks
 pub mod TextItself

@@ -32,11 +32,11 @@ abbrev pub Holds : CmpOp → Value → Value → Type 0
 Holds op a b = compare op a b ≡ applied.Value (values.Bool true)
 
 -- `==` is an equivalence of the values that it compares
-pub record IsEquivalence : Type 0 where
+pub record EqualIsEquivalence : Type 0 where
   pub itself : (a : Value) → is_plain a ≡ true → Holds ops.Eq a a
   pub turned : (a b : Value) → Holds ops.Eq a b → Holds ops.Eq b a
   pub chained : (a b c : Value) → Holds ops.Eq a b → Holds ops.Eq b c → Holds ops.Eq a c
 
 -- `<` is transitive
-abbrev pub IsTransitive : Type 0
-IsTransitive = (a b c : Value) → Holds ops.Lt a b → Holds ops.Lt b c → Holds ops.Lt a c
+abbrev pub LessIsTransitive : Type 0
+LessIsTransitive = (a b c : Value) → Holds ops.Lt a b → Holds ops.Lt b c → Holds ops.Lt a c

@@ -2,7 +2,7 @@
 //! law.
 #![tactic(auto)]
 
-ghost use Rattle.value_laws.specs.Laws.{IsOrder, StandsApart, TextIsItself};
+ghost use Rattle.value_laws.specs.Laws.{IsOrder, StandsApart, TextIsItself, EqualIsEquivalence, LessIsTransitive};
 
 /// The kinds are ordered: each is itself, what is above what is above is above, and no two are above
 /// one another.
@@ -18,4 +18,15 @@ pub fn profile_error_stands_apart()
 /// The `str` of a text within the limit is the text.
 pub fn str_of_text_is_itself()
     ensures { TextIsItself }
+{}
+
+/// `==` is an equivalence of the values that it compares.
+pub fn equal_is_equivalence()
+    ensures { EqualIsEquivalence }
+{}
+
+/// `<` is transitive wherever it answers: on numbers, on texts, and on lists and tuples of what has
+/// an order.
+pub fn less_is_transitive()
+    ensures { LessIsTransitive }
 {}
