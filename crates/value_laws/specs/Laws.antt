@@ -1,5 +1,5 @@
 -- Laws of the tables.
-use Rattle.std.specs.Prelude.{◌≡◌, ℕ, ◌≤◌, List, length, true}
+use Rattle.std.specs.Prelude.{◌≡◌, ◌≢◌, ℕ, ◌≤◌, List, length, true, ℤ, pos, negsuc, ◌+ℤ◌, ◌*ℤ◌, ◌≤ℤ◌, ◌<ℤ◌}
 use Rattle.py_value.specs.Kinds.{IsA}
 use Rattle.py_value.specs.declared.kind.Kind.{Kind}
 use Rattle.py_value.specs.declared.kind.Kind.TheVariants as kinds
@@ -8,6 +8,7 @@ use Rattle.py_value.specs.declared.value.Value.TheVariants as values
 use Rattle.py_value.specs.declared.operator.Applied.TheVariants as applied
 use Rattle.py_value.specs.declared.operator.CmpOp.{CmpOp}
 use Rattle.py_value.specs.declared.operator.CmpOp.TheVariants as ops
+use Rattle.value_operators.specs.Arithmetic.{floor_quotient, floor_remainder}
 use Rattle.value_operators.specs.Comparison.{compare}
 use Rattle.value_operators.specs.Outcomes.{is_plain}
 use Rattle.value_operators.specs.Texts.{str_of}
@@ -40,3 +41,16 @@ pub record EqualIsEquivalence : Type 0 where
 -- `<` is transitive
 abbrev pub LessIsTransitive : Type 0
 LessIsTransitive = (a b c : Value) → Holds ops.Lt a b → Holds ops.Lt b c → Holds ops.Lt a c
+
+-- a remainder has the divisor's sign, or is 0, and is less than the divisor without signs
+abbrev pub IsRemainder : ℤ → ℤ → Type 0
+IsRemainder (pos b) r = (pos 0 ≤ℤ r) × (r <ℤ pos b)
+IsRemainder (negsuc b) r = (negsuc b <ℤ r) × (r ≤ℤ pos 0)
+
+pub record IsDivision (a b q r : ℤ) : Type 0 where
+  pub whole : q *ℤ b +ℤ r ≡ a
+  pub sign : IsRemainder b r
+
+-- quotient and remainder make up the number; so the quotient is the one rounded down
+abbrev pub RoundsDown : Type 0
+RoundsDown = (a b : ℤ) → b ≢ pos 0 → IsDivision a b (floor_quotient a b) (floor_remainder a b)

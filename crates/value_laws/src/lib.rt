@@ -2,7 +2,7 @@
 //! law.
 #![tactic(auto)]
 
-ghost use Rattle.value_laws.specs.Laws.{IsOrder, StandsApart, TextIsItself, EqualIsEquivalence, LessIsTransitive};
+ghost use Rattle.value_laws.specs.Laws.{IsOrder, StandsApart, TextIsItself, EqualIsEquivalence, LessIsTransitive, RoundsDown};
 
 /// The kinds are ordered: each is itself, what is above what is above is above, and no two are above
 /// one another.
@@ -29,4 +29,10 @@ pub fn equal_is_equivalence()
 /// an order.
 pub fn less_is_transitive()
     ensures { LessIsTransitive }
+{}
+
+/// Quotient and remainder make up the number, and the remainder lies between 0 and the divisor: so
+/// the quotient is rounded down (Language Reference 6.7).
+pub fn division_rounds_down()
+    ensures { RoundsDown }
 {}
