@@ -1,5 +1,5 @@
 -- Sums and greatest ones of a list of values with one more at its end.
-use Rattle.std.proofs.Common.{◌≡◌, ◌∙◌, ap, ℕ, ◌+◌, max, List, [], ◌∷◌, ◌++◌, arith, map}
+use Rattle.std.proofs.Common.{◌≡◌, ◌∙◌, ap, ◌+◌, max, List, [], ◌∷◌, ◌++◌, arith, map}
 use Rattle.std.proofs.lemmas.List.{map_push}
 use Rattle.std.proofs.lemmas.List.Sums.{sum_by_push}
 use Rattle.std.specs.List.{sum}

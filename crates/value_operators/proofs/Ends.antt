@@ -1,5 +1,5 @@
 -- Two lists of items where one has come to its end.
-use Rattle.std.proofs.Common.{◌≡◌, refl, ℕ, ◌<◌, List, [], ◌∷◌, length, arith}
+use Rattle.std.proofs.Common.{◌≡◌, refl, ◌<◌, List, [], ◌∷◌, length, arith}
 use Rattle.py_value.specs.declared.value.Value.{Value}
 use Rattle.value_operators.specs.declared.comparison.Compared.{Compared}
 use Rattle.value_operators.specs.declared.comparison.Compared.TheVariants as compares

@@ -1,9 +1,9 @@
 -- A text holds another exactly where the other's bytes stand somewhere in it.
-use Rattle.std.proofs.Common.{◌≡◌, ◌∙◌, ap, sym, refl, ℕ, List, [], ◌∷◌, ◌++◌, Bool, true, false, ◌||◌, ◌⊎◌, inl, inr, length, take, drop, nat_eq}
+use Rattle.std.proofs.Common.{◌≡◌, ap, refl, ℕ, List, [], ◌∷◌, ◌++◌, Bool, true, false, ◌||◌, ◌⊎◌, inl, inr, length, drop, nat_eq}
 use Rattle.std.specs.Bool.{Decides}
 use Rattle.std.specs.List.{starts_with}
 use Rattle.std.specs.Str.Iter.{HasSubslice}
-use Rattle.std.proofs.lemmas.Bool.Decides.{Decides-eqb, same_from_decides}
+use Rattle.std.proofs.lemmas.Bool.Decides.{Decides-eqb}
 use Rattle.std.proofs.lemmas.Slice.Eq.{starts_is}
 use Rattle.value_operators.specs.Items.{holds_text}
 

@@ -1,5 +1,5 @@
 -- The operators that compute a value from two, and unary minus (Language Reference 6.6, 6.7).
-use Rattle.std.specs.Prelude.{ℕ, zero, suc, List, [], ◌++◌, codes, Bool, true, false, if◌then◌else◌, ℤ, pos, negsuc, neg_ℤ, ◌+ℤ◌, ◌-ℤ◌, ◌*ℤ◌, Option, Some, None, ◌||◌}
+use Rattle.std.specs.Prelude.{ℕ, zero, suc, List, [], ◌++◌, codes, if◌then◌else◌, ℤ, pos, negsuc, neg_ℤ, ◌+ℤ◌, ◌-ℤ◌, ◌*ℤ◌, Option, Some, None, ◌||◌}
 use Rattle.std.specs.Int.{int_div_euclid, int_rem_euclid}
 use Rattle.py_value.specs.declared.kind.Kind.TheVariants as kinds
 use Rattle.py_value.specs.declared.value.Value.{Value, out-Value}
@@ -50,7 +50,7 @@ calculated ops.Mod a b = remainder a b
 
 abbrev pub unsupported : BinOp → Value → Value → Applied
 unsupported op left right =
-  type_error (codes "unsupported operand type(s) for " ++ written op ++ codes ": '" ++ type_name left ++ codes "' and '" ++ type_name right ++ codes "'")
+    type_error (codes "unsupported operand type(s) for " ++ written op ++ codes ": '" ++ type_name left ++ codes "' and '" ++ type_name right ++ codes "'")
 
 -- two texts, lists or tuples joined
 abbrev pub joined : Value-F Value → Value-F Value → Applied → Applied
@@ -99,8 +99,8 @@ by_numbers op left right _ _ = combined op left right
 
 abbrev pub binary : BinOp → Value → Value → Applied
 binary op left right =
-  if is_special left || is_special right then not_in_profile
-  else by_numbers op left right (number_of left) (number_of right)
+    if is_special left || is_special right then not_in_profile
+    else by_numbers op left right (number_of left) (number_of right)
 
 -- `+=` changes a list in place in Python, and is left out for lists
 abbrev pub augmented_at : BinOp → Value-F Value → Applied → Applied

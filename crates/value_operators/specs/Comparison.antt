@@ -118,7 +118,7 @@ written ops.Ge = codes ">="
 
 abbrev pub no_order : CmpOp → TypeName → TypeName → Applied
 no_order op left right =
-  type_error (codes "'" ++ written op ++ codes "' not supported between instances of '" ++ type_text left ++ codes "' and '" ++ type_text right ++ codes "'")
+    type_error (codes "'" ++ written op ++ codes "' not supported between instances of '" ++ type_text left ++ codes "' and '" ++ type_text right ++ codes "'")
 
 abbrev pub where_less : CmpOp → Bool
 where_less ops.Lt = true
@@ -152,8 +152,8 @@ has_order _ = false
 
 abbrev pub ordered : CmpOp → Value → Value → Applied
 ordered op left right =
-  if has_order (out-Value left) then by_order op (order_of left right)
-  else no_order op (type_of left) (type_of right)
+    if has_order (out-Value left) then by_order op (order_of left right)
+    else no_order op (type_of left) (type_of right)
 
 abbrev pub answered : CmpOp → Value → Value → Applied
 answered ops.Eq left right = truth_value (is_same (order_of left right))
@@ -163,7 +163,7 @@ answered op left right = ordered op left right
 -- what is or holds an error, or holds what stands for something in the machine, is not compared
 abbrev pub compare : CmpOp → Value → Value → Applied
 compare op left right =
-  if is_plain left && is_plain right then answered op left right else not_in_profile
+    if is_plain left && is_plain right then answered op left right else not_in_profile
 
 -- `is`: beside None, or between modules
 abbrev pub module_beside : ℕ → Value-F Value → Applied
@@ -182,5 +182,5 @@ identical_at left right = other_beside right
 
 abbrev pub identical : Value → Value → Applied
 identical left right =
-  if is_special left || is_special right then not_in_profile
-  else identical_at (out-Value left) (out-Value right)
+    if is_special left || is_special right then not_in_profile
+    else identical_at (out-Value left) (out-Value right)

@@ -19,8 +19,8 @@ use Rattle.value_operators.specs.Comparison.{order_of, is_same}
 abbrev pub among : List Value → Value → Applied
 among [] item = truth_value false
 among (x ∷ xs) item =
-  if is_plain x && is_plain item then (if is_same (order_of x item) then truth_value true else among xs item)
-  else not_in_profile
+    if is_plain x && is_plain item then (if is_same (order_of x item) then truth_value true else among xs item)
+    else not_in_profile
 
 -- whether the needle's bytes stand somewhere in the text
 abbrev pub holds_text : List ℕ → List ℕ → Bool
@@ -42,8 +42,8 @@ contains_at _ item otherwise = otherwise
 
 abbrev pub contains : Value → Value → Applied
 contains container item =
-  if is_special container || is_special item then not_in_profile
-  else contains_at (out-Value container) item (not_iterable container)
+    if is_special container || is_special item then not_in_profile
+    else contains_at (out-Value container) item (not_iterable container)
 
 -- a place counted from the start, or from the end where it is below 0
 abbrev pub place_of : ℕ → ℤ → Option ℕ
@@ -85,8 +85,8 @@ at_index value None = if has_items (out-Value value) then type_error (codes "ind
 
 abbrev pub subscript : Value → Value → Applied
 subscript value index =
-  if is_special value || is_special index then not_in_profile
-  else at_index value (number_of index)
+    if is_special value || is_special index then not_in_profile
+    else at_index value (number_of index)
 
 -- how many items a list or tuple has, and how many code points a text
 abbrev pub length_at : Value-F Value → Option ℕ

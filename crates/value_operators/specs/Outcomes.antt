@@ -1,5 +1,5 @@
 -- What every operator speaks of: the errors that it raises, and the limits on what it makes.
-use Rattle.std.specs.Prelude.{ℕ, zero, suc, ◌^◌, List, ◌++◌, length, None, codes, Bool, true, false, nat_lt, if◌then◌else◌, ℤ, pos, negsuc, Option, Some, ◌||◌}
+use Rattle.std.specs.Prelude.{ℕ, ◌^◌, List, length, None, codes, Bool, true, false, nat_lt, if◌then◌else◌, ℤ, pos, negsuc, Option, Some}
 use Rattle.std.specs.List.{list_all}
 use Rattle.py_value.specs.declared.kind.Kind.{Kind}
 use Rattle.py_value.specs.declared.kind.Kind.TheVariants as kinds
@@ -10,7 +10,6 @@ use Rattle.py_value.specs.declared.value.Value.TheFolds.{fold-Value}
 use Rattle.py_value.specs.declared.operator.Applied.{Applied}
 use Rattle.py_value.specs.declared.operator.Applied.TheVariants as applied
 use Rattle.py_value.specs.Measures.{nesting_of}
-use Rattle.py_value.specs.Names.{type_name}
 
 -- an error of this kind and text, without a name
 abbrev pub raises : Kind → List ℕ → Applied
@@ -75,10 +74,10 @@ is_long_list _ = false
 -- the value, or what is raised where it is beyond the limits
 abbrev pub limited : Value → Applied
 limited value =
-  if is_long_text (out-Value value) then profile_error (codes "text too long")
-  else if is_long_list (out-Value value) then profile_error (codes "list too long")
-  else if nat_lt 64 (nesting_of value) then profile_error (codes "list too deep")
-  else applied.Value value
+    if is_long_text (out-Value value) then profile_error (codes "text too long")
+    else if is_long_list (out-Value value) then profile_error (codes "list too long")
+    else if nat_lt 64 (nesting_of value) then profile_error (codes "list too deep")
+    else applied.Value value
 
 -- a number that 128 bits hold
 abbrev pub fitting : ℤ → Option ℤ

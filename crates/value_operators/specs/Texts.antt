@@ -1,6 +1,6 @@
 -- `str` and `repr` (Library Reference, "Built-in Functions" and "Text Sequence Type").
-use Rattle.std.specs.Prelude.{ℕ, ◌+◌, ◌/◌, ◌%◌, List, [], ◌∷◌, ◌++◌, codes, Bool, true, false, nat_lt, ◌==◌, ◌&&◌, ◌||◌, not, if◌then◌else◌}
-use Rattle.std.specs.List.{flat_map, list_any}
+use Rattle.std.specs.Prelude.{ℕ, zero, suc, ◌+◌, ◌/◌, ◌%◌, List, [], ◌∷◌, ◌++◌, length, codes, Bool, true, false, nat_lt, ◌==◌, ◌&&◌, ◌||◌, not, if◌then◌else◌}
+use Rattle.std.specs.List.{flat_map, list_any, join_by}
 use Rattle.std.specs.Fmt.{signed_decimal}
 use Rattle.py_value.specs.declared.kind.Native.{Native}
 use Rattle.py_value.specs.declared.kind.Native.TheVariants as natives
@@ -11,65 +11,92 @@ use Rattle.py_value.specs.declared.value.Value.TheVariants as values
 use Rattle.py_value.specs.declared.value.Value.TheOpen.{Value-F}
 use Rattle.py_value.specs.declared.value.Value.TheFolds.{fold-Value}
 use Rattle.py_value.specs.declared.operator.Applied.{Applied}
+use Rattle.py_value.specs.declared.operator.Applied.TheVariants as applied
 use Rattle.py_value.specs.Names.{kind_name, native_name}
-use Rattle.value_operators.specs.Outcomes.{not_in_profile, is_plain, limited}
+use Rattle.value_operators.specs.declared.draft.Draft.{Draft}
+use Rattle.value_operators.specs.declared.draft.Draft.TheVariants as drafts
+use Rattle.value_operators.specs.declared.quoting.Quote.{Quote}
+use Rattle.value_operators.specs.declared.quoting.Quote.TheVariants as quotes
+use Rattle.value_operators.specs.Outcomes.{not_in_profile, profile_error, is_plain, limited}
 
 abbrev pub has_byte : ℕ → List ℕ → Bool
 has_byte byte text = list_any (λ b. b == byte) text
 
+abbrev pub quote_byte : Quote → ℕ
+quote_byte quotes.Single = 39
+quote_byte quotes.Double = 34
+
 -- `"` where the text holds `'` and no `"`, and else `'`
-abbrev pub quote_of : List ℕ → ℕ
-quote_of text = if has_byte 39 text && not (has_byte 34 text) then 34 else 39
+abbrev pub quote_of : List ℕ → Quote
+quote_of text = if has_byte 39 text && not (has_byte 34 text) then quotes.Double else quotes.Single
 
 abbrev pub hex_digit : ℕ → ℕ
 hex_digit n = if nat_lt n 10 then 48 + n else 87 + n
 
--- a byte between the quotes: backslash, the quote, line feed, carriage return and tab behind a
--- backslash, the other control characters of ASCII by two hexadecimal digits, and else itself
+-- backslash, the quote, and the control characters of ASCII
+abbrev pub is_escaped : ℕ → ℕ → Bool
+is_escaped quote b = b == 92 || b == quote || nat_lt b 32 || b == 127
+
+-- backslash, the quote, line feed, carriage return and tab behind a backslash, and the other control
+-- characters by two hexadecimal digits
+abbrev pub escape : ℕ → ℕ → List ℕ
+escape quote b =
+    if b == 92 || b == quote then 92 ∷ b ∷ []
+    else if b == 10 then codes "\\n"
+    else if b == 13 then codes "\\r"
+    else if b == 9 then codes "\\t"
+    else codes "\\x" ++ (hex_digit (b / 16) ∷ hex_digit (b % 16) ∷ [])
+
 abbrev pub escaped : ℕ → ℕ → List ℕ
-escaped quote b =
-  if b == 92 || b == quote then 92 ∷ b ∷ []
-  else if b == 10 then codes "\\n"
-  else if b == 13 then codes "\\r"
-  else if b == 9 then codes "\\t"
-  else if nat_lt b 32 || b == 127 then 92 ∷ 120 ∷ hex_digit (b / 16) ∷ hex_digit (b % 16) ∷ []
-  else b ∷ []
+escaped quote b = if is_escaped quote b then escape quote b else b ∷ []
 
 abbrev pub quoted_in : ℕ → List ℕ → List ℕ
-quoted_in quote text = quote ∷ (flat_map (escaped quote) text ++ quote ∷ [])
+quoted_in quote text = (quote ∷ flat_map (escaped quote) text) ++ quote ∷ []
 
 abbrev pub quoted : List ℕ → List ℕ
-quoted text = quoted_in (quote_of text) text
+quoted text = quoted_in (quote_byte (quote_of text)) text
 
 abbrev pub with_commas : List (List ℕ) → List ℕ
-with_commas [] = []
-with_commas (text ∷ []) = text
-with_commas (text ∷ next ∷ texts) = text ++ codes ", " ++ with_commas (next ∷ texts)
+with_commas texts = join_by (λ text. text) (codes ", ") texts
+
+-- what stands before the n-th item, from 0
+abbrev pub comma_before : ℕ → List ℕ
+comma_before zero = []
+comma_before (suc n) = codes ", "
 
 -- a tuple of one has a comma behind its item
-abbrev pub tuple_text : List (List ℕ) → List ℕ
-tuple_text (text ∷ []) = codes "(" ++ text ++ codes ",)"
-tuple_text texts = codes "(" ++ with_commas texts ++ codes ")"
+abbrev pub tuple_end : ℕ → List ℕ
+tuple_end len = if len == 1 then codes ",)" else codes ")"
 
 -- `str` is a class in Python
+abbrev pub native_opening : Native → List ℕ
+native_opening natives.Str = codes "<class '"
+native_opening _ = codes "<built-in function "
+
+abbrev pub native_end : Native → List ℕ
+native_end natives.Str = codes "'>"
+native_end _ = codes ">"
+
 abbrev pub native_text : Native → List ℕ
-native_text natives.Str = codes "<class 'str'>"
-native_text native = codes "<built-in function " ++ native_name native ++ codes ">"
+native_text native = native_opening native ++ native_name native ++ native_end native
 
 abbrev pub place_text : Place → List ℕ
 place_text (places.File file) = codes " from " ++ quoted file ++ codes ">"
 place_text places.BuiltIn = codes " (built-in)>"
 place_text places.Namespace = codes " (namespace)>"
 
+abbrev pub bool_text : Bool → List ℕ
+bool_text true = codes "True"
+bool_text false = codes "False"
+
 -- one layer, with the text of each item in its place; what is not plain has no text
 abbrev pub repr_at : Value-F (List ℕ) → List ℕ
 repr_at Value-F.Nothing = codes "None"
-repr_at (Value-F.Bool true) = codes "True"
-repr_at (Value-F.Bool false) = codes "False"
+repr_at (Value-F.Bool b) = bool_text b
 repr_at (Value-F.Int n) = signed_decimal n
 repr_at (Value-F.Text text) = quoted text
 repr_at (Value-F.List texts) = codes "[" ++ with_commas texts ++ codes "]"
-repr_at (Value-F.Tuple texts) = tuple_text texts
+repr_at (Value-F.Tuple texts) = codes "(" ++ with_commas texts ++ tuple_end (length texts)
 repr_at (Value-F.Func load index name) = codes "<function " ++ name ++ codes ">"
 repr_at (Value-F.Native native) = native_text native
 repr_at (Value-F.Kind kind) = codes "<class '" ++ kind_name kind ++ codes "'>"
@@ -90,3 +117,12 @@ str_at value otherwise = otherwise
 
 abbrev pub str_of : Value → Applied
 str_of value = str_at (out-Value value) (repr_of value)
+
+-- a text that is being written, with one more piece: over where it has become too long
+abbrev pub put : Draft → List ℕ → Draft
+put (drafts.Within text) piece = if nat_lt 65536 (length (text ++ piece)) then drafts.Over else drafts.Within (text ++ piece)
+put drafts.Over piece = drafts.Over
+
+abbrev pub finished : Draft → Applied
+finished (drafts.Within text) = applied.Value (values.Text text)
+finished drafts.Over = profile_error (codes "text too long")

@@ -5,7 +5,10 @@ ghost use Rattle.py_value.specs.declared.value.Value.{out-Value};
 ghost use Rattle.py_value.specs.declared.value.Value.TheVariants as values;
 ghost use Rattle.py_value.specs.declared.operator.BinOp.TheVariants as ops;
 
-use crate::outcome::{MOST_ITEMS, MOST_TEXT, is_special, limited, not_in_profile, number, number_of, raise, too_long_list, too_long_text};
+use crate::outcome::{
+    MOST_ITEMS, MOST_TEXT, is_special, limited, not_in_profile, number, number_of, raise,
+    too_long_list, too_long_text,
+};
 use base_types::{Exact, NoMemory, Text};
 use py_value::{Applied, BinOp, Items, Kind, Value, type_name};
 use std::alloc::Global;
@@ -25,7 +28,12 @@ fn written(op: BinOp) -> &'static str
 fn unsupported(alloc: Global, op: BinOp, left: &Value, right: &Value) -> Result<Applied, NoMemory>
     ensures { IfOk result (λ applied. applied ≡ unsupported op left.now right.now) }
 {
-    let text = format!(in alloc; "unsupported operand type(s) for {}: '{}' and '{}'", written(op), type_name(left), type_name(right))?;
+    let text = format!(in alloc;
+        "unsupported operand type(s) for {}: '{}' and '{}'",
+        written(op),
+        type_name(left),
+        type_name(right)
+    )?;
     raise(alloc, Kind::TypeError, text.as_str())
 }
 
@@ -225,7 +233,13 @@ fn repeated_text(alloc: Global, text: &Text, n: i128) -> Result<Applied, NoMemor
     copied_text(alloc, text, n as u128)
 }
 
-fn times(alloc: Global, value: &Value, n: i128, left: &Value, right: &Value) -> Result<Applied, NoMemory>
+fn times(
+    alloc: Global,
+    value: &Value,
+    n: i128,
+    left: &Value,
+    right: &Value,
+) -> Result<Applied, NoMemory>
     ensures { IfOk result (λ applied. applied ≡ times (out-Value value.now) n (unsupported ops.Mul left.now right.now)) }
 {
     match value {

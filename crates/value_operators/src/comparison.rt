@@ -3,7 +3,9 @@ ghost use Rattle.py_value.specs.declared.value.Value.{out-Value};
 ghost use Rattle.value_operators.specs.Outcomes.{number_of};
 ghost use Rattle.value_operators.specs.Comparison as table;
 
-use crate::outcome::{bool_number, is_plain, is_special, not_in_profile, number_of, raise, truth_value};
+use crate::outcome::{
+    bool_number, is_plain, is_special, not_in_profile, number_of, raise, truth_value,
+};
 use base_types::{NoMemory, Text};
 use py_value::{Applied, CmpOp, Items, Kind, ModRef, Native, TypeName, Value, type_of};
 use std::alloc::Global;
@@ -206,7 +208,12 @@ fn written(op: CmpOp) -> &'static str
 fn no_order(alloc: Global, op: CmpOp, left: TypeName, right: TypeName) -> Result<Applied, NoMemory>
     ensures { IfOk result (λ applied. applied ≡ table.no_order op left right) }
 {
-    let text = format!(in alloc; "'{}' not supported between instances of '{}' and '{}'", written(op), left.text(), right.text())?;
+    let text = format!(in alloc;
+        "'{}' not supported between instances of '{}' and '{}'",
+        written(op),
+        left.text(),
+        right.text()
+    )?;
     raise(alloc, Kind::TypeError, text.as_str())
 }
 

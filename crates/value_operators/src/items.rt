@@ -36,11 +36,19 @@ fn holds_text(text: &str, needle: &str) -> bool
 fn not_iterable(alloc: Global, container: &Value) -> Result<Applied, NoMemory>
     ensures { IfOk result (λ applied. applied ≡ table.not_iterable container.now) }
 {
-    let text = format!(in alloc; "argument of type '{}' is not iterable", type_name(container))?;
+    let text = format!(in alloc;
+        "argument of type '{}' is not iterable",
+        type_name(container)
+    )?;
     raise(alloc, Kind::TypeError, text.as_str())
 }
 
-fn inside_text(alloc: Global, text: &Text, item: &Value, container: &Value) -> Result<Applied, NoMemory>
+fn inside_text(
+    alloc: Global,
+    text: &Text,
+    item: &Value,
+    container: &Value,
+) -> Result<Applied, NoMemory>
     ensures { IfOk result (λ applied. applied ≡ table.inside_text text.now (out-Value item.now) (table.not_iterable container.now)) }
 {
     match item {

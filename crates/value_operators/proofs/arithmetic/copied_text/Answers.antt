@@ -1,7 +1,4 @@
-use Rattle.std.proofs.Common.{◌≡◌, ◌≤◌, ◌<◌, ◌/◌, ◌∙◌, sym, ap, subst, IfOk, length, arith}
-use Rattle.py_value.specs.declared.value.Value.TheVariants as values
-use Rattle.py_value.specs.declared.operator.Applied.TheVariants as applied
-use Rattle.value_operators.specs.Outcomes.{limited}
+use Rattle.std.proofs.Common.{◌≡◌, ◌≤◌, ◌<◌, ◌/◌, sym, ap, subst, IfOk, length, arith}
 use Rattle.value_operators.specs.Arithmetic.{copies}
 use Rattle.value_operators.proofs.Copies.{copies-empty, limited-text, too_many, few}
 use Rattle.value_operators.proofs.arithmetic.copied_text.Goals as goal
