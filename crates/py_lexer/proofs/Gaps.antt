@@ -6,8 +6,9 @@ use Rattle.py_lexer.specs.declared.chars.Class.TheVariants.{White, Hash, LineEnd
 use Rattle.py_lexer.specs.declared.gap.Gap.{Gap}
 use Rattle.py_lexer.specs.declared.gap.Gap.TheVariants.{Blank, Joined, Ended}
 use Rattle.py_lexer.specs.Chars.{class_of, is_end}
-use Rattle.py_lexer.specs.Tokens as tokens
-use Rattle.py_lexer.specs.Tokens.{Stands, begins, begins_token}
+use Rattle.py_lexer.specs.Gaps as tokens
+use Rattle.py_lexer.specs.Gaps.{Stands}
+use Rattle.py_lexer.specs.Words.{begins, begins_token}
 use Rattle.py_lexer.specs.Reading.{after_end, after_comment, after_join, gap, gap_of}
 use Rattle.py_lexer.proofs.Cases.{choice}
 use Rattle.py_lexer.proofs.Classes.{end_class, class_end}

@@ -17,8 +17,10 @@ use Rattle.py_lexer.specs.TokenList.{Outcome, before, mark, marks, closing, dept
 use Rattle.py_lexer.specs.declared.word.Tok.{Tok}
 use Rattle.py_lexer.specs.declared.word.Token.{Token}
 use Rattle.py_lexer.specs.declared.word.Tok.TheVariants.{Newline}
-use Rattle.py_lexer.specs.Tokens as tokens
-use Rattle.py_lexer.specs.Tokens.{Stands, Reads, Faulty, begins_token, Starts, Fresh, Within}
+use Rattle.py_lexer.specs.Gaps.{Stands}
+use Rattle.py_lexer.specs.Words.{Reads, Faulty, begins_token}
+use Rattle.py_lexer.proofs.Bits as tokens
+use Rattle.py_lexer.proofs.Bits.{Starts, Fresh, Within}
 use Rattle.py_lexer.specs.Reading.{State, Read_word, Reading, ◌>>=◌, gap, word, start, pass, begin, put, take_word, step, finish, scan, first_state, scan_text}
 use Rattle.py_lexer.proofs.Runs.{leading_run, leads}
 use Rattle.py_lexer.proofs.Gaps.{gap_complete, gap_right, gap_none, gap_shorter, Gap_right}
@@ -30,7 +32,7 @@ state stack mode line out = record { stack = stack; mode = mode; line = line; ou
 abbrev scan_at : ℕ → State × List ℕ → Outcome
 scan_at n y = scan n y.0 y.1
 
-before_before : (xs ys : List Token) (out : Outcome) → before (xs ++ ys) out ≡ before xs (before ys out)
+pub before_before : (xs ys : List Token) (out : Outcome) → before (xs ++ ys) out ≡ before xs (before ys out)
 before_before xs ys (Ok ts) = ap (λ (l : List Token). Ok l) (simp append_assoc)
 before_before xs ys (Err f) = refl
 
@@ -291,7 +293,7 @@ found (suc n) = record {
 }
 
 -- the whole text
-nothing_before : (out : Outcome) → before [] out ≡ out
+pub nothing_before : (out : Outcome) → before [] out ≡ out
 nothing_before (Ok ts) = refl
 nothing_before (Err f) = refl
 

@@ -3,8 +3,8 @@ use Rattle.std.proofs.Common.{◌≡◌, ℕ, ◌+◌, ◌-◌, ◌*◌, ◌^◌
 use Rattle.std.specs.Prelude.{if◌then◌else◌, IsTrue}
 use Rattle.std.proofs.lemmas.Bool.Decides.{nat_tests}
 use Rattle.py_lexer.specs.Chars.{is_digit}
-use Rattle.py_lexer.specs.Tokens as tokens
-use Rattle.py_lexer.specs.Tokens.{Digits, Joint, IsNumber}
+use Rattle.py_lexer.specs.Numbers as tokens
+use Rattle.py_lexer.specs.Numbers.{Digits, Joint, IsNumber}
 use Rattle.py_lexer.specs.Reading.{digits, more_digits, number_value}
 use Rattle.py_lexer.proofs.Cases.{choice}
 use Rattle.py_lexer.proofs.Runs.{eqb_eq}

@@ -9,8 +9,8 @@ use Rattle.py_lexer.specs.Chars.{is_end}
 use Rattle.py_lexer.specs.declared.word.Tok.{Tok}
 use Rattle.py_lexer.specs.TokenList.{quoted_of}
 use Rattle.py_lexer.specs.Strings.{Part, closing_quotes, opening_quotes, after_two, escaped, hex_digit, hex_pair, hex_four, is_surrogate}
-use Rattle.py_lexer.specs.Tokens as tokens
-use Rattle.py_lexer.specs.Tokens.{Escape, Item, Bad_item, Body, Bad_body}
+use Rattle.py_lexer.specs.Quoted as tokens
+use Rattle.py_lexer.specs.Quoted.{Escape, Item, Bad_item, Body, Bad_body}
 use Rattle.py_lexer.specs.Reading.{Reading, ◌>>=◌, after_end, part, read, hex_escape, escape, item, body}
 use Rattle.py_lexer.proofs.Cases.{choice, option_cases}
 use Rattle.py_lexer.proofs.Runs.{ends_so, is_line_end, end_shorter, eqb_eq}

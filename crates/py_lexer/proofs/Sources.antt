@@ -11,9 +11,11 @@ use Rattle.py_lexer.specs.declared.error.LexError.{LexError}
 use Rattle.py_lexer.specs.declared.error.LexError.TheVariants as error
 use Rattle.py_lexer.specs.declared.word.Token.{Token}
 use Rattle.py_lexer.specs.Source as source_spec
-use Rattle.py_lexer.specs.Source.{Answer, Tokens, line_ends, without_mark, answer_of, source}
+use Rattle.py_lexer.specs.Source.{Answer, Tokens, line_ends, without_mark, answer_of}
+use Rattle.py_lexer.specs.SourceReading.{source}
 use Rattle.py_lexer.specs.Scanning.{Told}
 use Rattle.py_lexer.proofs.Cases.{choice}
+use Rattle.py_lexer.proofs.Logical.{lines_starts, starts_lines}
 use Rattle.py_lexer.proofs.Lexes.{starts_scan, scan_starts}
 
 chars_after_fit : (n c : ℕ) (bs : List ℕ) → length (chars_after n c bs) ≤ suc (length bs)
@@ -52,7 +54,7 @@ only {src} (source_spec.not_utf8 {n = n} h v) =
     rw (t, not_whole src n v, utf8_valid_len-IsValidUpTo src n v) refl
 only {src} (source_spec.text {out = out} h u s) =
     let t : nat_lt 1048576 (length src) ≡ false = grind (arith, nat_tests) in
-    rw (t, utf8_true src u, starts_scan (without_mark (chars src)) out s) refl
+    rw (t, utf8_true src u, starts_scan (without_mark (chars src)) out (lines_starts s)) refl
 
 -- the front that is UTF-8
 longest_by : (bs : List ℕ) (n m : ℕ) (b : Bool) → is_utf8 (take (suc n) bs) ≡ b → (if b then suc n else valid_len_up_to bs n) < m → m ≤ suc n → (valid_len_up_to bs n < m → m ≤ n → is_utf8 (take m bs) ≡ false) → (k : Bool) → (m == suc n) ≡ k → is_utf8 (take m bs) ≡ false
@@ -117,7 +119,7 @@ gives src =
     (λ t. source_spec.too_long (grind (arith, nat_tests)))
     (λ t. let fits : length src ≤ 1048576 = grind (arith, nat_tests) in
     choice (Tokens src) _ _ (is_utf8 src)
-    (λ u. source_spec.text fits (IsUtf8-from_is_utf8 src u) (scan_starts (without_mark (chars src))))
+    (λ u. source_spec.text fits (IsUtf8-from_is_utf8 src u) (starts_lines (scan_starts (without_mark (chars src)))))
     (λ f. source_spec.not_utf8 fits (valid_up_to src f)))
 
 -- each source has one answer

@@ -17,8 +17,9 @@ use Rattle.py_lexer.specs.declared.word.Tok.TheVariants.{Number}
 use Rattle.py_lexer.specs.Names.{is_ident, ident_text, word_of}
 use Rattle.py_lexer.specs.Operators.{op_len}
 use Rattle.py_lexer.specs.Strings.{opening_quotes}
-use Rattle.py_lexer.specs.Tokens as tokens
-use Rattle.py_lexer.specs.Tokens.{Reads, Faulty, IsNumber, begins, begins_token}
+use Rattle.py_lexer.specs.Numbers.{IsNumber}
+use Rattle.py_lexer.specs.Words as tokens
+use Rattle.py_lexer.specs.Words.{Reads, Faulty, begins, begins_token}
 use Rattle.py_lexer.specs.Reading.{Reading, read, name, number, number_value, number_of, operator, quoted, word, word_by}
 use Rattle.py_lexer.proofs.Cases.{choice}
 use Rattle.py_lexer.proofs.Classes.{letter_continues, digit_continues, digit_low}

@@ -1,7 +1,6 @@
 -- A source: its bytes, and its tokens or why there are none.
 use Rattle.std.specs.Prelude.{ℕ, suc, ◌+◌, ◌<◌, ◌≤◌, ◌==◌, not, ◌||◌, ◌&&◌, nat_lt, if◌then◌else◌, List, [], ◌∷◌, length, take, Result, Ok, Err}
 use Rattle.std.specs.Str.{IsUtf8, IsValidUpTo, is_utf8, chars}
-use Rattle.std.specs.Str.Lossy.{utf8_valid_len}
 use Rattle.py_lexer.specs.declared.error.Kind.{Kind}
 use Rattle.py_lexer.specs.declared.error.Kind.TheVariants.{BadChar, BadNumber, NumberTooWide, OpenString, BadEscape, BadDedent, MixedTabs}
 use Rattle.py_lexer.specs.declared.error.LexError.{LexError}
@@ -10,8 +9,7 @@ use Rattle.py_lexer.specs.Chars.{head_passes}
 use Rattle.py_lexer.specs.Columns.{margin}
 use Rattle.py_lexer.specs.declared.word.Token.{Token}
 use Rattle.py_lexer.specs.TokenList.{Outcome}
-use Rattle.py_lexer.specs.Tokens.{Starts}
-use Rattle.py_lexer.specs.Reading.{scan_text}
+use Rattle.py_lexer.specs.Tokens.{Lines}
 
 -- how many line ends the text has: LF, CR LF or CR
 unfoldable pub line_ends : List ℕ → ℕ
@@ -44,11 +42,4 @@ pub data Tokens : List ℕ → Answer → Type 0 where
   too_long : {src : List ℕ} → 1048576 < length src → Tokens src (Err error.TooLong)
   -- the first n bytes are the longest front that is UTF-8, and more follow
   not_utf8 : {src : List ℕ} {n : ℕ} → length src ≤ 1048576 → IsValidUpTo src n → Tokens src (Err (error.NotUtf8 (line_ends (take n src) + 1)))
-  text : {src : List ℕ} {out : Outcome} → length src ≤ 1048576 → IsUtf8 src → Starts (margin ∷ []) 1 (without_mark (chars src)) out → Tokens src (answer_of out)
-
--- reading a source
-unfoldable pub source : List ℕ → Answer
-source src =
-    if nat_lt 1048576 (length src) then Err error.TooLong
-    else if is_utf8 src then answer_of (scan_text (without_mark (chars src)))
-    else Err (error.NotUtf8 (line_ends (take (utf8_valid_len src) src) + 1))
+  text : {src : List ℕ} {out : Outcome} → length src ≤ 1048576 → IsUtf8 src → Lines (margin ∷ []) 1 (without_mark (chars src)) out → Tokens src (answer_of out)

@@ -6,7 +6,7 @@ use Rattle.py_lexer.specs.declared.error.Fault.{Fault}
 use Rattle.py_lexer.specs.declared.indent.Change.{Change}
 use Rattle.py_lexer.specs.declared.indent.Change.TheVariants.{Indent, Dedents}
 use Rattle.py_lexer.specs.declared.word.Tok.{Tok}
-use Rattle.py_lexer.specs.declared.word.Tok.TheVariants.{Str, Op, Indent as IndentTok, Dedent, End}
+use Rattle.py_lexer.specs.declared.word.Tok.TheVariants.{Str, Op, Newline, Indent as IndentTok, Dedent, End}
 use Rattle.py_lexer.specs.declared.word.Token.{Token}
 
 -- the characters as UTF-8
@@ -45,7 +45,13 @@ marks (Dedents n) line = dedents n line
 abbrev pub closing : List Columns → ℕ → List Token
 closing stack line = dedents (length stack - 1) line ++ mark End line
 
--- the open brackets after a token
+-- the Newline of the logical line that the text ends, unless a bracket is open there
+abbrev pub newline_at_end : ℕ → ℕ → List Token
+newline_at_end zero line = mark Newline line
+newline_at_end (suc depth) line = []
+
+-- The open brackets after a token: one more at `(` (40), `[` (91) and `{` (123), one fewer at `)` (41), `]` (93) and `}`
+-- (125), whichever opened, and never below 0.
 abbrev pub depth_after : Tok → ℕ → ℕ
 depth_after (Op (c ∷ [])) depth =
     if (c == 40 || c == 91) || c == 123 then depth + 1

@@ -1,129 +1,72 @@
--- A text and its tokens, or its first fault: by cases on what stands at the front. `stack` has the open columns, the
--- innermost first; `depth` counts the open brackets; `line` is the line of the front.
-use Rattle.std.specs.Prelude.{pos, ◌≡◌, ◌≢◌, ℕ, zero, suc, ◌+◌, ◌-◌, ◌*◌, ◌^◌, ◌<◌, ◌≤◌, ◌==◌, Bool, true, false, not, List, [], ◌∷◌, ◌++◌, length, drop, Some, None, Ok, Err, IsTrue, IsFalse}
-use Rattle.py_lexer.specs.declared.chars.Class.{Class}
-use Rattle.py_lexer.specs.declared.chars.Class.TheVariants.{White, Hash, LineEnd, Backslash, Digit, Quote, Letter, Other}
+-- Lines and logical lines (Language Reference 2.1). A text is cut into logical lines and lines without tokens; a logical
+-- line has its two columns, which open or close levels, and its tokens. `line` is the line of the front, from 1, and
+-- `depth` counts the open brackets.
+use Rattle.std.specs.Prelude.{◌≡◌, ℕ, zero, suc, ◌+◌, List, [], ◌++◌, Ok, Err, IsTrue}
 use Rattle.py_lexer.specs.declared.columns.Columns.{Columns}
 use Rattle.py_lexer.specs.declared.error.Kind.{Kind}
-use Rattle.py_lexer.specs.declared.error.Kind.TheVariants.{BadChar, BadNumber, NumberTooWide, OpenString, BadEscape}
-use Rattle.py_lexer.specs.declared.gap.Gap.{Gap}
 use Rattle.py_lexer.specs.declared.gap.Gap.TheVariants.{Blank, Joined, Ended}
 use Rattle.py_lexer.specs.declared.indent.Change.{Change}
-use Rattle.py_lexer.specs.declared.quoted.Quotes.{Quotes}
-use Rattle.py_lexer.specs.Strings.{closing_quotes, opening_quotes, escaped, hex_pair, hex_four as hex_quad, is_surrogate}
-use Rattle.py_lexer.specs.Chars.{class_of, is_white, is_end, is_digit, head_passes, IsRun, IsLineEnd}
-use Rattle.spec_core.specs.Identifiers.{continues_identifier}
-use Rattle.py_lexer.specs.Columns.{margin, columns_after}
-use Rattle.py_lexer.specs.Indent.{settled}
-use Rattle.py_lexer.specs.Names.{is_ident, ident_text, word_of}
-use Rattle.py_lexer.specs.TokenList.{quoted_of, symbol_of, Outcome, before, mark, marks, closing, depth_after}
 use Rattle.py_lexer.specs.declared.word.Tok.{Tok}
-use Rattle.py_lexer.specs.declared.word.Tok.TheVariants.{Number, Newline}
-use Rattle.py_lexer.specs.Operators.{op_len}
+use Rattle.py_lexer.specs.declared.word.Tok.TheVariants.{Newline}
+use Rattle.py_lexer.specs.declared.word.Token.{Token}
+use Rattle.py_lexer.specs.Chars.{is_white, IsRun}
+use Rattle.py_lexer.specs.Columns.{margin, columns_after}
+use Rattle.py_lexer.specs.Gaps.{Stands}
+use Rattle.py_lexer.specs.Indent.{settled}
+use Rattle.py_lexer.specs.TokenList.{Outcome, before, mark, marks, closing, newline_at_end, depth_after}
+use Rattle.py_lexer.specs.Words.{Reads, Faulty, begins_token}
 
--- between tokens
-pub data Stands : List ℕ → Gap → List ℕ → Type 0 where
-  white : {c : ℕ} {after : List ℕ} → class_of c ≡ White → Stands (c ∷ after) Blank after
-  comment : {c : ℕ} {run after : List ℕ} → class_of c ≡ Hash → IsRun (λ d. not (is_end d)) run after → Stands (c ∷ (run ++ after)) Blank after
-  joined : {c : ℕ} {end after : List ℕ} → class_of c ≡ Backslash → IsLineEnd end after → Stands (c ∷ (end ++ after)) Joined after
-  line_end : {end after : List ℕ} → IsLineEnd end after → Stands (end ++ after) Ended after
+-- white space, comments and joined line ends, as far as the next line and what follows
+pub data Passed : ℕ → List ℕ → ℕ → List ℕ → Type 0 where
+  none : {line : ℕ} {text : List ℕ} → Passed line text line text
+  blank : {line next : ℕ} {text after rest : List ℕ} → Stands text Blank after → Passed line after next rest → Passed line text next rest
+  joined : {line next : ℕ} {text after rest : List ℕ} → Stands text Joined after → Passed (line + 1) after next rest → Passed line text next rest
 
--- a token, or a fault in its place, stands at the front
-abbrev pub begins : Class → List ℕ → Bool
-begins White cs = false
-begins Hash cs = false
-begins LineEnd cs = false
-begins Backslash cs = not (head_passes is_end cs)
-begins Digit cs = true
-begins Quote cs = true
-begins Letter cs = true
-begins Other cs = true
+-- The start of a line: the two columns of its leading white space, then nothing that is a token, as far as the next line
+-- and what follows. With a joined line the columns are those before the first backslash.
+pub data Start : ℕ → List ℕ → Columns → ℕ → List ℕ → Type 0 where
+  start : {line next : ℕ} {white after rest : List ℕ} → IsRun is_white white after → Passed line after next rest → Start line (white ++ after) (columns_after margin white) next rest
 
-abbrev pub begins_token : List ℕ → Bool
-begins_token [] = false
-begins_token (c ∷ cs) = begins (class_of c) cs
+-- A piece of a logical line: the tokens that it gives, and then the open brackets, the line and what follows.
+pub data Piece : ℕ → ℕ → List ℕ → List Token → ℕ → ℕ → List ℕ → Type 0 where
+  blank : {depth line : ℕ} {text after : List ℕ} → Stands text Blank after → Piece depth line text [] depth line after
+  joined : {depth line : ℕ} {text after : List ℕ} → Stands text Joined after → Piece depth line text [] depth (line + 1) after
+  -- inside `(`, `[`, `{` line ends and indentation make no tokens (2.1.6)
+  inside : {depth line : ℕ} {text after : List ℕ} → Stands text Ended after → Piece (suc depth) line text [] (suc depth) (line + 1) after
+  -- a token's line is that of its first character
+  token : {depth line n : ℕ} {text after : List ℕ} {tok : Tok} → Reads text tok n after → Piece depth line text (mark tok line) (depth_after tok depth) (line + n) after
 
-mutual
-  -- digits after those of the value n, with single `_` (95) between digits; m is the value of all
-  pub data Digits : ℕ → List ℕ → ℕ → Type 0 where
-    done : {n : ℕ} → Digits n [] n
-    digit : {n m c : ℕ} {cs : List ℕ} → IsTrue (is_digit c) → Digits (10 * n + (c - 48)) cs m → Digits n (c ∷ cs) m
-    joint : {n m u : ℕ} {cs : List ℕ} → u ≡ 95 → Joint n cs m → Digits n (u ∷ cs) m
+-- pieces in a row
+pub data Pieces : ℕ → ℕ → List ℕ → List Token → ℕ → ℕ → List ℕ → Type 0 where
+  none : {depth line : ℕ} {text : List ℕ} → Pieces depth line text [] depth line text
+  more : {d1 d2 d3 l1 l2 l3 : ℕ} {text after rest : List ℕ} {ts us : List Token} → Piece d1 l1 text ts d2 l2 after → Pieces d2 l2 after us d3 l3 rest → Pieces d1 l1 text (ts ++ us) d3 l3 rest
 
-  -- behind a `_`
-  pub data Joint : ℕ → List ℕ → ℕ → Type 0 where
-    behind : {n m c : ℕ} {cs : List ℕ} → IsTrue (is_digit c) → Digits (10 * n + (c - 48)) cs m → Joint n (c ∷ cs) m
-
--- zeros alone, or no zero in front
-pub data IsNumber : List ℕ → ℕ → Type 0 where
-  number : {c m : ℕ} {cs : List ℕ} → Digits (c - 48) cs m → (c ≡ 48 → m ≡ 0) → IsNumber (c ∷ cs) m
-
--- behind a backslash (in a string): the text that it stands for, over so many line ends, and what follows it
-pub data Escape : List ℕ → List ℕ → ℕ → List ℕ → Type 0 where
-  simple : {c d : ℕ} {after : List ℕ} → escaped c ≡ Some d → Escape (c ∷ after) (d ∷ []) 0 after
-  hidden : {end after : List ℕ} → IsLineEnd end after → Escape (end ++ after) [] 1 after
-  hex_two : {x n : ℕ} {cs : List ℕ} → x ≡ 120 → hex_pair cs ≡ Some n → Escape (x ∷ cs) (n ∷ []) 0 (drop 2 cs)
-  hex_four : {u n : ℕ} {cs : List ℕ} → u ≡ 117 → hex_quad cs ≡ Some n → IsFalse (is_surrogate n) → Escape (u ∷ cs) (n ∷ []) 0 (drop 4 cs)
-
--- a part of a string at the front, where the string is not closed; a backslash is 92
-pub data Item : Quotes → List ℕ → List ℕ → ℕ → List ℕ → Type 0 where
-  plain : {q : Quotes} {c : ℕ} {after : List ℕ} → c ≢ 92 → IsFalse (is_end c) → Item q (c ∷ after) (c ∷ []) 0 after
-  line : {q : Quotes} {end after : List ℕ} → q.long ≡ true → IsLineEnd end after → Item q (end ++ after) (10 ∷ []) 1 after
-  escape : {q : Quotes} {c n : ℕ} {text cs after : List ℕ} → c ≡ 92 → Escape cs text n after → Item q (c ∷ cs) text n after
-
--- the string does not go on
-pub data Bad_item : Quotes → List ℕ → Kind → Type 0 where
-  ends : {q : Quotes} → Bad_item q [] OpenString
-  line_ends : {q : Quotes} {c : ℕ} {after : List ℕ} → q.long ≡ false → IsTrue (is_end c) → Bad_item q (c ∷ after) OpenString
-  bad_escape : {q : Quotes} {b : ℕ} {cs : List ℕ} → b ≡ 92 → ((text : List ℕ) (n : ℕ) (after : List ℕ) → ¬ Escape cs text n after) → Bad_item q (b ∷ cs) BadEscape
-
--- the rest of a string: its text, over so many line ends, and what follows it
-pub data Body : Quotes → List ℕ → List ℕ → ℕ → List ℕ → Type 0 where
-  closed : {q : Quotes} {cs after : List ℕ} → closing_quotes q cs ≡ Some after → Body q cs [] 0 after
-  item : {q : Quotes} {cs text more after rest : List ℕ} {n m : ℕ} → closing_quotes q cs ≡ None → Item q cs text n after → Body q after more m rest → Body q cs (text ++ more) (n + m) rest
-
-pub data Bad_body : Quotes → List ℕ → Kind → Type 0 where
-  here : {q : Quotes} {cs : List ℕ} {kind : Kind} → closing_quotes q cs ≡ None → Bad_item q cs kind → Bad_body q cs kind
-  later : {q : Quotes} {cs text after : List ℕ} {n : ℕ} {kind : Kind} → closing_quotes q cs ≡ None → Item q cs text n after → Bad_body q after kind → Bad_body q cs kind
-
--- a token at the front, over so many line ends, and what follows it
-pub data Reads : List ℕ → Tok → ℕ → List ℕ → Type 0 where
-  name : {c : ℕ} {run after : List ℕ} → class_of c ≡ Letter → IsRun continues_identifier (c ∷ run) after → IsTrue (is_ident (ident_text (c ∷ run))) → Reads (c ∷ (run ++ after)) (word_of (ident_text (c ∷ run))) 0 after
-  number : {c n : ℕ} {run after : List ℕ} → class_of c ≡ Digit → IsRun continues_identifier (c ∷ run) after → IsFalse (head_passes (λ d. d == 46) after) → IsNumber (c ∷ run) n → n < 2 ^ 127 → Reads (c ∷ (run ++ after)) (Number (pos n)) 0 after
-  operator : {c : ℕ} {after : List ℕ} (op : List ℕ) → class_of c ≡ Other → op_len (c ∷ (op ++ after)) ≡ suc (length op) → Reads (c ∷ (op ++ after)) (symbol_of (c ∷ op)) 0 after
-  quoted : {c n : ℕ} {cs text after : List ℕ} → class_of c ≡ Quote → Body (opening_quotes c cs).0 (opening_quotes c cs).1 text n after → Reads (c ∷ cs) (quoted_of text) n after
-
--- what stands at the front is a fault
-pub data Faulty : List ℕ → Kind → Type 0 where
-  bad_name : {c : ℕ} {run after : List ℕ} → class_of c ≡ Letter → IsRun continues_identifier (c ∷ run) after → IsFalse (is_ident (ident_text (c ∷ run))) → Faulty (c ∷ (run ++ after)) BadChar
-  bad_number : {c : ℕ} {run after : List ℕ} → class_of c ≡ Digit → IsRun continues_identifier (c ∷ run) after → ((n : ℕ) → ¬ IsNumber (c ∷ run) n) → Faulty (c ∷ (run ++ after)) BadNumber
-  dotted : {c : ℕ} {run after : List ℕ} → class_of c ≡ Digit → IsRun continues_identifier (c ∷ run) after → IsTrue (head_passes (λ d. d == 46) after) → Faulty (c ∷ (run ++ after)) BadNumber
-  too_wide : {c n : ℕ} {run after : List ℕ} → class_of c ≡ Digit → IsRun continues_identifier (c ∷ run) after → IsFalse (head_passes (λ d. d == 46) after) → IsNumber (c ∷ run) n → 2 ^ 127 ≤ n → Faulty (c ∷ (run ++ after)) NumberTooWide
-  bad_quoted : {c : ℕ} {cs : List ℕ} {kind : Kind} → class_of c ≡ Quote → Bad_body (opening_quotes c cs).0 (opening_quotes c cs).1 kind → Faulty (c ∷ cs) kind
-  bad_char : {c : ℕ} {after : List ℕ} → class_of c ≡ Other → op_len (c ∷ after) ≡ 0 → Faulty (c ∷ after) BadChar
-  bad_join : {c : ℕ} {after : List ℕ} → class_of c ≡ Backslash → IsFalse (head_passes is_end after) → Faulty (c ∷ after) BadChar
-
-mutual
-  -- at the start of a line, outside of a logical line
-  pub data Starts : List Columns → ℕ → List ℕ → Outcome → Type 0 where
-    starts : {stack : List Columns} {line : ℕ} {white after : List ℕ} {out : Outcome} → IsRun is_white white after → Fresh stack (columns_after margin white) line line after out → Starts stack line (white ++ after) out
-
-  -- behind leading white space with the columns `at`, which stands in the line `first`; no token has come yet
-  pub data Fresh : List Columns → Columns → ℕ → ℕ → List ℕ → Outcome → Type 0 where
-    blank : {stack : List Columns} {at : Columns} {first line : ℕ} {text after : List ℕ} {out : Outcome} → Stands text Blank after → Fresh stack at first line after out → Fresh stack at first line text out
-    joined : {stack : List Columns} {at : Columns} {first line : ℕ} {text after : List ℕ} {out : Outcome} → Stands text Joined after → Fresh stack at first (line + 1) after out → Fresh stack at first line text out
-    empty : {stack : List Columns} {at : Columns} {first line : ℕ} {text after : List ℕ} {out : Outcome} → Stands text Ended after → Starts stack (line + 1) after out → Fresh stack at first line text out
-    nothing : {stack : List Columns} {at : Columns} {first line : ℕ} → Fresh stack at first line [] (Ok (closing stack line))
-    opens : {stack next : List Columns} {at : Columns} {first line : ℕ} {change : Change} {text : List ℕ} {out : Outcome} → IsTrue (begins_token text) → settled stack at ≡ Ok (change, next) → Within next 0 line text out → Fresh stack at first line text (before (marks change line) out)
-    misplaced : {stack : List Columns} {at : Columns} {first line : ℕ} {text : List ℕ} {kind : Kind} → IsTrue (begins_token text) → settled stack at ≡ Err kind → Fresh stack at first line text (Err (record { kind = kind; line = first }))
-
-  -- in a logical line, which has a token
-  pub data Within : List Columns → ℕ → ℕ → List ℕ → Outcome → Type 0 where
-    blank_inside : {stack : List Columns} {depth line : ℕ} {text after : List ℕ} {out : Outcome} → Stands text Blank after → Within stack depth line after out → Within stack depth line text out
-    joined_inside : {stack : List Columns} {depth line : ℕ} {text after : List ℕ} {out : Outcome} → Stands text Joined after → Within stack depth (line + 1) after out → Within stack depth line text out
-    inner : {stack : List Columns} {depth line : ℕ} {text after : List ℕ} {out : Outcome} → Stands text Ended after → Within stack (suc depth) (line + 1) after out → Within stack (suc depth) line text out
-    ended : {stack : List Columns} {line : ℕ} {text after : List ℕ} {out : Outcome} → Stands text Ended after → Starts stack (line + 1) after out → Within stack zero line text (before (mark Newline line) out)
-    ended_by_text : {stack : List Columns} {line : ℕ} → Within stack zero line [] (Ok (mark Newline line ++ closing stack line))
-    open_end : {stack : List Columns} {depth line : ℕ} → Within stack (suc depth) line [] (Ok (closing stack line))
-    token : {stack : List Columns} {depth line n : ℕ} {text after : List ℕ} {lexeme : Tok} {out : Outcome} → Reads text lexeme n after → Within stack (depth_after lexeme depth) (line + n) after out → Within stack depth line text (before (mark lexeme line) out)
-    fault : {stack : List Columns} {depth line : ℕ} {text : List ℕ} {kind : Kind} → Faulty text kind → Within stack depth line text (Err (record { kind = kind; line = line }))
+-- The tokens of a text, or its first fault; `stack` has the open columns, the innermost first.
+pub data Lines : List Columns → ℕ → List ℕ → Outcome → Type 0 where
+  -- a line of white space and comment alone makes no tokens (2.1.7)
+  empty : {stack : List Columns} {at : Columns} {line next : ℕ} {text rest after : List ℕ} {out : Outcome}
+      → Start line text at next rest → Stands rest Ended after → Lines stack (next + 1) after out → Lines stack line text out
+  -- A logical line: its columns open a level or close levels (2.1.8), which gives Indent or Dedents with the line of the
+  -- token behind them; then come its tokens, and Newline with the line of the line end that ends it.
+  logical : {stack levels : List Columns} {at : Columns} {change : Change} {line next last : ℕ} {text rest end after : List ℕ} {ts : List Token} {out : Outcome}
+      → Start line text at next rest → IsTrue (begins_token rest) → settled stack at ≡ Ok (change, levels)
+      → Pieces zero next rest ts zero last end → Stands end Ended after → Lines levels (last + 1) after out
+      → Lines stack line text (before (marks change next) (before ts (before (mark Newline last) out)))
+  -- The logical line that the text ends: it ends with Newline too, unless a bracket is open there. Then come the Dedents
+  -- of all open levels and End.
+  last : {stack levels : List Columns} {at : Columns} {change : Change} {line next last depth : ℕ} {text rest : List ℕ} {ts : List Token}
+      → Start line text at next rest → IsTrue (begins_token rest) → settled stack at ≡ Ok (change, levels)
+      → Pieces zero next rest ts depth last []
+      → Lines stack line text (before (marks change next) (before ts (Ok (newline_at_end depth last ++ closing levels last))))
+  -- the end of the text behind the last logical line
+  finished : {stack : List Columns} {at : Columns} {line last : ℕ} {text : List ℕ}
+      → Start line text at last [] → Lines stack line text (Ok (closing stack last))
+  -- a fault of indentation has the first line of its logical line
+  misplaced : {stack : List Columns} {at : Columns} {kind : Kind} {line next : ℕ} {text rest : List ℕ}
+      → Start line text at next rest → IsTrue (begins_token rest) → settled stack at ≡ Err kind
+      → Lines stack line text (Err (record { kind = kind; line = line }))
+  -- a fault in a token has its line
+  fault : {stack levels : List Columns} {at : Columns} {change : Change} {kind : Kind} {line next last depth : ℕ} {text rest end : List ℕ} {ts : List Token}
+      → Start line text at next rest → IsTrue (begins_token rest) → settled stack at ≡ Ok (change, levels)
+      → Pieces zero next rest ts depth last end → Faulty end kind
+      → Lines stack line text (Err (record { kind = kind; line = last }))

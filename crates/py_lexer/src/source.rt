@@ -3,7 +3,8 @@
 ghost use Rattle.std.specs.Prelude.{◌≡◌, ◌≤◌, ◌<◌, ◌+◌, ◌==◌, ◌^◌, List, length, take, IfOk, IfErr, Ok, Err, MatchResult};
 ghost use Rattle.std.specs.Str.{IsUtf8, IsValidUpTo, chars};
 ghost use Rattle.py_lexer.specs.Chars.{head_passes};
-ghost use Rattle.py_lexer.specs.Source.{Answer, Tokens, line_ends, without_mark, source};
+ghost use Rattle.py_lexer.specs.Source.{Answer, Tokens, line_ends, without_mark};
+ghost use Rattle.py_lexer.specs.SourceReading.{source};
 ghost use Rattle.py_lexer.specs.Scanning.{Told};
 ghost use Rattle.py_lexer.specs.Reading as reading;
 
@@ -61,7 +62,7 @@ fn decoded(alloc: Global, text: &str) -> Result<Vec<char>, AllocError>
 }
 
 /// The tokens of a source, as it is read.
-#[tactic(auto, unfolding(crate::specs::Source::source), using(crate::proofs::Sources::utf8_true, crate::proofs::Sources::utf8_false, crate::proofs::Sources::chars_fit, crate::proofs::Sources::valid_within))]
+#[tactic(auto, unfolding(crate::specs::SourceReading::source), using(crate::proofs::Sources::utf8_true, crate::proofs::Sources::utf8_false, crate::proofs::Sources::chars_fit, crate::proofs::Sources::valid_within))]
 fn read(alloc: Global, src: &[u8]) -> Result<Seq<Token>, LexError>
     ensures { Told (λ told. told ≡ source src.now) result }
 {
