@@ -3,7 +3,7 @@ use Rattle.std.proofs.Common.{◌≡◌, ℕ, zero, suc, ◌-◌, ◌<◌, ◌�
 use Rattle.std.proofs.lemmas.Bool.Decides.{nat_tests}
 use Rattle.py_lexer.specs.declared.columns.Columns.{Columns}
 use Rattle.py_lexer.specs.Columns.{margin}
-use Rattle.py_lexer.specs.Indent.{kept}
+use Rattle.py_lexer.specs.Stack.{kept}
 
 pub kept_none : (stack : List Columns) (at : Columns) (n : ℕ) → n ≤ 0 → kept stack at n ≡ 0
 unfolding kept

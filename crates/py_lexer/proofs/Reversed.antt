@@ -12,7 +12,8 @@ use Rattle.py_lexer.specs.declared.error.WordError.TheVariants.{Memory, Bad}
 use Rattle.py_lexer.specs.declared.indent.Change.{Change}
 use Rattle.py_lexer.specs.declared.indent.Change.TheVariants.{Indent, Dedents}
 use Rattle.py_lexer.specs.Columns.{margin}
-use Rattle.py_lexer.specs.Indent.{level, kept, closed_last, settled_last, left_open, closed_to, settled, Changes}
+use Rattle.py_lexer.specs.Indent.{left_open, closed_to, settled}
+use Rattle.py_lexer.specs.Stack.{level, kept, closed_last, settled_last, Changes}
 
 abbrev Settled : Type 0
 Settled = Result (Change × List Columns) Kind

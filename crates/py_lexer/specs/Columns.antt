@@ -1,4 +1,5 @@
--- The columns of a line. White space is blank, tab and form feed.
+-- The two columns of leading white space (Language Reference 2.1.8): in the first a tab goes to the next multiple of 8, in
+-- the second it counts 1. A blank counts 1 in both, and a form feed sets both to 0.
 use Rattle.std.specs.Prelude.{ℕ, ◌+◌, ◌*◌, ◌/◌, ◌==◌, if◌then◌else◌, List, [], ◌∷◌}
 use Rattle.py_lexer.specs.declared.columns.Columns.{Columns}
 use Rattle.py_lexer.specs.Chars.{is_white}
@@ -6,7 +7,7 @@ use Rattle.py_lexer.specs.Chars.{is_white}
 abbrev pub margin : Columns
 margin = record { first = 0; second = 0 }
 
--- the columns after a character of white space: a tab is 9, a form feed 12
+-- the columns behind a character of white space: a tab is 9, a form feed 12
 abbrev pub advanced : Columns → ℕ → Columns
 advanced at c =
     if c == 9 then record { first = at.first / 8 * 8 + 8; second = at.second + 1 }

@@ -1,20 +1,18 @@
--- Indentation.
-use Rattle.std.specs.Prelude.{◌≡◌, ℕ, zero, suc, ◌-◌, ◌==◌, ◌||◌, not, nat_lt, if◌then◌else◌, List, [], ◌∷◌, ◌++◌, length, take, slice_index_or, Result, Ok, Err}
+-- Indentation (Language Reference 2.1.8). The stack of open columns, the innermost first, starts with 0 and 0.
+use Rattle.std.specs.Prelude.{ℕ, ◌-◌, ◌==◌, nat_lt, if◌then◌else◌, List, [], ◌∷◌, length, Result, Ok, Err}
 use Rattle.py_lexer.specs.declared.columns.Columns.{Columns}
-use Rattle.py_lexer.specs.Columns.{margin}
 use Rattle.py_lexer.specs.declared.error.Kind.{Kind}
 use Rattle.py_lexer.specs.declared.error.Kind.TheVariants.{BadDedent, MixedTabs}
-use Rattle.py_lexer.specs.declared.error.WordError.{WordError}
-use Rattle.py_lexer.specs.declared.error.WordError.TheVariants.{Memory, Bad}
 use Rattle.py_lexer.specs.declared.indent.Change.{Change}
 use Rattle.py_lexer.specs.declared.indent.Change.TheVariants.{Indent, Dedents}
 
--- the open levels that stay: those that lie deeper than the line are taken off
+-- the levels that stay open: the top is taken off while its first column is greater
 unfoldable pub left_open : Columns → List Columns → List Columns
 left_open at [] = []
 left_open at (top ∷ below) = if nat_lt at.first top.first then left_open at below else top ∷ below
 
--- where those levels stay open, of so many
+-- Where these levels stay open, of `count`: a Dedent for each level taken off, which may be none. Where the top's first
+-- column is then not equal it is BadDedent, else where the second is not equal MixedTabs.
 abbrev pub closed_to : Columns → ℕ → List Columns → Result (Change × List Columns) Kind
 closed_to at count [] = Err BadDedent
 closed_to at count (top ∷ below) =
@@ -22,38 +20,11 @@ closed_to at count (top ∷ below) =
     then (if top.second == at.second then Ok (Dedents (count - length (top ∷ below)), top ∷ below) else Err MixedTabs)
     else Err BadDedent
 
--- what a logical line with the columns `at` does to the open columns, the innermost first
+-- What a logical line with the columns `at` does to the open columns. A greater first column makes Indent and is pushed;
+-- where the second is not greater it is MixedTabs. Any other closes levels.
 unfoldable pub settled : List Columns → Columns → Result (Change × List Columns) Kind
 settled [] at = Err BadDedent
 settled (top ∷ below) at =
     if nat_lt top.first at.first
     then (if nat_lt top.second at.second then Ok (Indent, at ∷ top ∷ below) else Err MixedTabs)
     else closed_to at (length (top ∷ below)) (left_open at (top ∷ below))
-
--- the same as the code has it, with the innermost last: the columns of the level at this height
-abbrev pub level : List Columns → ℕ → Columns
-level stack n = slice_index_or stack (n - 1) margin
-
--- how many of the lowest n levels do not lie deeper than the line
-unfoldable pub kept : List Columns → Columns → ℕ → ℕ
-kept stack at zero = zero
-kept stack at (suc n) = if nat_lt at.first (slice_index_or stack n margin).first then kept stack at n else suc n
-
-abbrev pub closed_last : List Columns → Columns → ℕ → Result (Change × List Columns) Kind
-closed_last stack at left =
-    if left == 0 || not ((level stack left).first == at.first) then Err BadDedent
-    else if (level stack left).second == at.second then Ok (Dedents (length stack - left), take left stack)
-    else Err MixedTabs
-
-unfoldable pub settled_last : List Columns → Columns → Result (Change × List Columns) Kind
-settled_last stack at =
-    let top = level stack (length stack) in
-    if nat_lt top.first at.first
-    then (if nat_lt top.second at.second then Ok (Indent, stack ++ at ∷ []) else Err MixedTabs)
-    else closed_last stack at (kept stack at (length stack))
-
--- what the code answers beside that
-abbrev pub Changes : List Columns → List Columns → Result Change WordError → Result (Change × List Columns) Kind → Type 0
-Changes old new (Ok c) expected = expected ≡ Ok (c, new)
-Changes old new (Err Memory) expected = Unit {0}
-Changes old new (Err (Bad kind)) expected = expected ≡ Err kind

@@ -1,4 +1,4 @@
--- Reading: what stands at the front, and what follows it; and the whole text, piece by piece.
+-- How the code reads, as functions that its contracts name: what stands at the front, and what follows it; and the whole text, piece by piece.
 use Rattle.std.specs.Prelude.{pos, ℕ, zero, suc, ◌+◌, ◌-◌, ◌*◌, ◌^◌, min, ◌==◌, Bool, true, false, not, ◌&&◌, nat_lt, if◌then◌else◌, List, [], ◌∷◌, ◌++◌, length, take, drop, Option, Some, None, Result, Ok, Err}
 use Rattle.std.specs.List.{prefix_len}
 use Rattle.py_lexer.specs.declared.chars.Class.{Class}

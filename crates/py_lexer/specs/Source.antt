@@ -1,4 +1,4 @@
--- A source: its bytes, and its tokens or why there are none.
+-- A source: its bytes, and its tokens or why there are none (Language Reference, chapter 2, for a small subset).
 use Rattle.std.specs.Prelude.{ℕ, suc, ◌+◌, ◌<◌, ◌≤◌, ◌==◌, not, ◌||◌, ◌&&◌, nat_lt, if◌then◌else◌, List, [], ◌∷◌, length, take, Result, Ok, Err}
 use Rattle.std.specs.Str.{IsUtf8, IsValidUpTo, is_utf8, chars}
 use Rattle.py_lexer.specs.declared.error.Kind.{Kind}
@@ -11,7 +11,7 @@ use Rattle.py_lexer.specs.declared.word.Token.{Token}
 use Rattle.py_lexer.specs.TokenList.{Outcome}
 use Rattle.py_lexer.specs.Tokens.{Lines}
 
--- how many line ends the text has: LF, CR LF or CR
+-- how many line ends the text has: LF (10), CR LF or CR (13)
 unfoldable pub line_ends : List ℕ → ℕ
 line_ends [] = 0
 line_ends (c ∷ cs) = if c == 10 || (c == 13 && not (head_passes (λ d. d == 10) cs)) then suc (line_ends cs) else line_ends cs
@@ -38,6 +38,8 @@ abbrev pub answer_of : Outcome → Answer
 answer_of (Ok ts) = Ok ts
 answer_of (Err fault) = Err (error_at fault.kind fault.line)
 
+-- A source of more than 1,048,576 bytes is TooLong. Else one that is not UTF-8 is NotUtf8, with the line of its first bad
+-- byte. Else its tokens, or its first fault in text order, are those of its lines; a leading U+FEFF is dropped.
 pub data Tokens : List ℕ → Answer → Type 0 where
   too_long : {src : List ℕ} → 1048576 < length src → Tokens src (Err error.TooLong)
   -- the first n bytes are the longest front that is UTF-8, and more follow

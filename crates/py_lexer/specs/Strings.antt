@@ -1,4 +1,4 @@
--- Parts of strings.
+-- Quotes and escapes of strings (Language Reference 2.4.1).
 use Rattle.std.specs.Prelude.{ℕ, ◌+◌, ◌-◌, ◌*◌, ◌==◌, Bool, true, false, not, ◌||◌, ◌&&◌, nat_lt, if◌then◌else◌, List, [], ◌∷◌, drop, Option, Some, None}
 use Rattle.py_lexer.specs.declared.quoted.Quotes.{Quotes}
 

@@ -1,4 +1,4 @@
-// What a character begins.
+//! What a character begins.
 
 ghost use Rattle.std.specs.Prelude.{◌≡◌};
 ghost use Rattle.py_lexer.specs.Chars.{class_of, is_white, is_end, is_quote, is_digit};
@@ -6,7 +6,7 @@ ghost use Rattle.py_lexer.specs.Chars.{class_of, is_white, is_end, is_quote, is_
 use spec_core::starts_identifier;
 
 /// What a character outside strings and comments begins.
-#[derive(Clone, Copy, Debug, PartialEq, Eq)]
+#[derive(Clone, Copy)]
 pub enum Class {
     White,
     Hash,

@@ -1,4 +1,4 @@
-// The two columns of the white space that a line begins with.
+//! The two columns of the white space that a line begins with.
 
 ghost use Rattle.std.specs.Prelude.{◌≡◌, ◌≤◌, ◌<◌, ◌^◌, length};
 ghost use Rattle.py_lexer.specs.Chars.{is_white};
@@ -7,7 +7,7 @@ ghost use Rattle.py_lexer.specs.Columns.{advanced, leading, margin};
 use crate::chars::is_white;
 
 /// How far a line is indented: a tab goes to the next multiple of 8 in the first, and counts 1 in the second.
-#[derive(Clone, Copy, Debug, PartialEq, Eq)]
+#[derive(Clone, Copy)]
 pub struct Columns {
     pub first: u64,
     pub second: u64,

@@ -1,4 +1,4 @@
-// What stands between tokens.
+//! What stands between tokens.
 
 ghost use Rattle.std.specs.Prelude.{◌≡◌, ◌≤◌, ◌<◌, Option, Some, None, length, IfSome, if◌then◌else◌};
 ghost use Rattle.py_lexer.specs.Options.{map_option};
@@ -8,7 +8,7 @@ ghost use Rattle.py_lexer.specs.Reading as reading;
 use crate::chars::{Class, class_of, is_end};
 
 /// What stands between tokens.
-#[derive(Clone, Copy, Debug, PartialEq, Eq)]
+#[derive(Clone, Copy)]
 pub enum Gap {
     /// White space or a comment.
     Blank,

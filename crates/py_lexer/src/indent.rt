@@ -1,13 +1,14 @@
-// The stack of open columns, the innermost last.
+//! The stack of open columns, the innermost last.
 
 ghost use Rattle.std.specs.Prelude.{◌≡◌, ◌≤◌, ◌<◌, length, reverse, IfOk};
-ghost use Rattle.py_lexer.specs.Indent.{kept, settled, settled_last, Changes};
+ghost use Rattle.py_lexer.specs.Indent.{settled};
+ghost use Rattle.py_lexer.specs.Stack.{kept, settled_last, Changes};
 
 use crate::columns::Columns;
 use crate::error::{Kind, WordError};
 
 /// What a logical line does to the open columns.
-#[derive(Clone, Copy, Debug, PartialEq, Eq)]
+#[derive(Clone, Copy)]
 pub enum Change {
     Indent,
     Dedents(usize),
@@ -39,7 +40,7 @@ pub fn settle(stack: &mut Vec<Columns>, at: Columns) -> Result<Change, WordError
 }
 
 /// The same, for the stack as it lies.
-#[tactic(auto, unfolding(crate::specs::Indent::settled_last))]
+#[tactic(auto, unfolding(crate::specs::Stack::settled_last))]
 fn settle_last(stack: &mut Vec<Columns>, at: Columns) -> Result<Change, WordError>
     requires { 0 < length stack.old.items }
     ensures opened { IfOk result (λ _. 0 < length stack.new.items) }

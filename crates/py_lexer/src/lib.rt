@@ -6,6 +6,7 @@ mod columns;
 mod error;
 mod gap;
 mod indent;
+mod laws;
 mod names;
 mod number;
 mod operator;
@@ -16,6 +17,7 @@ mod text;
 mod word;
 
 pub use crate::error::LexError;
+pub use crate::laws::one_answer;
 pub use crate::source::tokens;
-pub use base_types::Text;
 pub use crate::word::{Tok, Token};
+pub use base_types::Text;

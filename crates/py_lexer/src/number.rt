@@ -1,4 +1,4 @@
-// Numbers.
+//! Numbers.
 
 ghost use Rattle.std.specs.Prelude.{false, ◌≡◌, ◌≤◌, ◌<◌, ◌^◌, ◌-◌, length, drop, ◌==◌};
 ghost use Rattle.std.specs.List.{prefix_len};

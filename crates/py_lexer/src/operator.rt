@@ -1,4 +1,4 @@
-// Operators.
+//! Operators.
 
 ghost use Rattle.std.specs.Prelude.{◌≡◌, ◌≤◌, ◌<◌, length, map, take};
 ghost use Rattle.py_lexer.specs.Operators.{same_text, is_among, is_operator_of_three, is_operator_of_two, is_operator_of_one, op_len};

@@ -1,4 +1,4 @@
-// Strings.
+//! Strings.
 
 ghost use Rattle.std.specs.Prelude.{◌≡◌, ℕ, suc, ◌++◌, ◌≤◌, ◌<◌, ◌+◌, ◌*◌, ◌^◌, List, [], ◌∷◌, Option, Some, None, length, drop, IfSome, IfOk, IfErr, IsTrue};
 ghost use Rattle.py_lexer.specs.Options.{map_option};
@@ -14,7 +14,7 @@ use crate::word::{Tok, Word};
 use std::alloc::Global;
 
 /// The quotes of a string.
-#[derive(Clone, Copy, Debug, PartialEq, Eq)]
+#[derive(Clone, Copy)]
 pub struct Quotes {
     pub mark: char,
     /// Three of them.
@@ -22,7 +22,7 @@ pub struct Quotes {
 }
 
 /// What a part of a string gives, and how many line ends it has.
-#[derive(Clone, Copy, Debug, PartialEq, Eq)]
+#[derive(Clone, Copy)]
 pub struct Part {
     pub char: Option<char>,
     pub lines: u32,

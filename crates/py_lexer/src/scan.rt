@@ -1,4 +1,4 @@
-// The whole text, piece by piece.
+//! The whole text, piece by piece.
 
 ghost use Rattle.std.specs.Prelude.{◌≡◌, ◌≤◌, ◌<◌, ◌+◌, ◌^◌, ◌++◌, List, [], ◌∷◌, length, map, IfOk, Ok};
 ghost use Rattle.py_lexer.specs.TokenList.{mark, marks, dedents, closing, depth_after};
@@ -20,7 +20,7 @@ use base_types::Seq;
 use std::alloc::Global;
 
 /// Where the scanner stands in a logical line.
-#[derive(Clone, Copy, Debug, PartialEq, Eq)]
+#[derive(Clone, Copy)]
 pub enum Mode {
     /// Before its first token; with its columns, and the line that they stand in.
     Fresh(Columns, u32),

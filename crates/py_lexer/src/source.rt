@@ -1,4 +1,4 @@
-// A source: its bytes, and its tokens or why there are none.
+//! A source: its bytes, and its tokens or why there are none.
 
 ghost use Rattle.std.specs.Prelude.{◌≡◌, ◌≤◌, ◌<◌, ◌+◌, ◌==◌, ◌^◌, List, length, take, IfOk, IfErr, Ok, Err, MatchResult};
 ghost use Rattle.std.specs.Str.{IsUtf8, IsValidUpTo, chars};

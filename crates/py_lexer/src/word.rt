@@ -1,8 +1,8 @@
-// Tokens.
+//! Tokens.
 
 use base_types::Text;
 
-/// A token.
+/// A token. Texts of names are in their normal form NFKC, those of strings as read.
 #[derive(Drop)]
 pub enum Tok {
     Name(Text),

@@ -1,5 +1,5 @@
 use Rattle.std.proofs.Common.{◌≡◌, length, ◌≤◌}
-use Rattle.py_lexer.specs.Indent.{kept}
+use Rattle.py_lexer.specs.Stack.{kept}
 use Rattle.py_lexer.proofs.indent.levels_left.Given as goal
 
 abbrev pub invariant-levels : goal.invariant-levels
