@@ -1,14 +1,12 @@
 -- Lines say what bits say, and the other way round.
-use Rattle.std.proofs.Common.{◌≡◌, ℕ, zero, suc, ◌+◌, Ok, Err, List, [], ◌∷◌, ◌++◌, refl, sym, ap, subst, ◌∙◌}
+use Rattle.std.proofs.Common.{◌≡◌, ℕ, zero, suc, ◌+◌, Ok, Err, List, [], ◌++◌, sym, ap, subst, ◌∙◌}
 use Rattle.std.specs.Prelude.{IsTrue}
 use Rattle.py_lexer.specs.declared.columns.Columns.{Columns}
 use Rattle.py_lexer.specs.declared.error.Kind.{Kind}
-use Rattle.py_lexer.specs.declared.gap.Gap.TheVariants.{Blank, Joined, Ended}
+use Rattle.py_lexer.specs.declared.gap.Gap.TheVariants.{Ended}
 use Rattle.py_lexer.specs.declared.indent.Change.{Change}
 use Rattle.py_lexer.specs.declared.word.Tok.TheVariants.{Newline}
 use Rattle.py_lexer.specs.declared.word.Token.{Token}
-use Rattle.py_lexer.specs.Chars.{is_white, IsRun}
-use Rattle.py_lexer.specs.Columns.{margin, columns_after}
 use Rattle.py_lexer.specs.Gaps.{Stands}
 use Rattle.py_lexer.specs.Indent.{settled}
 use Rattle.py_lexer.specs.TokenList.{Outcome, before, mark, marks, closing, newline_at_end}

@@ -3,7 +3,7 @@ use Rattle.std.proofs.Common.{◌≡◌, ◌≢◌, ℕ, zero, suc, ◌+◌, ◌
 use Rattle.std.specs.Prelude.{if◌then◌else◌, IsFalse}
 use Rattle.std.proofs.lemmas.Bool.Decides.{nat_tests}
 use Rattle.py_lexer.specs.declared.error.Kind.{Kind}
-use Rattle.py_lexer.specs.declared.error.Kind.TheVariants.{OpenString, BadEscape}
+use Rattle.py_lexer.specs.declared.error.Kind.TheVariants.{BadEscape}
 use Rattle.py_lexer.specs.declared.quoted.Quotes.{Quotes}
 use Rattle.py_lexer.specs.Chars.{is_end}
 use Rattle.py_lexer.specs.declared.word.Tok.{Tok}

@@ -1,7 +1,6 @@
 -- A source has one answer, which is read.
 use Rattle.std.proofs.Common.{◌≡◌, ℕ, zero, suc, ◌+◌, ◌*◌, ◌-◌, ◌<◌, ◌≤◌, ◌==◌, nat_lt, Bool, true, false, Result, Ok, Err, List, [], ◌∷◌, length, take, take_all, refl, sym, ap, subst, ◌∙◌, arith}
-use Rattle.std.specs.Prelude.{if◌then◌else◌, Vec}
-use Rattle.std.specs.declared.alloc.Global.{Global}
+use Rattle.std.specs.Prelude.{if◌then◌else◌}
 use Rattle.std.specs.Str.{IsUtf8, IsValidUpTo, is_utf8, chars, chars_after, continuation_len, lead_bits}
 use Rattle.std.specs.Str.Lossy.{utf8_valid_len, valid_len_up_to}
 use Rattle.std.proofs.lemmas.Str.{is_utf8-from_IsUtf8, IsUtf8-from_is_utf8, utf8_valid_len-IsValidUpTo, utf8_valid_len_le}

@@ -1,6 +1,6 @@
 -- A source: its bytes, and its tokens or why there are none (Language Reference, chapter 2, for a small subset).
-use Rattle.std.specs.Prelude.{ℕ, suc, ◌+◌, ◌<◌, ◌≤◌, ◌==◌, not, ◌||◌, ◌&&◌, nat_lt, if◌then◌else◌, List, [], ◌∷◌, length, take, Result, Ok, Err}
-use Rattle.std.specs.Str.{IsUtf8, IsValidUpTo, is_utf8, chars}
+use Rattle.std.specs.Prelude.{ℕ, suc, ◌+◌, ◌<◌, ◌≤◌, ◌==◌, not, ◌||◌, ◌&&◌, if◌then◌else◌, List, [], ◌∷◌, length, take, Result, Ok, Err}
+use Rattle.std.specs.Str.{IsUtf8, IsValidUpTo, chars}
 use Rattle.py_lexer.specs.declared.error.Kind.{Kind}
 use Rattle.py_lexer.specs.declared.error.Kind.TheVariants.{BadChar, BadNumber, NumberTooWide, OpenString, BadEscape, BadDedent, MixedTabs}
 use Rattle.py_lexer.specs.declared.error.LexError.{LexError}

@@ -2,7 +2,6 @@
 use Rattle.std.specs.Prelude.{ℕ, ◌+◌, nat_lt, if◌then◌else◌, List, length, take, Err}
 use Rattle.std.specs.Str.{is_utf8, chars}
 use Rattle.std.specs.Str.Lossy.{utf8_valid_len}
-use Rattle.py_lexer.specs.declared.error.LexError.{LexError}
 use Rattle.py_lexer.specs.declared.error.LexError.TheVariants as error
 use Rattle.py_lexer.specs.Source.{Answer, answer_of, line_ends, without_mark}
 use Rattle.py_lexer.specs.Reading.{scan_text}

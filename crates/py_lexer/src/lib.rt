@@ -13,6 +13,8 @@ mod operator;
 mod quoted;
 mod scan;
 mod source;
+#[cfg(test)]
+mod tests;
 mod text;
 mod word;
 
