@@ -85,7 +85,9 @@ fn read(alloc: Global, src: &[u8]) -> Result<Seq<Token>, LexError>
     }
 }
 
-/// The tokens of a source.
+/// The tokens of a source (Language Reference, chapter 2, for a small subset of the language), or its first fault in
+/// text order with its line, from 1: each `LexError` comes exactly where `Tokens` of `specs/Source.antt` says, but that
+/// want of memory may stand in place of any answer. The work is linear in the length of the source.
 pub fn tokens(alloc: Global, src: &[u8]) -> Result<Seq<Token>, LexError>
     // What is answered is what the source gives.
     ensures given { Told (Tokens src.now) result }
