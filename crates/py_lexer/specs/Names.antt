@@ -1,0 +1,17 @@
+-- The text of an identifier, and whether it is a keyword.
+use Rattle.std.specs.Prelude.{ℕ, Bool, if◌then◌else◌, List}
+use Rattle.std.specs.Str.{chars}
+use Rattle.spec_core.specs.Identifiers.{is_identifier, is_keyword, normal_form}
+use Rattle.py_lexer.specs.TokenList.{utf8_of}
+use Rattle.py_lexer.specs.declared.word.Tok.{Tok}
+use Rattle.py_lexer.specs.declared.word.Tok.TheVariants.{Name, Keyword}
+
+-- the NFKC form of these characters
+unfoldable pub ident_text : List ℕ → List ℕ
+ident_text run = normal_form (utf8_of run)
+
+abbrev pub is_ident : List ℕ → Bool
+is_ident text = is_identifier (chars text)
+
+abbrev pub word_of : List ℕ → Tok
+word_of text = if is_keyword text then Keyword text else Name text
