@@ -12,7 +12,7 @@ use std::marker::Model;
 /// A map from names.
 #[derive(Drop)]
 pub struct NameMap<V> {
-    map: BTreeMap<Dotted, V>,
+    pub(crate) map: BTreeMap<Dotted, V>,
 }
 
 impl<V> Model for NameMap<V> {
@@ -154,7 +154,7 @@ impl<V> PathMap<V> {
 /// A map from numbers.
 #[derive(Drop)]
 pub struct NumberMap<V> {
-    map: BTreeMap<u32, V>,
+    pub(crate) map: BTreeMap<u32, V>,
 }
 
 impl<V> Model for NumberMap<V> {

@@ -1,0 +1,12 @@
+//! The import machine: a state that only allowed events change, in which what holds of every state
+//! holds.
+#![tactic(auto)]
+
+mod laws;
+mod machine;
+
+pub use laws::{
+    always_sound, cycle_would_close, initialising_is_own, loads_go_on, someone_goes_on,
+    taken_cycle_would_close, taken_is_own,
+};
+pub use machine::Machine;

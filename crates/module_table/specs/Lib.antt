@@ -1,0 +1,5 @@
+pub mod Vars
+pub mod Lists
+pub mod Start
+pub mod Tables
+pub mod Path
