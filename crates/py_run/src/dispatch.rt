@@ -120,6 +120,7 @@ fn statement<D: Desk>(
 }
 
 /// An item that comes next.
+#[tactic(auto, using(crate::proofs::Passing::unchanged))]
 fn going<D: Desk, T: Tree>(
     desk: &mut D,
     tree: &mut T,
