@@ -1,5 +1,5 @@
 //! Which step an item takes, by how what came before it ended.
-ghost use Rattle.std.specs.Prelude.{◌≡◌, ℕ, List, [], ◌∷◌, ◌++◌, IfOk, OnErr, Option};
+ghost use Rattle.std.specs.Prelude.{◌≡◌, ◌≤◌, ℕ, List, [], ◌∷◌, ◌++◌, IfOk, OnErr, Option};
 ghost use Rattle.machine_book.specs.Sight.{Sight, Continues};
 ghost use Rattle.py_run.specs.Meaning as spec;
 ghost use Rattle.py_run.specs.Work.{item_does, held_at, weight, weight_after, Falls};
@@ -136,6 +136,7 @@ fn going<D: Desk, T: Tree>(
     ensures keeps { IfOk result (KeepsReading script (D.sight desk.old).mine (held_at item) (D.sight desk.new).mine) }
     ensures falls { IfOk result (λ reading. Falls budget.old (weight item) budget.new (weight_reading reading)) }
     ensures counts { IfOk result (Counts (T.faults tree.old) (T.faults tree.new)) }
+    ensures faults_grow { T.faults tree.old ≤ T.faults tree.new }
     ensures files { T.files tree.new ≡ T.files tree.old }
     ensures err { OnErr result ((D.sight desk.new).mine ≡ (D.sight desk.old).mine) }
 {
@@ -192,6 +193,7 @@ pub fn advance<D: Desk, T: Tree>(
     ensures keeps { IfOk result (KeepsReading script (D.sight desk.old).mine (held_at item) (D.sight desk.new).mine) }
     ensures falls { IfOk result (λ reading. Falls budget.old (weight item) budget.new (weight_reading reading)) }
     ensures counts { IfOk result (Counts (T.faults tree.old) (T.faults tree.new)) }
+    ensures faults_grow { T.faults tree.old ≤ T.faults tree.new }
     ensures files { T.files tree.new ≡ T.files tree.old }
     ensures err { OnErr result ((D.sight desk.new).mine ≡ (D.sight desk.old).mine) }
 {

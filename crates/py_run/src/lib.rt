@@ -5,6 +5,7 @@ mod dispatch;
 mod flow;
 mod parts;
 mod paying;
+mod run;
 mod steps;
 mod why;
 mod work;

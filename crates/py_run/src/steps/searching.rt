@@ -52,6 +52,7 @@ fn read_file<T: Tree>(
     ensures holds { IfOk result (λ reading. held_reading reading ≡ Taken import.name ∷ []) }
     ensures falls { IfOk result (λ reading. Falls budget.old 1 budget.new (weight_reading reading)) }
     ensures counts { IfOk result (Counts (T.faults tree.old) (T.faults tree.new)) }
+    ensures faults_grow { T.faults tree.old ≤ T.faults tree.new }
     ensures files { T.files tree.new ≡ T.files tree.old }
 {
     let before = *budget;
@@ -85,6 +86,7 @@ fn found_file<T: Tree>(
     ensures holds { IfOk result (λ reading. held_reading reading ≡ Taken import.name ∷ []) }
     ensures falls { IfOk result (λ reading. budget.new ≤ budget.old) }
     ensures counts { IfOk result (Counts (T.faults tree.old) (T.faults tree.new)) }
+    ensures faults_grow { T.faults tree.old ≤ T.faults tree.new }
     ensures files { T.files tree.new ≡ T.files tree.old }
 {
     match stamp {
@@ -113,6 +115,7 @@ fn search_file<T: Tree>(
     ensures holds { IfOk result (λ reading. held_reading reading ≡ Taken import.name ∷ []) }
     ensures falls { IfOk result (λ reading. budget.new ≤ budget.old) }
     ensures counts { IfOk result (Counts (T.faults tree.old) (T.faults tree.new)) }
+    ensures faults_grow { T.faults tree.old ≤ T.faults tree.new }
     ensures files { T.files tree.new ≡ T.files tree.old }
 {
     match look(tree, &path) {
@@ -136,6 +139,7 @@ fn found_folder<T: Tree>(
     ensures holds { IfOk result (λ reading. held_reading reading ≡ Taken import.name ∷ []) }
     ensures falls { IfOk result (λ reading. budget.new ≤ budget.old) }
     ensures counts { IfOk result (Counts (T.faults tree.old) (T.faults tree.new)) }
+    ensures faults_grow { T.faults tree.old ≤ T.faults tree.new }
     ensures files { T.files tree.new ≡ T.files tree.old }
 {
     match stamp {
@@ -163,6 +167,7 @@ fn search_folder<T: Tree>(
     ensures holds { IfOk result (λ reading. held_reading reading ≡ Taken import.name ∷ []) }
     ensures falls { IfOk result (λ reading. budget.new ≤ budget.old) }
     ensures counts { IfOk result (Counts (T.faults tree.old) (T.faults tree.new)) }
+    ensures faults_grow { T.faults tree.old ≤ T.faults tree.new }
     ensures files { T.files tree.new ≡ T.files tree.old }
 {
     match look(tree, &folder) {
@@ -200,6 +205,7 @@ pub fn search<T: Tree>(tree: &mut T, budget: &mut u64, import: Import) -> Result
     ensures holds { IfOk result (λ reading. held_reading reading ≡ Taken import.name ∷ []) }
     ensures falls { IfOk result (λ reading. Falls budget.old 1 budget.new (weight_reading reading)) }
     ensures counts { IfOk result (Counts (T.faults tree.old) (T.faults tree.new)) }
+    ensures faults_grow { T.faults tree.old ≤ T.faults tree.new }
     ensures files { T.files tree.new ≡ T.files tree.old }
 {
     let alloc = import.name.alloc();
