@@ -4,6 +4,7 @@ use Rattle.std.specs.Borrow.{GName}
 use Rattle.machine_events.specs.declared.event.Event.{Event}
 use Rattle.machine_events.specs.declared.event.Reply.{Reply}
 use Rattle.machine_events.specs.declared.event.Entry.{Entry}
+use Rattle.machine_events.specs.Fitting.{Fits}
 use Rattle.machine_book.specs.Histories.{Begins, EndsWith}
 use Rattle.machine_book.specs.Outgo.{Outgo, Pieces, Kept}
 
@@ -42,3 +43,4 @@ pub record Continues (old new : Sight) : Type 0 where
 pub record Gains (old new : Sight) (event : Event) (reply : Reply) : Type 0 where
   pub entry : EndsWith new.seen (record { thread = new.number; event = event; reply = reply })
   pub mine : new.mine ≡ old.mine ++ (event, reply) ∷ []
+  pub fits : Fits event reply

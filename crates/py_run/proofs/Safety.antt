@@ -442,4 +442,5 @@ safe_ends s none s' f (Found m) known = (tt, (f.runs, f.held_is ∙ none))
 safe_ends s none s' f (Raised error) known = (tt, (f.runs, f.held_is ∙ none))
 
 pub safe_meaning : (t : ℕ) (text : List ℕ) → Safe (shown_first t) (meaning t text)
+unfolding meaning
 safe_meaning t text = safe_bodies 200 (shown_first t) t text ends (inl refl) refl (safe_ends (shown_first t) refl)

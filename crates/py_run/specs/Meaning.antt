@@ -204,5 +204,5 @@ abbrev pub ends : Onward
 ends flow = Over (Ended (outcome_of flow))
 
 -- what the script of thread t does: its body is the first of at most 200 that are open
-abbrev pub meaning : ℕ → List ℕ → Run
+unfoldable pub meaning : ℕ → List ℕ → Run
 meaning t text = bodies 200 t text ends

@@ -4,6 +4,7 @@ ghost use Rattle.tree_files.specs.Files.{Files};
 ghost use Rattle.machine_events.specs.declared.event.Event.{Event};
 ghost use Rattle.machine_events.specs.declared.event.Event.TheVariants as ev;
 ghost use Rattle.machine_events.specs.declared.event.Reply.{Reply};
+ghost use Rattle.machine_events.specs.Fitting.{Fits};
 ghost use Rattle.machine_events.specs.Knowing.{IsShown, Waiting, shown, shown_more};
 ghost use Rattle.machine_book.specs.Sight.{Sight, Continues};
 ghost use Rattle.meanings.specs.Runs.{Run, Stands, Pays, Makes, AfterPay};
@@ -35,6 +36,7 @@ pub fn make<D: Desk>(desk: &mut D, script: u32, event: Event) -> Result<Reply, N
     ensures gained { IfOk result (λ reply. (D.sight desk.new).mine ≡ (D.sight desk.old).mine ++ (event, reply) ∷ []) }
     ensures shows { IfOk result (λ reply. shown script (D.sight desk.new).mine ≡ shown_more (shown script (D.sight desk.old).mine) (event, reply)) }
     ensures stands { IfOk result (λ reply. (files : Option Files) (whole : Run) (fuel budget : ℕ) (next : Reply → Run) → Stands files whole fuel (D.sight desk.old).mine budget (Makes event next) → Stands files whole fuel (D.sight desk.new).mine budget (next reply)) }
+    ensures fits { IfOk result (Fits event) }
     ensures err { OnErr result ((D.sight desk.new).mine ≡ (D.sight desk.old).mine) }
 {
     match desk.call(event) {

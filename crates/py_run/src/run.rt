@@ -73,3 +73,43 @@ fn run_on<D: Desk, T: Tree>(
     }
     Ok(Stretch::Over(flow))
 }
+
+/// Runs a script to its end, but for what it still holds and its End event.
+pub fn run<D: Desk, T: Tree>(
+    desk: &mut D,
+    tree: &mut T,
+    script: u32,
+    work: &mut Work,
+    name: Dotted,
+    text: Seq<u8>,
+    fuel: u64,
+) -> Result<Over, NoMemory>
+    requires number { (D.sight desk.old).number ≡ script }
+    requires first { (D.sight desk.old).mine ≡ [] }
+    requires idle { work.old ≡ [] }
+    ensures number { (D.sight desk.new).number ≡ script }
+    ensures continues { Continues (D.sight desk.old) (D.sight desk.new) }
+    ensures holds { IfOk result (λ over. (shown script (D.sight desk.new).mine).held ≡ held_over over work.new) }
+    ensures files { T.files tree.new ≡ T.files tree.old }
+    ensures faults_grow { T.faults tree.old ≤ T.faults tree.new }
+    ensures counts { IfOk result (CountsOver (T.faults tree.old) (T.faults tree.new)) }
+    ensures over { IfOk result (Overs (T.files tree.old) (spec.meaning script text) fuel (D.sight desk.new).mine) }
+    ensures part { OnErr result (StandsIn (T.files tree.old) (spec.meaning script text) fuel (D.sight desk.new).mine) }
+{
+    work.push(Item::Start {
+        name,
+        mid: script,
+        text,
+        left: 200,
+    })?;
+    let mut budget = fuel;
+    let mut flow = Flow::On;
+    'stretches: loop {
+        match run_on(desk, tree, script, &mut budget, work, flow)? {
+            Stretch::Paid(on) => flow = on,
+            Stretch::Over(last) => return Ok(Over::Came(last)),
+            Stretch::Out(hold) => return Ok(Over::Out(hold)),
+            Stretch::Unread(left, hold) => return Ok(Over::Unread(left, hold)),
+        }
+    }
+}

@@ -42,8 +42,8 @@ returns-in_err-flow-in-Step-On-clause-breaks g c = λ whole fuel s.
     let mine' = (g.D.Desk.sight c.advance.new.desk).mine in
     let files = g.T.Tree.files c.args.tree.now in
     let after : AfterReading files whole fuel mine' c.advance.new.budget c.in_ok-lead.field-0 (rest c.pop.new.self) =
-        after_item files (g.T.Tree.files c.loop-item.tree) whole fuel mine mine' c.loop-item.budget c.advance.new.budget c.loop-item.work c.pop.new.self c.in-Some.item c.loop-item.flow c.in_ok-lead.field-0
-        c.loop-item.invariant.files c.in-Some.ensures (c.loop-item.invariant.moves whole fuel s) c.in_ok-lead.ensures.moves in
+    after_item files (g.T.Tree.files c.loop-item.tree) whole fuel mine mine' c.loop-item.budget c.advance.new.budget c.loop-item.work c.pop.new.self c.in-Some.item c.loop-item.flow c.in_ok-lead.field-0
+    c.loop-item.invariant.files c.in-Some.ensures (c.loop-item.invariant.moves whole fuel s) c.in_ok-lead.ensures.moves in
     let on : AfterReading files whole fuel mine' c.advance.new.budget (reading.Step (step.On c.in-Step-On.lead)) (rest c.pop.new.self) = subst (λ (r : Reading). AfterReading files whole fuel mine' c.advance.new.budget r (rest c.pop.new.self)) (c.in-Step-On.is ∙ ap reading.Step c.in-Step-On.field-0-is) after in
     let here : StandsIn files whole fuel mine' = in_some on in
     on_err _ here
@@ -57,8 +57,8 @@ returns-in-Step-Out-clause-moves g c = λ whole fuel s.
     let mine' = (g.D.Desk.sight c.advance.new.desk).mine in
     let files = g.T.Tree.files c.args.tree.now in
     let after : AfterReading files whole fuel mine' c.advance.new.budget c.in_ok-lead.field-0 (rest c.pop.new.self) =
-        after_item files (g.T.Tree.files c.loop-item.tree) whole fuel mine mine' c.loop-item.budget c.advance.new.budget c.loop-item.work c.pop.new.self c.in-Some.item c.loop-item.flow c.in_ok-lead.field-0
-        c.loop-item.invariant.files c.in-Some.ensures (c.loop-item.invariant.moves whole fuel s) c.in_ok-lead.ensures.moves in
+    after_item files (g.T.Tree.files c.loop-item.tree) whole fuel mine mine' c.loop-item.budget c.advance.new.budget c.loop-item.work c.pop.new.self c.in-Some.item c.loop-item.flow c.in_ok-lead.field-0
+    c.loop-item.invariant.files c.in-Some.ensures (c.loop-item.invariant.moves whole fuel s) c.in_ok-lead.ensures.moves in
     subst (λ (r : Reading). AfterReading files whole fuel mine' c.advance.new.budget r (rest c.pop.new.self)) (c.in-Step-Out.is ∙ ap reading.Step c.in-Step-Out.field-0-is) after
 
 pub returns-in-Unread-clause-continues : goal.returns-in-Unread-clause-continues
@@ -70,8 +70,8 @@ returns-in-Unread-clause-moves g c = λ whole fuel s.
     let mine' = (g.D.Desk.sight c.advance.new.desk).mine in
     let files = g.T.Tree.files c.args.tree.now in
     let after : AfterReading files whole fuel mine' c.advance.new.budget c.in_ok-lead.field-0 (rest c.pop.new.self) =
-        after_item files (g.T.Tree.files c.loop-item.tree) whole fuel mine mine' c.loop-item.budget c.advance.new.budget c.loop-item.work c.pop.new.self c.in-Some.item c.loop-item.flow c.in_ok-lead.field-0
-        c.loop-item.invariant.files c.in-Some.ensures (c.loop-item.invariant.moves whole fuel s) c.in_ok-lead.ensures.moves in
+    after_item files (g.T.Tree.files c.loop-item.tree) whole fuel mine mine' c.loop-item.budget c.advance.new.budget c.loop-item.work c.pop.new.self c.in-Some.item c.loop-item.flow c.in_ok-lead.field-0
+    c.loop-item.invariant.files c.in-Some.ensures (c.loop-item.invariant.moves whole fuel s) c.in_ok-lead.ensures.moves in
     subst (λ (r : Reading). AfterReading files whole fuel mine' c.advance.new.budget r (rest c.pop.new.self)) c.in-Unread.is after
 
 pub returns-then-budget-before-clause-continues : goal.returns-then-budget-before-clause-continues
@@ -81,8 +81,8 @@ pub loop-item-preserved : goal.loop-item-preserved
 loop-item-preserved g c =
     let before = c.loop-item.invariant in
     let held_there : (shown c.args.script (g.D.Desk.sight c.advance.new.desk).mine).held ≡ held_lead c.in-Step-On.lead ++ held_of c.pop.new.self =
-        subst (λ (r : Reading). (shown c.args.script (g.D.Desk.sight c.advance.new.desk).mine).held ≡ held_reading r ++ held_of c.pop.new.self) (c.in-Step-On.is ∙ ap reading.Step c.in-Step-On.field-0-is)
-        (c.in_ok-lead.ensures.keeps (held_of c.pop.new.self) (before.holds ∙ ap held_of c.in-Some.ensures)) in
+    subst (λ (r : Reading). (shown c.args.script (g.D.Desk.sight c.advance.new.desk).mine).held ≡ held_reading r ++ held_of c.pop.new.self) (c.in-Step-On.is ∙ ap reading.Step c.in-Step-On.field-0-is)
+    (c.in_ok-lead.ensures.keeps (held_of c.pop.new.self) (before.holds ∙ ap held_of c.in-Some.ensures)) in
     record {
       number = c.in_ok-lead.ensures.number;
       budget = omega (arith, before.budget, c.in_ok-lead.ensures.falls.0, c.if-budget-before.false);
@@ -95,8 +95,8 @@ loop-item-preserved g c =
           let mine' = (g.D.Desk.sight c.advance.new.desk).mine in
           let files = g.T.Tree.files c.args.tree.now in
           let after : AfterReading files whole fuel mine' c.advance.new.budget c.in_ok-lead.field-0 (rest c.pop.new.self) =
-              after_item files (g.T.Tree.files c.loop-item.tree) whole fuel mine mine' c.loop-item.budget c.advance.new.budget c.loop-item.work c.pop.new.self c.in-Some.item c.loop-item.flow c.in_ok-lead.field-0
-              c.loop-item.invariant.files c.in-Some.ensures (c.loop-item.invariant.moves whole fuel s) c.in_ok-lead.ensures.moves in
+          after_item files (g.T.Tree.files c.loop-item.tree) whole fuel mine mine' c.loop-item.budget c.advance.new.budget c.loop-item.work c.pop.new.self c.in-Some.item c.loop-item.flow c.in_ok-lead.field-0
+          c.loop-item.invariant.files c.in-Some.ensures (c.loop-item.invariant.moves whole fuel s) c.in_ok-lead.ensures.moves in
           let on : AfterReading files whole fuel mine' c.advance.new.budget (reading.Step (step.On c.in-Step-On.lead)) (rest c.pop.new.self) = subst (λ (r : Reading). AfterReading files whole fuel mine' c.advance.new.budget r (rest c.pop.new.self)) (c.in-Step-On.is ∙ ap reading.Step c.in-Step-On.field-0-is) after in
           subst (λ (run : Run). Stands files whole fuel mine' c.advance.new.budget run) (sym c.in_ok-flow-in-Step-On.ensures.does) on;
     }
