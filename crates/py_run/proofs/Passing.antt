@@ -6,7 +6,7 @@ use Rattle.base_types.specs.declared.seq.Seq.{Seq}
 use Rattle.spec_core.specs.declared.name.Dotted.{Dotted}
 use Rattle.machine_events.specs.Knowing.{Holding}
 use Rattle.machine_book.specs.Sight.{Sight, Continues}
-use Rattle.machine_book.proofs.Keeping.{continues_refl}
+use Rattle.machine_book.proofs.Keeping.{continues_refl, continues_trans}
 use Rattle.py_run.specs.Meaning.{Onward}
 use Rattle.py_run.specs.Work.{item_does, held_at, weight}
 use Rattle.py_run.specs.declared.flow.Flow.TheVariants as flows
@@ -75,3 +75,7 @@ passes_module (it.Finish load mid i) m b p s a g f = absurd (f load mid i refl)
 -- a desk that was not called goes on as it is
 pub unchanged : (a : Sight) → Continues a a
 unchanged a = continues_refl a
+
+-- and what went on so far goes on
+pub onward : (a b c : Sight) → Continues a b → Continues b c → Continues a c
+onward a b c p q = continues_trans a b c p q

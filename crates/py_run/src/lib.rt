@@ -6,8 +6,10 @@ mod flow;
 mod parts;
 mod paying;
 mod run;
+mod script;
 mod steps;
 mod why;
 mod work;
 
 pub use flow::Flow;
+pub use script::Ending;

@@ -52,8 +52,8 @@ stretches-preserved g c =
     let files = g.T.Tree.files c.args.tree.now in
     let mine' = (g.D.Desk.sight c.run_on.new.desk).mine in
     let after : AfterStretch files whole c.args.fuel mine' c.run_on.new.budget c.in_ok-on.field-0 c.run_on.new.work =
-        after_stretch files (g.T.Tree.files c.stretches.tree) whole c.args.fuel (g.D.Desk.sight c.stretches.desk).mine mine' c.stretches.budget c.run_on.new.budget (rest c.stretches.work c.stretches.flow) c.run_on.new.work c.in_ok-on.field-0
-        c.stretches.invariant.files c.stretches.invariant.stands c.in_ok-on.ensures.moves in
+    after_stretch files (g.T.Tree.files c.stretches.tree) whole c.args.fuel (g.D.Desk.sight c.stretches.desk).mine mine' c.stretches.budget c.run_on.new.budget (rest c.stretches.work c.stretches.flow) c.run_on.new.work c.in_ok-on.field-0
+    c.stretches.invariant.files c.stretches.invariant.stands c.in_ok-on.ensures.moves in
     record {
       number = c.in_ok-on.ensures.number;
       continues = continues_trans _ _ _ c.stretches.invariant.continues c.in_ok-on.ensures.continues;
@@ -72,8 +72,8 @@ returns-in-Over-clause-over g c =
     let files = g.T.Tree.files c.args.tree.now in
     let mine' = (g.D.Desk.sight c.run_on.new.desk).mine in
     let after : AfterStretch files whole c.args.fuel mine' c.run_on.new.budget c.in_ok-on.field-0 c.run_on.new.work =
-        after_stretch files (g.T.Tree.files c.stretches.tree) whole c.args.fuel (g.D.Desk.sight c.stretches.desk).mine mine' c.stretches.budget c.run_on.new.budget (rest c.stretches.work c.stretches.flow) c.run_on.new.work c.in_ok-on.field-0
-        c.stretches.invariant.files c.stretches.invariant.stands c.in_ok-on.ensures.moves in
+    after_stretch files (g.T.Tree.files c.stretches.tree) whole c.args.fuel (g.D.Desk.sight c.stretches.desk).mine mine' c.stretches.budget c.run_on.new.budget (rest c.stretches.work c.stretches.flow) c.run_on.new.work c.in_ok-on.field-0
+    c.stretches.invariant.files c.stretches.invariant.stands c.in_ok-on.ensures.moves in
     (c.run_on.new.budget, subst (λ (s : Stretch). AfterStretch files whole c.args.fuel mine' c.run_on.new.budget s c.run_on.new.work) c.in-Over.is after)
 
 pub returns-in-Out-clause-continues : goal.returns-in-Out-clause-continues
@@ -85,8 +85,8 @@ returns-in-Out-clause-over g c =
     let files = g.T.Tree.files c.args.tree.now in
     let mine' = (g.D.Desk.sight c.run_on.new.desk).mine in
     let after : AfterStretch files whole c.args.fuel mine' c.run_on.new.budget c.in_ok-on.field-0 c.run_on.new.work =
-        after_stretch files (g.T.Tree.files c.stretches.tree) whole c.args.fuel (g.D.Desk.sight c.stretches.desk).mine mine' c.stretches.budget c.run_on.new.budget (rest c.stretches.work c.stretches.flow) c.run_on.new.work c.in_ok-on.field-0
-        c.stretches.invariant.files c.stretches.invariant.stands c.in_ok-on.ensures.moves in
+    after_stretch files (g.T.Tree.files c.stretches.tree) whole c.args.fuel (g.D.Desk.sight c.stretches.desk).mine mine' c.stretches.budget c.run_on.new.budget (rest c.stretches.work c.stretches.flow) c.run_on.new.work c.in_ok-on.field-0
+    c.stretches.invariant.files c.stretches.invariant.stands c.in_ok-on.ensures.moves in
     (c.run_on.new.budget, subst (λ (s : Stretch). AfterStretch files whole c.args.fuel mine' c.run_on.new.budget s c.run_on.new.work) c.in-Out.is after)
 
 pub returns-in-Unread-clause-continues : goal.returns-in-Unread-clause-continues
@@ -98,6 +98,6 @@ returns-in-Unread-clause-over g c =
     let files = g.T.Tree.files c.args.tree.now in
     let mine' = (g.D.Desk.sight c.run_on.new.desk).mine in
     let after : AfterStretch files whole c.args.fuel mine' c.run_on.new.budget c.in_ok-on.field-0 c.run_on.new.work =
-        after_stretch files (g.T.Tree.files c.stretches.tree) whole c.args.fuel (g.D.Desk.sight c.stretches.desk).mine mine' c.stretches.budget c.run_on.new.budget (rest c.stretches.work c.stretches.flow) c.run_on.new.work c.in_ok-on.field-0
-        c.stretches.invariant.files c.stretches.invariant.stands c.in_ok-on.ensures.moves in
+    after_stretch files (g.T.Tree.files c.stretches.tree) whole c.args.fuel (g.D.Desk.sight c.stretches.desk).mine mine' c.stretches.budget c.run_on.new.budget (rest c.stretches.work c.stretches.flow) c.run_on.new.work c.in_ok-on.field-0
+    c.stretches.invariant.files c.stretches.invariant.stands c.in_ok-on.ensures.moves in
     subst (λ (s : Stretch). AfterStretch files whole c.args.fuel mine' c.run_on.new.budget s c.run_on.new.work) c.in-Unread.is after
