@@ -12,4 +12,4 @@ mod why;
 mod work;
 
 pub use flow::Flow;
-pub use script::Ending;
+pub use script::{Ending, run_script};

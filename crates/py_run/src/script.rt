@@ -1,5 +1,5 @@
 //! A whole script.
-ghost use Rattle.std.specs.Prelude.{◌≡◌, ◌≤◌, ◌+◌, ℕ, Bool, List, [], ◌∷◌, ◌++◌, IfOk, OnOk, OnErr, IfSome, Option};
+ghost use Rattle.std.specs.Prelude.{◌≡◌, ◌≤◌, ◌+◌, ℕ, Bool, List, [], ◌∷◌, ◌++◌, IfOk, OnOk, OnErr, Option, Some};
 ghost use Rattle.tree_files.specs.Count.{Rose};
 ghost use Rattle.tree_files.specs.Files.{Files};
 ghost use Rattle.machine_events.specs.declared.event.Event.{Event};
@@ -110,7 +110,6 @@ fn give_first<D: Desk>(desk: &mut D, script: u32, hold: Option<Hold>) -> Result<
 }
 
 /// Gives up all that is held, the innermost first.
-#[tactic(auto, using(crate::proofs::Passing::onward))]
 fn give_up<D: Desk>(
     desk: &mut D,
     script: u32,
@@ -185,7 +184,6 @@ fn came<D: Desk>(desk: &mut D, script: u32, flow: Flow, fuel: u64) -> Result<End
 }
 
 /// A script that is spent, or that could not read, gives up what it holds and makes its End event.
-#[tactic(auto, using(crate::proofs::Passing::onward))]
 fn broke<D: Desk>(
     desk: &mut D,
     script: u32,
@@ -203,4 +201,51 @@ fn broke<D: Desk>(
 {
     give_up(desk, script, hold, work)?;
     end(desk, script, how, spent)
+}
+
+/// A copy of a text's bytes.
+fn copy_of(alloc: Global, text: &[u8]) -> Result<Seq<u8>, NoMemory>
+    ensures { IfOk result (λ copy. copy ≡ text.now) }
+{
+    let mut bytes = Vec::new(alloc);
+    bytes.extend_from_slice(text)?;
+    Ok(Seq::from_vec(bytes))
+}
+
+/// Runs a script on a desk, over a tree, and makes its End event.
+///
+/// The events are those of the script's meaning with this fuel, each once and in order, on the
+/// replies that come. `Read` comes only where a call of the tree failed.
+pub fn run_script<D: Desk, T: Tree>(
+    alloc: Global,
+    desk: &mut D,
+    tree: &mut T,
+    script: u32,
+    text: &[u8],
+    fuel: u64,
+) -> Result<Ending, NoMemory>
+    requires number { (D.sight desk.old).number ≡ script }
+    requires first { (D.sight desk.old).mine ≡ [] }
+    ensures continues { Continues (D.sight desk.old) (D.sight desk.new) }
+    ensures files { T.files tree.new ≡ T.files tree.old }
+    ensures faults_grow { T.faults tree.old ≤ T.faults tree.new }
+    ensures ended { IfOk result (λ ending. Ended (D.sight desk.new).mine (outcome ending)) }
+    ensures follows { (files : Files) → T.files tree.old ≡ Some files → IfOk result (λ ending. Follows files script (spec.meaning script text.now) fuel (D.sight desk.new).mine (outcome ending)) }
+    ensures part { (files : Files) → T.files tree.old ≡ Some files → OnErr result (Broken files script (spec.meaning script text.now) fuel (D.sight desk.new).mine (T.faults tree.old) (T.faults tree.new)) }
+    ensures read { IfOk result (λ ending. IsRead ending → Rose (T.faults tree.old) (T.faults tree.new)) }
+{
+    let mut work = Work::new(alloc);
+    let name = Dotted::known(alloc, KnownName::Main)?;
+    let body = copy_of(alloc, text)?;
+    match run(desk, tree, script, &mut work, name, body, fuel)? {
+        Over::Came(flow) => came(desk, script, flow, fuel),
+        Over::Out(hold) => {
+            broke(desk, script, hold, &mut work, Outcome::Fuel, fuel)?;
+            Ok(Ending::Fuel)
+        }
+        Over::Unread(left, hold) => {
+            broke(desk, script, hold, &mut work, Outcome::Read, fuel - left)?;
+            Ok(Ending::Read)
+        }
+    }
 }
