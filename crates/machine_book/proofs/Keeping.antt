@@ -1,5 +1,5 @@
 -- An outlet that keeps up, one entry at a time.
-use Rattle.std.proofs.Common.{◌≡◌, ◌≢◌, ℕ, ◌<◌, ◌≤◌, Bool, List, [], ◌∷◌, ◌++◌, flat_map, Option, Some, None, refl, sym, ◌∙◌, ap, arith}
+use Rattle.std.proofs.Common.{◌≡◌, ℕ, ◌≤◌, List, [], ◌∷◌, ◌++◌, Option, Some, None, refl, sym, ◌∙◌, ap, arith}
 use Rattle.std.proofs.lemmas.List.{append-nil, append_assoc}
 use Rattle.std.proofs.lemmas.Grind.{flat_map-append}
 use Rattle.tree_files.specs.Count.{Rose}
@@ -7,7 +7,6 @@ use Rattle.machine_events.specs.declared.event.Entry.{Entry}
 use Rattle.machine_book.specs.declared.outlet.Flow.{Flow}
 use Rattle.machine_book.specs.declared.outlet.Flow.TheVariants.{Open, Failed, Short}
 use Rattle.machine_book.specs.Sight.{Sight, Telling, KeepsUp, Continues}
-use Rattle.machine_book.specs.Histories.{Begins}
 use Rattle.machine_book.specs.Outgo.{Outgo, Pieces, Kept, text_of, Appends, AppendsPart, Flows, FlowsFrom}
 
 appends_then : (a b c : Option (List ℕ)) (x y : List ℕ) → Appends a b x → Appends b c y → Appends a c (x ++ y)
@@ -61,7 +60,7 @@ kept_next piece a b c entries entry p q = record {
   trace = q.trace ∙ p.trace;
   faults = omega (arith, p.faults, q.faults);
   text = rw (flat_map-append (piece a.trace) entries (entry ∷ []))
-    (from_then a b c (text_of piece a.trace entries) (text_of piece a.trace (entry ∷ [])) p.faults q.faults a.flow refl p.text (rw p.trace at q.text));
+      (from_then a b c (text_of piece a.trace entries) (text_of piece a.trace (entry ∷ [])) p.faults q.faults a.flow refl p.text (rw p.trace at q.text));
 }
 
 pub kept_then : (piece : Pieces) (a b c : Outgo) (xs ys : List Entry) → Kept piece a b xs → Kept piece b c ys → Kept piece a c (xs ++ ys)
@@ -69,7 +68,7 @@ kept_then piece a b c xs ys p q = record {
   trace = q.trace ∙ p.trace;
   faults = omega (arith, p.faults, q.faults);
   text = rw (flat_map-append (piece a.trace) xs ys)
-    (from_then a b c (text_of piece a.trace xs) (text_of piece a.trace ys) p.faults q.faults a.flow refl p.text (rw p.trace at q.text));
+      (from_then a b c (text_of piece a.trace xs) (text_of piece a.trace ys) p.faults q.faults a.flow refl p.text (rw p.trace at q.text));
 }
 
 keeps_then : (a b c : Option Telling) (xs ys : List Entry) → KeepsUp a b xs → KeepsUp b c ys → KeepsUp a c (xs ++ ys)
