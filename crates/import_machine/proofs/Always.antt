@@ -16,7 +16,7 @@ use Rattle.machine_state.specs.Legal.{IsLegal, replay}
 use Rattle.import_machine.specs.Sound.{IsSound}
 use Rattle.import_machine.specs.Answered.{IsOwn, IsInFirstRound, SomeoneGoesOn, GoOn}
 use Rattle.import_machine.specs.Begun.{Begun, first}
-use Rattle.import_machine.proofs.First.{always, sound_opening}
+use Rattle.import_machine.proofs.First.{always, sound_opening, rounds_long}
 use Rattle.import_machine.proofs.Replies.{asked_own, taken_own, asked_cycle, taken_cycle}
 use Rattle.import_machine.proofs.Going.{goes_after, same_rounds}
 use Rattle.import_machine.proofs.Chain.{someone}
@@ -26,6 +26,7 @@ sound_first b =
     let texts = b.as_many in
     let whole = b.whole in
     let few = b.few in
+    let long = rounds_long 0 b.rounds in
     sound_opening b.scripts b.texts b.path b.rounds (omega arith) (omega arith)
 
 pub sound_always : (b : Begun) (history : List Entry) → IsLegal (first b) history → IsSound (replay (first b) history)
@@ -33,6 +34,7 @@ sound_always b history legal =
     let texts = b.as_many in
     let whole = b.whole in
     let few = b.few in
+    let long = rounds_long 0 b.rounds in
     always b.scripts b.texts b.path b.rounds history (omega arith) (omega arith) legal
 
 pub own_always : (b : Begun) (history : List Entry) → IsLegal (first b) history → (t : ℕ) (n : List ℕ) (m : ModRef) (o : Object) → (step (replay (first b) history) t (events.Ask n)).0 ≡ replies.Module m

@@ -1,11 +1,13 @@
 -- What holds in every state holds at the opening.
 use Rattle.std.proofs.Common.{◌≡◌, ◌⊎◌, ℕ, zero, suc, ◌+◌, ◌<◌, ◌≤◌, arith, Bool, true, false, cond, ◌&&◌, List, [], ◌∷◌, ◌++◌, length, Option, Some, None, refl, sym, ap, subst, ◌∙◌, map, inl, inr, eqb}
-use Rattle.std.specs.Prelude.{slice_get, sum_by, not, is_some}
+use Rattle.std.specs.Prelude.{slice_get, sum_by, not, is_some, replicate}
+use Rattle.std.specs.List.{sum}
 use Rattle.std.specs.Ordering.{nat_cmp}
 use Rattle.std.specs.Option.{option_map}
 use Rattle.std.specs.FinMap.{get, empty, get-empty}
 use Rattle.std.proofs.lemmas.Bool.{false≢true, and_parts}
 use Rattle.std.proofs.lemmas.List.Sums.{sum_by-cons}
+use Rattle.std.proofs.lemmas.List.{length-append, length-replicate}
 use Rattle.std.specs.Cmp.Lexicographic.{slice_cmp}
 use Rattle.module_lock.specs.Cycles.{IsAcyclic}
 use Rattle.module_lock.specs.declared.locks.Lock.{Lock}
@@ -121,3 +123,12 @@ module _ (scripts texts path : List (List ℕ)) (rounds : List ℕ) where
 
 pub always : (scripts texts path : List (List ℕ)) (rounds : List ℕ) (es : List Entry) → length texts ≤ length scripts → length (round_starts 0 rounds) ≤ 16 → IsLegal (opening scripts texts path rounds) es → IsSound (replay (opening scripts texts path rounds) es)
 always scripts texts path rounds es enough few h = sound_after (opening scripts texts path rounds) es (sound_opening scripts texts path rounds enough few) h
+
+-- there are as many threads as the rounds have in all
+pub rounds_long : (k : ℕ) (sizes : List ℕ) → length (round_starts k sizes) ≡ sum sizes
+rounds_long k [] = refl
+rounds_long k (size ∷ sizes) =
+    length-append (replicate size k) (round_starts (k + size) sizes)
+    ∙ ap (λ n. n + length (round_starts (k + size) sizes)) (length-replicate size k)
+    ∙ ap (λ n. size + n) (rounds_long (k + size) sizes)
+    ∙ sym (sum_by-cons (λ x. x) size sizes)

@@ -4,6 +4,8 @@
 
 mod laws;
 mod machine;
+#[cfg(test)]
+mod tests;
 
 pub use laws::{
     always_sound, cycle_would_close, initialising_is_own, loads_go_on, someone_goes_on,
