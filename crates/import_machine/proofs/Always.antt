@@ -14,12 +14,15 @@ use Rattle.machine_state.specs.Opening.{round_starts}
 use Rattle.machine_state.specs.Parts.{is_initialising}
 use Rattle.machine_state.specs.Legal.{IsLegal, replay}
 use Rattle.import_machine.specs.Sound.{IsSound}
-use Rattle.import_machine.specs.Answered.{IsOwn, IsInFirstRound, SomeoneGoesOn, GoOn}
+use Rattle.import_machine.specs.Answered.{IsOwn, IsInFirstRound, SomeoneGoesOn, GoOn, HasOneLoad}
 use Rattle.import_machine.specs.Begun.{Begun, first}
 use Rattle.import_machine.proofs.First.{always, sound_opening, rounds_long}
 use Rattle.import_machine.proofs.Replies.{asked_own, taken_own, asked_cycle, taken_cycle}
 use Rattle.import_machine.proofs.Going.{goes_after, same_rounds}
 use Rattle.import_machine.proofs.Chain.{someone}
+use Rattle.import_machine.proofs.OneLoad.{one_open, one_resting}
+use Rattle.module_table.specs.declared.module.LoadStage.TheVariants as stages
+use Rattle.module_table.specs.declared.module.Phase.TheVariants as phases
 
 pub sound_first : (b : Begun) → IsSound (first b)
 sound_first b =
@@ -58,3 +61,9 @@ loads_always b history more legal on = goes_after (replay (first b) history) mor
 
 pub someone_always : (b : Begun) (history : List Entry) → IsLegal (first b) history → (t start : ℕ) → IsInFirstRound (replay (first b) history) t start → SomeoneGoesOn (replay (first b) history) start
 someone_always b history legal t start front = someone (replay (first b) history) b.rounds (same_rounds (first b) history (sound_first b) legal) (sound_always b history legal) t start front
+
+pub open_always : (b : Begun) (history : List Entry) → IsLegal (first b) history → (mid : ℕ) (o : Object) → slice_get (replay (first b) history).table.objects mid ≡ Some o → o.phase ≡ phases.Initialising → HasOneLoad (replay (first b) history) mid stages.Open
+open_always b history legal mid o is phase = one_open (replay (first b) history) (sound_always b history legal) mid o is phase
+
+pub resting_always : (b : Begun) (history : List Entry) → IsLegal (first b) history → (mid : ℕ) (o : Object) → slice_get (replay (first b) history).table.objects mid ≡ Some o → o.phase ≡ phases.Lazy → HasOneLoad (replay (first b) history) mid stages.Resting
+resting_always b history legal mid o is phase = one_resting (replay (first b) history) (sound_always b history legal) mid o is phase

@@ -67,11 +67,12 @@ module _ (scripts texts path : List (List ℕ)) (rounds : List ℕ) where
       let less = within (script_loads 0 texts) i at.0 at.1 in
       let long = loads_length 0 texts in
       let mid : at.0.mid ≡ 0 + i = ap (λ (z : Load). z.mid) load.1 in
-      let same : at.0.mid ≡ l.mid = ap (λ (z : Body). z.mid) at.2 in
-      (sym (ap (λ (z : Body). z.kind) at.2) ∙ ap (λ (z : Load). z.kind) load.1,
-       sym (ap (λ (z : Body). z.stage) at.2) ∙ ap (λ (z : Load). z.stage) load.1,
-       omega arith,
-       omega arith)
+      let same : at.0.mid ≡ l.mid = ap (λ (z : Body). z.mid) at.2 in (
+        sym (ap (λ (z : Body). z.kind) at.2) ∙ ap (λ (z : Load). z.kind) load.1,
+        sym (ap (λ (z : Body). z.stage) at.2) ∙ ap (λ (z : Load). z.stage) load.1,
+        omega arith,
+        omega arith,
+      )
 
   all_ready : (mid : ℕ) (m : Module) → slice_get (bones first).modules mid ≡ Some m → m.phase ≡ phases.Ready
   all_ready mid m is =
@@ -100,9 +101,9 @@ module _ (scripts texts path : List (List ℕ)) (rounds : List ℕ) where
     acyclic = acyclic-empty;
     covered = λ t n. let none : opens (bones first) t n ≡ 0 = no_counts (λ x. bit (counts_in (bones first) t n x)) (bones first).bodies (λ i l is. uncounted t n l (main_loads i l is).0) in omega arith;
     bodies = λ i l is.
-      let main = main_loads i l is in
-      let m = there i (omega arith) in
-      (m.0, ap (slice_get (bones first).modules) main.2 ∙ m.1, fits_main i l m.0 main.0 main.1);
+        let main = main_loads i l is in
+        let m = there i (omega arith) in
+        (m.0, ap (slice_get (bones first).modules) main.2 ∙ m.1, fits_main i l m.0 main.0 main.1);
     modules = λ mid m is. subst (FitsPhase (bones first) mid m) (sym (all_ready mid m is)) tt;
     reloads = λ n r h. let e = sym (get-empty (slice_cmp nat_cmp) n) ∙ h in cc;
     owners = λ n t h. let e = sym (ap (option_map (λ (lock : Lock). lock.owner)) (get-empty (slice_cmp nat_cmp) n)) ∙ h in cc;
@@ -118,6 +119,7 @@ module _ (scripts texts path : List (List ℕ)) (rounds : List ℕ) where
                 absurd (false≢true (sym (ap (λ k. not (is_main k)) kind) ∙ main.1))
             | false ↦ λ p. refl
           ] refl
+
       fits_main : (i : ℕ) (l : Body) (m : Module) → l.kind ≡ load_kinds.Main → l.stage ≡ stages.Open → FitsKind i l m l.kind
       fits_main i l m kind stage = subst (FitsKind i l m) (sym kind) (subst Begins (sym stage) tt)
 

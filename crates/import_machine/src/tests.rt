@@ -4,33 +4,10 @@ ghost use Rattle.std.specs.Prelude.{◌≡◌, ◌≤◌, [], ◌∷◌, length,
 use crate::Machine;
 use base_types::{NoMemory, Seq, Text, Texts};
 use machine_events::{Event, Outcome, Reply, Slot};
-use py_value::{ModRef, Value};
+use py_value::Value;
 use spec_core::{Dotted, Spec, SpecKind};
 use std::alloc::Global;
-use std::process::Abort;
 use std::test::Fail;
-
-/// One event of a schedule. Modules and loads go by their numbers.
-#[derive(Clone, Copy)]
-enum Move {
-    Ask(&'static str),
-    Take(&'static str),
-    Wake,
-    Add(&'static str),
-    Finish(u32, bool),
-    Release(&'static str),
-    Get(u32, &'static str),
-    Set(u32, &'static str),
-    Del(u32, &'static str),
-    TabSet(&'static str),
-    TabDel(&'static str),
-    Reload(u32),
-    ReloadTake(u32, &'static str),
-    ReloadEnd(u32, Option<u32>),
-    AddLazy(&'static str),
-    Rouse(u32),
-    End,
-}
 
 fn dotted(alloc: Global, name: &str) -> Result<Dotted, NoMemory> {
     match Dotted::read(&Text::from_str(alloc, name)?)? {
@@ -42,70 +19,142 @@ fn dotted(alloc: Global, name: &str) -> Result<Dotted, NoMemory> {
 fn source(alloc: Global, name: &str) -> Result<Spec, NoMemory> {
     let mut file = Text::from_str(alloc, name)?;
     file.push_str(".py")?;
+    let name = dotted(alloc, name)?;
     Ok(Spec {
-        name: dotted(alloc, name)?,
+        name,
         kind: SpecKind::Source { file },
     })
 }
 
-fn variable_event(alloc: Global, step: Move) -> Result<Event, NoMemory> {
-    Ok(match step {
-        Move::Get(mid, name) => Event::GetVar {
-            mid,
-            name: Text::from_str(alloc, name)?,
+/// An event that names a module.
+fn on_name(kind: &str, name: Dotted) -> Event {
+    if kind == "ask" {
+        return Event::Ask(name);
+    }
+    if kind == "take" {
+        return Event::Take(name);
+    }
+    if kind == "release" {
+        return Event::Release(name);
+    }
+    if kind == "halt" {
+        return Event::TabSet {
+            name,
+            slot: Slot::Halted,
+        };
+    }
+    Event::TabDel(name)
+}
+
+/// An event that makes a module, or loads one again.
+fn of_new(kind: &str, spec: Spec, text: Seq<u8>, mid: u32) -> Event {
+    if kind == "add" {
+        return Event::Add { spec, text };
+    }
+    if kind == "addlazy" {
+        return Event::AddLazy { spec, text };
+    }
+    Event::ReloadTake { mid, spec, text }
+}
+
+/// An event on a module or a load that exists.
+fn on_number(kind: &str, number: u32) -> Event {
+    match kind {
+        "good" => Event::Finish {
+            load: number,
+            good: true,
+        },
+        "bad" => Event::Finish {
+            load: number,
+            good: false,
+        },
+        "reload" => Event::ReloadBegin {
+            mid: number,
             raw: false,
         },
-        Move::Set(mid, name) => Event::SetVar {
-            mid,
-            name: Text::from_str(alloc, name)?,
-            value: Value::Int(7),
-            raw: true,
+        "leave" => Event::ReloadEnd {
+            mid: number,
+            load: None,
         },
-        Move::Del(mid, name) => Event::DelVar {
-            mid,
-            name: Text::from_str(alloc, name)?,
-            raw: true,
-        },
-        Move::TabSet(name) => Event::TabSet {
-            name: dotted(alloc, name)?,
-            slot: Slot::Halted,
-        },
-        Move::TabDel(name) => Event::TabDel(dotted(alloc, name)?),
-        _ => Event::End {
+        "rouse" => Event::Rouse(number),
+        "end" => Event::End {
             outcome: Outcome::Normal,
             spent: 0,
         },
-    })
+        _ => Event::Wake,
+    }
 }
 
-fn event_of(alloc: Global, step: Move) -> Result<Event, NoMemory> {
-    Ok(match step {
-        Move::Ask(name) => Event::Ask(dotted(alloc, name)?),
-        Move::Take(name) => Event::Take(dotted(alloc, name)?),
-        Move::Wake => Event::Wake,
-        Move::Add(name) => Event::Add {
-            spec: source(alloc, name)?,
-            text: Seq::new(alloc),
-        },
-        Move::Finish(load, good) => Event::Finish { load, good },
-        Move::Release(name) => Event::Release(dotted(alloc, name)?),
-        Move::Reload(mid) => Event::ReloadBegin { mid, raw: false },
-        Move::ReloadTake(mid, name) => Event::ReloadTake {
+/// An event on a variable.
+fn on_variable(kind: &str, mid: u32, name: Text) -> Event {
+    if kind == "get" {
+        return Event::GetVar {
             mid,
-            spec: source(alloc, name)?,
-            text: Seq::new(alloc),
-        },
-        Move::ReloadEnd(mid, load) => Event::ReloadEnd { mid, load },
-        Move::AddLazy(name) => Event::AddLazy {
-            spec: source(alloc, name)?,
-            text: Seq::new(alloc),
-        },
-        Move::Rouse(mid) => Event::Rouse(mid),
-        other => variable_event(alloc, other)?,
-    })
+            name,
+            raw: false,
+        };
+    }
+    if kind == "set" {
+        return Event::SetVar {
+            mid,
+            name,
+            value: Value::Int(7),
+            raw: true,
+        };
+    }
+    Event::DelVar {
+        mid,
+        name,
+        raw: true,
+    }
 }
 
-fn slot_told(slot: &Slot) -> &str {
+fn event_of(alloc: Global, kind: &str, name: &str, number: u32) -> Result<Event, NoMemory> {
+    match kind {
+        "ask" | "take" | "release" | "halt" | "drop" => Ok(on_name(kind, dotted(alloc, name)?)),
+        "add" | "addlazy" | "again" => {
+            Ok(of_new(kind, source(alloc, name)?, Seq::new(alloc), number))
+        }
+        "get" | "set" | "del" => Ok(on_variable(kind, number, Text::from_str(alloc, name)?)),
+        "done" => Ok(Event::ReloadEnd {
+            mid: number,
+            load: Some(3),
+        }),
+        _ => Ok(on_number(kind, number)),
+    }
+}
+
+/// The word of a reply in the schedules.
+fn word_of(reply: &Reply) -> &'static str {
+    match reply {
+        Reply::Module(_) => "module",
+        Reply::Cycle(_) => "cycle",
+        Reply::Busy(_) => "busy",
+        Reply::Wait(_) => "wait",
+        Reply::Mine(_) => "mine",
+        Reply::Begun(_) => "begun",
+        Reply::Load(_, _) => "load",
+        Reply::Yours(_, _) => "yours",
+        Reply::Kept(_) => "kept",
+        Reply::Was(_) => "was",
+        Reply::Unset(true) => "unset-init",
+        Reply::Unset(false) => "unset",
+        Reply::Halted => "halted",
+        Reply::Missing => "missing",
+        Reply::Deadlock => "deadlock",
+        Reply::Woken => "woken",
+        Reply::Lost => "lost",
+        Reply::Value(_) => "value",
+        Reply::Sleeping => "sleeping",
+        Reply::Fixed => "fixed",
+        Reply::NotThere => "not-there",
+        Reply::Ready => "ready",
+        Reply::Done => "done",
+        _ => "other",
+    }
+}
+
+fn slot_name(slot: &Slot) -> &str {
     match slot {
         Slot::Absent => "absent",
         Slot::Halted => "halted",
@@ -113,41 +162,14 @@ fn slot_told(slot: &Slot) -> &str {
     }
 }
 
-fn word_of(reply: &Reply) -> &'static str {
+/// The name in a reply, where it has one.
+fn name_in(reply: &Reply) -> &str {
     match reply {
-        Reply::Unset(true) => "unset init",
-        Reply::Unset(false) => "unset",
-        Reply::Halted => "halted",
-        Reply::Missing => "missing",
-        Reply::Deadlock => "deadlock",
-        Reply::Woken => "woken",
-        Reply::Lost => "lost",
-        Reply::LostParent => "lost parent",
-        Reply::Value(_) => "value",
-        Reply::Sleeping => "sleeping",
-        Reply::Fixed => "fixed",
-        Reply::NotThere => "not there",
-        Reply::Ready => "ready",
-        Reply::Done => "done",
-        _ => "other",
+        Reply::Module(module) | Reply::Cycle(module) | Reply::Busy(module) => module.name.as_str(),
+        Reply::Wait(name) => name.text(),
+        Reply::Kept(slot) | Reply::Was(slot) => slot_name(slot),
+        _ => "-",
     }
-}
-
-/// A reply in the words of the schedules.
-fn told(alloc: Global, reply: &Reply) -> Result<String, Fail> {
-    Ok(match reply {
-        Reply::Module(module) => format!(in alloc; "module {}", module.name.as_str())?,
-        Reply::Cycle(module) => format!(in alloc; "cycle {}", module.name.as_str())?,
-        Reply::Busy(module) => format!(in alloc; "busy {}", module.name.as_str())?,
-        Reply::Wait(name) => format!(in alloc; "wait {}", name.text())?,
-        Reply::Mine(epoch) => format!(in alloc; "mine {epoch}")?,
-        Reply::Begun(epoch) => format!(in alloc; "begun {epoch}")?,
-        Reply::Load(load, mid) => format!(in alloc; "load {load} {mid}")?,
-        Reply::Yours(load, _) => format!(in alloc; "yours {load}")?,
-        Reply::Kept(slot) => format!(in alloc; "kept {}", slot_told(slot))?,
-        Reply::Was(slot) => format!(in alloc; "was {}", slot_told(slot))?,
-        other => String::from_str(alloc, word_of(other))?,
-    })
 }
 
 /// So many scripts of one name.
@@ -187,217 +209,263 @@ fn two_rounds(alloc: Global) -> Result<Machine, NoMemory> {
     Machine::new(&names, &texts, &Texts::new(alloc), &[1, 1])
 }
 
-/// What the thread is answered, or that it may not make the event.
-fn answer(alloc: Global, machine: &mut Machine, thread: u32, step: Move) -> Result<String, Fail> {
-    let event = event_of(alloc, step)?;
-    if !machine.allowed(thread, &event) {
-        return Ok(String::from_str(alloc, "no")?);
-    }
-    let reply = machine.step(thread, event)?;
-    told(alloc, &reply)
+/// What a line of a schedule asks of a machine.
+#[derive(Drop)]
+struct Line<'a> {
+    thread: u32,
+    kind: &'a str,
+    name: &'a str,
+    number: u32,
+    word: &'a str,
+    told: &'a str,
 }
 
-fn follow(
-    rt: &impl Abort,
+fn number_of(word: &str) -> u32 {
+    match word.parse::<u32>() {
+        Ok(number) => number,
+        Err(_) => 0,
+    }
+}
+
+/// A line: the thread, the event with its name and number, and the answer's word and name, with dashes
+/// for what there is none of.
+fn line_of(line: &str) -> Line<'_> {
+    let mut words = line.trim().split(' ');
+    Line {
+        thread: number_of(words.next().unwrap_or("")),
+        kind: words.next().unwrap_or(""),
+        name: words.next().unwrap_or(""),
+        number: number_of(words.next().unwrap_or("")),
+        word: words.next().unwrap_or(""),
+        told: words.next().unwrap_or(""),
+    }
+}
+
+/// Whether the thread is answered as the line says; "no" where it may not make the event.
+fn is_answered(alloc: Global, machine: &mut Machine, line: &Line<'_>) -> Result<bool, NoMemory> {
+    let event = event_of(alloc, line.kind, line.name, line.number)?;
+    if !machine.allowed(line.thread, &event) {
+        return Ok(line.word == "no");
+    }
+    let reply = machine.step(line.thread, event)?;
+    Ok(word_of(&reply) == line.word && name_in(&reply) == line.told)
+}
+
+/// The number of the first line of a schedule that is answered otherwise.
+fn first_other(
     alloc: Global,
-    title: &str,
     mut machine: Machine,
-    schedule: &[(u32, Move, &str)],
-) -> Result<(), Fail> {
-    for (n, step) in schedule.iter().enumerate() {
-        let got = answer(alloc, &mut machine, step.0, step.1)?;
-        assert_eq!(rt; got.as_str(), step.2, "{title}, step {n}");
+    schedule: &str,
+) -> Result<Option<usize>, NoMemory> {
+    for (n, line) in schedule.trim().lines().enumerate() {
+        if !is_answered(alloc, &mut machine, &line_of(line))? {
+            return Ok(Some(n));
+        }
     }
-    Ok(())
+    Ok(None)
 }
 
-#[test]
-fn threads_that_meet_in_a_circle_wait_but_for_the_last(rt: HostRuntime) -> Result<(), Fail> {
-    let alloc = rt.alloc();
-    let two: [(u32, Move, &str); 11] = [
-        (0, Move::Ask("a"), "missing"),
-        (0, Move::Take("a"), "mine 0"),
-        (0, Move::Add("a"), "load 2 5"),
-        (1, Move::Take("b"), "mine 0"),
-        (1, Move::Add("b"), "load 3 6"),
-        (0, Move::Ask("b"), "wait b"),
-        (1, Move::Ask("a"), "cycle a"),
-        (1, Move::Finish(3, true), "kept b"),
-        (0, Move::Wake, "woken"),
-        (0, Move::Ask("b"), "module b"),
-        (0, Move::Finish(2, true), "kept a"),
-    ];
-    follow(&rt, alloc, "two in a circle", machine(alloc, 2)?, &two)?;
-    let three: [(u32, Move, &str); 13] = [
-        (0, Move::Take("a"), "mine 0"),
-        (0, Move::Add("a"), "load 3 6"),
-        (1, Move::Take("b"), "mine 0"),
-        (1, Move::Add("b"), "load 4 7"),
-        (2, Move::Take("c"), "mine 0"),
-        (2, Move::Add("c"), "load 5 8"),
-        (0, Move::Ask("b"), "wait b"),
-        (1, Move::Ask("c"), "wait c"),
-        (2, Move::Ask("a"), "cycle a"),
-        (2, Move::Finish(5, true), "kept c"),
-        (1, Move::Wake, "woken"),
-        (1, Move::Finish(4, true), "kept b"),
-        (0, Move::Wake, "woken"),
-    ];
-    follow(&rt, alloc, "three in a ring", machine(alloc, 3)?, &three)?;
-    let take: [(u32, Move, &str); 7] = [
-        (0, Move::Take("a"), "mine 0"),
-        (1, Move::Take("b"), "mine 0"),
-        (0, Move::Take("b"), "wait b"),
-        (1, Move::Take("a"), "deadlock"),
-        (1, Move::Release("b"), "done"),
-        (0, Move::Wake, "woken"),
-        (0, Move::Take("b"), "mine 0"),
-    ];
-    follow(&rt, alloc, "a ring through Take", machine(alloc, 2)?, &take)
-}
+const CIRCLE_OF_TWO: &str = "
+    0 ask a - missing -
+    0 take a - mine -
+    0 add a - load -
+    1 take b - mine -
+    1 add b - load -
+    0 ask b - wait b
+    1 ask a - cycle a
+    1 good - 3 kept b
+    0 wake - - woken -
+    0 ask b - module b
+    0 good - 2 kept a
+";
+
+const RING_OF_THREE: &str = "
+    0 take a - mine -
+    0 add a - load -
+    1 take b - mine -
+    1 add b - load -
+    2 take c - mine -
+    2 add c - load -
+    0 ask b - wait b
+    1 ask c - wait c
+    2 ask a - cycle a
+    2 good - 5 kept c
+    1 wake - - woken -
+    1 good - 4 kept b
+    0 wake - - woken -
+";
+
+const RING_THROUGH_TAKE: &str = "
+    0 take a - mine -
+    1 take b - mine -
+    0 take b - wait b
+    1 take a - deadlock -
+    1 release b - done -
+    0 wake - - woken -
+    0 take b - mine -
+";
+
+const FAILED_LOAD: &str = "
+    0 take a - mine -
+    0 add a - load -
+    1 ask a - wait a
+    1 wake - - no -
+    0 bad - 2 kept absent
+    1 wake - - woken -
+    1 ask a - missing -
+    1 take a - mine -
+    1 add a - load -
+";
+
+const DELETED_ENTRY: &str = "
+    0 take a - mine -
+    0 add a - load -
+    0 drop a - was a
+    1 take b - mine -
+    1 add b - load -
+    0 ask b - wait b
+    1 ask a - deadlock -
+    1 bad - 3 kept absent
+    1 end - - done -
+    0 wake - - woken -
+";
+
+const LOCK_TAKEN_TWICE: &str = "
+    0 take a - mine -
+    0 add a - load -
+    0 drop a - was a
+    0 take a - mine -
+    1 ask a - wait a
+    0 add a - load -
+    0 good - 3 kept a
+    1 wake - - no -
+    0 good - 2 kept a
+    1 wake - - woken -
+";
+
+const TWO_LAZY_READERS: &str = "
+    0 take a - mine -
+    0 addlazy a - module a
+    1 get x 5 sleeping -
+    0 rouse - 5 yours -
+    1 get x 5 sleeping -
+    1 rouse - 5 wait a
+    0 get x 5 unset-init -
+    0 good - 2 kept a
+    1 wake - - woken -
+    1 rouse - 5 ready -
+    1 get x 5 unset -
+";
+
+const RELOAD: &str = "
+    0 take a - mine -
+    0 add a - load -
+    0 good - 2 kept a
+    0 set keep 5 done -
+    0 reload - 5 begun -
+    1 reload - 5 busy a
+    0 again a 5 load -
+    0 get keep 5 value -
+    0 done - 5 kept a
+";
+
+const RELOAD_AGAINST_A_LOADER: &str = "
+    0 take a - mine -
+    0 add a - load -
+    0 good - 2 kept a
+    0 reload - 5 begun -
+    1 drop a - was a
+    1 take a - mine -
+    0 again a 5 wait a
+    1 add a - load -
+    1 good - 3 kept a
+    0 wake - - woken -
+    0 again a 5 not-there -
+    0 leave - 5 done -
+";
+
+const PARENTS_AND_FIXED_MODULES: &str = "
+    0 take p - mine -
+    0 add p - load -
+    0 good - 1 kept p
+    0 take p.c - mine -
+    0 add p.c - load -
+    0 get c 4 unset -
+    0 good - 2 kept p.c
+    0 get c 4 value -
+    0 del c 4 done -
+    0 del c 4 unset -
+    0 set path 1 fixed -
+    0 drop sys - fixed -
+    0 halt p - done -
+    0 ask p - halted -
+";
+
+const SECOND_ROUND: &str = "
+    1 ask a - no -
+    0 take a - mine -
+    0 end - - no -
+    0 release a - done -
+    0 end - - done -
+    1 ask a - missing -
+";
+
+// Each thread takes and adds a module of its own; then all but the last wait for the next one's.
+const RING_OF_SIXTEEN: &str = "
+    0 take a - mine -
+    1 take b - mine -
+    2 take c - mine -
+    3 take d - mine -
+    4 take e - mine -
+    5 take f - mine -
+    6 take g - mine -
+    7 take h - mine -
+    8 take i - mine -
+    9 take j - mine -
+    10 take k - mine -
+    11 take l - mine -
+    12 take m - mine -
+    13 take n - mine -
+    14 take o - mine -
+    15 take p - mine -
+    15 add p - load -
+    0 add a - load -
+    0 ask b - wait b
+    1 ask c - wait c
+    2 ask d - wait d
+    3 ask e - wait e
+    4 ask f - wait f
+    5 ask g - wait g
+    6 ask h - wait h
+    7 ask i - wait i
+    8 ask j - wait j
+    9 ask k - wait k
+    10 ask l - wait l
+    11 ask m - wait m
+    12 ask n - wait n
+    13 ask o - wait o
+    14 ask p - wait p
+    15 ask a - cycle a
+";
 
 #[test]
-fn a_waiter_goes_on_when_the_load_has_failed(rt: HostRuntime) -> Result<(), Fail> {
+fn schedules_are_answered_as_their_tables_say(rt: HostRuntime) -> Result<(), Fail> {
     let alloc = rt.alloc();
-    let failed: [(u32, Move, &str); 9] = [
-        (0, Move::Take("a"), "mine 0"),
-        (0, Move::Add("a"), "load 2 5"),
-        (1, Move::Ask("a"), "wait a"),
-        (1, Move::Wake, "no"),
-        (0, Move::Finish(2, false), "kept absent"),
-        (1, Move::Wake, "woken"),
-        (1, Move::Ask("a"), "missing"),
-        (1, Move::Take("a"), "mine 0"),
-        (1, Move::Add("a"), "load 3 6"),
-    ];
-    follow(&rt, alloc, "a failed load", machine(alloc, 2)?, &failed)?;
-    let deleted: [(u32, Move, &str); 10] = [
-        (0, Move::Take("a"), "mine 0"),
-        (0, Move::Add("a"), "load 2 5"),
-        (0, Move::TabDel("a"), "was a"),
-        (1, Move::Take("b"), "mine 0"),
-        (1, Move::Add("b"), "load 3 6"),
-        (0, Move::Ask("b"), "wait b"),
-        (1, Move::Ask("a"), "deadlock"),
-        (1, Move::Finish(3, false), "kept absent"),
-        (1, Move::End, "done"),
-        (0, Move::Wake, "woken"),
-    ];
-    follow(&rt, alloc, "a deleted entry", machine(alloc, 2)?, &deleted)?;
-    let again: [(u32, Move, &str); 10] = [
-        (0, Move::Take("a"), "mine 0"),
-        (0, Move::Add("a"), "load 2 5"),
-        (0, Move::TabDel("a"), "was a"),
-        (0, Move::Take("a"), "mine 0"),
-        (1, Move::Ask("a"), "wait a"),
-        (0, Move::Add("a"), "load 3 6"),
-        (0, Move::Finish(3, true), "kept a"),
-        (1, Move::Wake, "no"),
-        (0, Move::Finish(2, true), "kept a"),
-        (1, Move::Wake, "woken"),
-    ];
-    follow(&rt, alloc, "a lock taken twice", machine(alloc, 2)?, &again)
-}
-
-#[test]
-fn lazy_modules_and_reloads_against_other_threads(rt: HostRuntime) -> Result<(), Fail> {
-    let alloc = rt.alloc();
-    let readers: [(u32, Move, &str); 11] = [
-        (0, Move::Take("a"), "mine 0"),
-        (0, Move::AddLazy("a"), "module a"),
-        (1, Move::Get(5, "x"), "sleeping"),
-        (0, Move::Rouse(5), "yours 2"),
-        (1, Move::Get(5, "x"), "sleeping"),
-        (1, Move::Rouse(5), "wait a"),
-        (0, Move::Get(5, "x"), "unset init"),
-        (0, Move::Finish(2, true), "kept a"),
-        (1, Move::Wake, "woken"),
-        (1, Move::Rouse(5), "ready"),
-        (1, Move::Get(5, "x"), "unset"),
-    ];
-    follow(&rt, alloc, "two lazy readers", machine(alloc, 2)?, &readers)?;
-    let kept: [(u32, Move, &str); 9] = [
-        (0, Move::Take("a"), "mine 0"),
-        (0, Move::Add("a"), "load 2 5"),
-        (0, Move::Finish(2, true), "kept a"),
-        (0, Move::Set(5, "keep"), "done"),
-        (0, Move::Reload(5), "begun 0"),
-        (1, Move::Reload(5), "busy a"),
-        (0, Move::ReloadTake(5, "a"), "load 3 5"),
-        (0, Move::Get(5, "keep"), "value"),
-        (0, Move::ReloadEnd(5, Some(3)), "kept a"),
-    ];
-    follow(&rt, alloc, "a reload", machine(alloc, 2)?, &kept)?;
-    let loader: [(u32, Move, &str); 12] = [
-        (0, Move::Take("a"), "mine 0"),
-        (0, Move::Add("a"), "load 2 5"),
-        (0, Move::Finish(2, true), "kept a"),
-        (0, Move::Reload(5), "begun 0"),
-        (1, Move::TabDel("a"), "was a"),
-        (1, Move::Take("a"), "mine 0"),
-        (0, Move::ReloadTake(5, "a"), "wait a"),
-        (1, Move::Add("a"), "load 3 6"),
-        (1, Move::Finish(3, true), "kept a"),
-        (0, Move::Wake, "woken"),
-        (0, Move::ReloadTake(5, "a"), "not there"),
-        (0, Move::ReloadEnd(5, None), "done"),
-    ];
-    follow(&rt, alloc, "a reload against a loader", machine(alloc, 2)?, &loader)
-}
-
-#[test]
-fn rounds_parents_and_fixed_modules(rt: HostRuntime) -> Result<(), Fail> {
-    let alloc = rt.alloc();
-    let rounds: [(u32, Move, &str); 6] = [
-        (1, Move::Ask("a"), "no"),
-        (0, Move::Take("a"), "mine 0"),
-        (0, Move::End, "no"),
-        (0, Move::Release("a"), "done"),
-        (0, Move::End, "done"),
-        (1, Move::Ask("a"), "missing"),
-    ];
-    follow(&rt, alloc, "a round that may not begin", two_rounds(alloc)?, &rounds)?;
-    let others: [(u32, Move, &str); 14] = [
-        (0, Move::Take("p"), "mine 0"),
-        (0, Move::Add("p"), "load 1 4"),
-        (0, Move::Finish(1, true), "kept p"),
-        (0, Move::Take("p.c"), "mine 0"),
-        (0, Move::Add("p.c"), "load 2 5"),
-        (0, Move::Get(4, "c"), "unset"),
-        (0, Move::Finish(2, true), "kept p.c"),
-        (0, Move::Get(4, "c"), "value"),
-        (0, Move::Del(4, "c"), "done"),
-        (0, Move::Del(4, "c"), "unset"),
-        (0, Move::Set(1, "path"), "fixed"),
-        (0, Move::TabDel("sys"), "fixed"),
-        (0, Move::TabSet("p"), "done"),
-        (0, Move::Ask("p"), "halted"),
-    ];
-    follow(&rt, alloc, "parents and fixed modules", machine(alloc, 1)?, &others)
-}
-
-/// All but the last of sixteen threads wait, each for the next one's module; the last would close the
-/// ring.
-#[test]
-fn a_ring_of_sixteen(rt: HostRuntime) -> Result<(), Fail> {
-    let alloc = rt.alloc();
-    let names = [
-        "a", "b", "c", "d", "e", "f", "g", "h", "i", "j", "k", "l", "m", "n", "o", "p",
-    ];
-    let mut machine = machine(alloc, 16)?;
-    for (thread, name) in names.iter().enumerate() {
-        let thread = thread as u32;
-        let took = answer(alloc, &mut machine, thread, Move::Take(name))?;
-        assert_eq!(&rt; took.as_str(), "mine 0");
-        let _load = answer(alloc, &mut machine, thread, Move::Add(name))?;
+    for schedule in [
+        CIRCLE_OF_TWO,
+        RING_THROUGH_TAKE,
+        FAILED_LOAD,
+        DELETED_ENTRY,
+        LOCK_TAKEN_TWICE,
+        TWO_LAZY_READERS,
+        RELOAD,
+        RELOAD_AGAINST_A_LOADER,
+    ] {
+        assert_eq!(&rt; first_other(alloc, machine(alloc, 2)?, schedule)?, None, "{schedule}");
     }
-    for thread in 0..15_u32 {
-        let next = names[thread as usize + 1];
-        let asked = answer(alloc, &mut machine, thread, Move::Ask(next))?;
-        let wanted = format!(in alloc; "wait {next}")?;
-        assert_eq!(&rt; asked.as_str(), wanted.as_str(), "thread {thread}");
-    }
-    let last = answer(alloc, &mut machine, 15, Move::Ask("a"))?;
-    assert_eq!(&rt; last.as_str(), "cycle a");
+    assert_eq!(&rt; first_other(alloc, machine(alloc, 3)?, RING_OF_THREE)?, None);
+    assert_eq!(&rt; first_other(alloc, machine(alloc, 1)?, PARENTS_AND_FIXED_MODULES)?, None);
+    assert_eq!(&rt; first_other(alloc, two_rounds(alloc)?, SECOND_ROUND)?, None);
+    assert_eq!(&rt; first_other(alloc, machine(alloc, 16)?, RING_OF_SIXTEEN)?, None);
     Ok(())
 }
