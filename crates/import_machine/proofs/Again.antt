@@ -119,10 +119,15 @@ module _ (b : Bones) (sound : AreSound b) where
         | inr other ↦ sound.bodies j l other.1
       ];
       modules = λ mid k h. more_phase b done_again mid k k.phase
-        (λ has. (has.0, has.1, has.2,
-          set_elsewhere b.bodies i has.0 ended_body (λ e. false≢true (let f : Some has.1 ≡ Some reload_body = sym has.3 ∙ ap (slice_get b.bodies) e ∙ reload_there in let g : has.1 ≡ reload_body = cc in ap (λ (z : Body). is_imported z.kind) (sym g) ∙ has.5)) ∙ has.3,
-          has.4, has.5))
-        (sound.modules mid k h);
+          (λ has. (
+            has.0,
+            has.1,
+            has.2,
+            set_elsewhere b.bodies i has.0 ended_body (λ e. false≢true (let f : Some has.1 ≡ Some reload_body = sym has.3 ∙ ap (slice_get b.bodies) e ∙ reload_there in let g : has.1 ≡ reload_body = cc in ap (λ (z : Body). is_imported z.kind) (sym g) ∙ has.5)) ∙ has.3,
+            has.4,
+            has.5,
+          ))
+          (sound.modules mid k h);
       reloads = reloads_done;
       owners = λ k u h. let o = sound.owners k u h in record { first = o.first; round = o.round; going = o.going; earlier = o.earlier };
       alive = λ j l h opened kind. elim (set_at b.bodies i j ended_body l h) [
@@ -156,5 +161,6 @@ module _ (b : Bones) (sound : AreSound b) where
             | true ↦ λ p. absurd (other (same_number u t p))
             | false ↦ λ p. h
           ] refl)
+
       more : (v : ℕ) → is_some (get b.ended v) ≡ true → is_some (get (insert b.ended t tt) v) ≡ true
       more v h = rw (get-insert nat_cmp_total b.ended t tt v) (elim (eq_by_cmp nat_cmp v t) as (λ c. is_some (cond c (Some tt) (get b.ended v)) ≡ true) [ true ↦ refl | false ↦ h ])

@@ -118,9 +118,9 @@ one_round k (size ∷ sizes) i j f g at_i at_j low high =
           let past = ltb-false i size p in
           let past_j : size ≤ j = omega arith in
           one_round (k + size) sizes (i - size) (j - size) f g
-            (sym (in_rest size k (round_starts (k + size) sizes) i past) ∙ at_i)
-            (sym (in_rest size k (round_starts (k + size) sizes) j past_j) ∙ at_j)
-            (omega arith) (omega arith)
+          (sym (in_rest size k (round_starts (k + size) sizes) i past) ∙ at_i)
+          (sym (in_rest size k (round_starts (k + size) sizes) j past_j) ∙ at_j)
+          (omega arith) (omega arith)
     ] refl
 
 -- where a thread of the first round that goes on has not ended, someone of that round can go on

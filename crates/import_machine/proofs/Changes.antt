@@ -62,14 +62,13 @@ more_load b c r (Some i) h fits = h i _ fits refl
 module _ (b : Bones) (sound : AreSound b) where
   -- the next module, with its load; where the load is open, the thread has taken the lock once more than needed
   module _ (t : ℕ) (n : List ℕ) (kind : LoadKind) (stage : LoadStage) (imported : is_imported kind ≡ true) (going : is_some (get b.ended t) ≡ false) where
-
     -- the old loads count as before, and the new one at this thread and name alone
     pub opens_made : (u : ℕ) (m : List ℕ) → opens (made b t n (phase_of stage) kind stage) u m ≡ opens b u m + bit (counts_in (made b t n (phase_of stage) kind stage) u m (record { kind = kind; thread = t; mid = length b.modules; stage = stage }))
     opens_made u m =
         let more : List Module = b.modules ++ record { name = n; phase = phase_of stage; load = Some (length b.bodies) } ∷ [] in
         opens_push (record b { modules = more }) (record { kind = kind; thread = t; mid = length b.modules; stage = stage }) u m
         ∙ ap (λ k. k + bit (counts_in (made b t n (phase_of stage) kind stage) u m (record { kind = kind; thread = t; mid = length b.modules; stage = stage })))
-          (renamed b more (λ i l is k. let old = sound.bodies i l is in ap (λ o. is_named o k) (pushed_keeps b.modules _ l.mid old.0 old.1 ∙ sym old.1)) u m)
+        (renamed b more (λ i l is k. let old = sound.bodies i l is in ap (λ o. is_named o k) (pushed_keeps b.modules _ l.mid old.0 old.1 ∙ sym old.1)) u m)
 
     -- what holds of the new list of loads and modules beside the counts
     pub bodies_made : (i : ℕ) (l : Body) → slice_get (b.bodies ++ record { kind = kind; thread = t; mid = length b.modules; stage = stage } ∷ []) i ≡ Some l → FitsModule (made b t n (phase_of stage) kind stage) i l
@@ -100,7 +99,7 @@ module _ (b : Bones) (sound : AreSound b) where
       bodies = bodies_made;
       modules = modules_made;
       reloads = λ k r h. let old = sound.reloads k r h in
-        (old.0, pushed_keeps b.modules _ r.mid old.0 old.1, old.2, more_load b (made b t n (phase_of stage) kind stage) r r.load (λ i l is _. pushed_keeps b.bodies _ i l is) old.3);
+          (old.0, pushed_keeps b.modules _ r.mid old.0 old.1, old.2, more_load b (made b t n (phase_of stage) kind stage) r r.load (λ i l is _. pushed_keeps b.bodies _ i l is) old.3);
       owners = λ m u h. let r = sound.owners m u h in record { first = r.first; round = r.round; going = r.going; earlier = r.earlier };
       alive = λ i l is opened kind_is. elim (pushed_at b.bodies _ i l is) [
         | inl old ↦ sound.alive i l old opened kind_is

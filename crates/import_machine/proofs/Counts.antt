@@ -50,7 +50,7 @@ module _ (b : Bones) where
   counts_there l m is opened kind =
       let named : is_named (slice_get b.modules l.mid) m.name ≡ true = ap (λ o. is_named o m.name) is ∙ nat_list_eq_equiv.refl m.name in
       and_from (is_open l.stage && (l.thread == l.thread) && not (is_main l.kind)) (is_named (slice_get b.modules l.mid) m.name)
-        (and_from (is_open l.stage && (l.thread == l.thread)) (not (is_main l.kind)) (and_from (is_open l.stage) (l.thread == l.thread) opened (eq-eqb l.thread l.thread refl)) (ap not kind)) named
+      (and_from (is_open l.stage && (l.thread == l.thread)) (not (is_main l.kind)) (and_from (is_open l.stage) (l.thread == l.thread) opened (eq-eqb l.thread l.thread refl)) (ap not kind)) named
 
   one_for : (u : ℕ) (n : List ℕ) (x : Body) → counts_in b u n x ≡ true → bit (counts_in b u n x) ≡ 1
   one_for u n x h = ap bit h
@@ -70,7 +70,7 @@ module _ (b : Bones) where
       → (u : ℕ) (n : List ℕ) → opens (record b { modules = modules }) u n ≡ opens b u n
   renamed modules h u n =
       same_sum (λ x. bit (counts_in (record b { modules = modules }) u n x)) (λ x. bit (counts_in b u n x)) b.bodies
-        (λ i l is. ap (λ c. bit ((is_open l.stage && (l.thread == u) && not (is_main l.kind)) && c)) (h i l is n))
+      (λ i l is. ap (λ c. bit ((is_open l.stage && (l.thread == u) && not (is_main l.kind)) && c)) (h i l is n))
 
   pub opens_push : (l : Body) (u : ℕ) (n : List ℕ) → opens (record b { bodies = b.bodies ++ l ∷ [] }) u n ≡ opens b u n + bit (counts_in b u n l)
   opens_push l u n = push_sum (λ x. bit (counts_in b u n x)) b.bodies l

@@ -69,7 +69,7 @@ module _ (b : Bones) (sound : AreSound b) where
     few = sound.few;
     acyclic = acyclic-given b.locks sound.acyclic t n;
     covered = at_or_elsewhere (λ u m. opens b u m ≤ held (given b.locks t n) u m) t n (let l = held_less b.locks t n in omega arith)
-      (λ u m apart. let e = held_elsewhere b.locks t n u m apart in let c = sound.covered u m in omega arith);
+        (λ u m apart. let e = held_elsewhere b.locks t n u m apart in let c = sound.covered u m in omega arith);
     bodies = sound.bodies;
     modules = sound.modules;
     reloads = sound.reloads;
@@ -86,10 +86,10 @@ module _ (b : Bones) (sound : AreSound b) where
     bodies = sound.bodies;
     modules = sound.modules;
     reloads = λ k q h.
-      elim (same_text k n) as (λ c. same_text k n ≡ c → cond c (Some r) (get b.reloads k) ≡ Some q → FitsReload b k q) [
-        | true ↦ λ p e. let same : r ≡ q = cc in subst (λ z. FitsReload b k z) same (m, is, named ∙ sym (same_name k n p), fits)
-        | false ↦ λ p e. sound.reloads k q e
-      ] refl (sym (get-insert nat_list_cmp_total b.reloads n r k) ∙ h);
+        elim (same_text k n) as (λ c. same_text k n ≡ c → cond c (Some r) (get b.reloads k) ≡ Some q → FitsReload b k q) [
+          | true ↦ λ p e. let same : r ≡ q = cc in subst (λ z. FitsReload b k z) same (m, is, named ∙ sym (same_name k n p), fits)
+          | false ↦ λ p e. sound.reloads k q e
+        ] refl (sym (get-insert nat_list_cmp_total b.reloads n r k) ∙ h);
     owners = λ m u h. let r = sound.owners m u h in record { first = r.first; round = r.round; going = r.going; earlier = r.earlier };
     alive = sound.alive;
   }
@@ -103,10 +103,10 @@ module _ (b : Bones) (sound : AreSound b) where
     bodies = sound.bodies;
     modules = sound.modules;
     reloads = λ k q h.
-      elim (same_text k n) as (λ c. cond c None (get b.reloads k) ≡ Some q → FitsReload b k q) [
-        | true ↦ λ e. cc
-        | false ↦ λ e. sound.reloads k q e
-      ] (sym (get-remove nat_list_cmp_total b.reloads n k) ∙ h);
+        elim (same_text k n) as (λ c. cond c None (get b.reloads k) ≡ Some q → FitsReload b k q) [
+          | true ↦ λ e. cc
+          | false ↦ λ e. sound.reloads k q e
+        ] (sym (get-remove nat_list_cmp_total b.reloads n k) ∙ h);
     owners = λ m u h. let r = sound.owners m u h in record { first = r.first; round = r.round; going = r.going; earlier = r.earlier };
     alive = sound.alive;
   }

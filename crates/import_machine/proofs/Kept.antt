@@ -191,7 +191,7 @@ module _ (s : State) (sound : IsSound s) (t : ℕ) where
       let parts = and_parts (is_open l.stage && (l.thread == t)) (is_imported l.kind) can in
       let opened = and_parts (is_open l.stage) (l.thread == t) parts.0 in
       subst AreSound (sym (closed_is (finish_entry s l.kind good o.spec.name).1 t load l.mid o.spec.name ∙ ap (closed_bones t load l.mid o.spec.name) (finishes_entry s t l.kind good o.spec.name)))
-        (sound_closed load l o is is_object opened.0 (eqb-true l.thread t opened.1) parts.1)
+      (sound_closed load l o is is_object opened.0 (eqb-true l.thread t opened.1) parts.1)
 
   pub finishes_load : (load : ℕ) (good : Bool) (l : Option Load) → slice_get s.table.loads load ≡ l → can_finish t l ≡ true → Keeps (finish_load s t load good l)
   finishes_load load good None is can = sound
@@ -200,8 +200,8 @@ module _ (s : State) (sound : IsSound s) (t : ℕ) where
   pub adds : (spec : Spec) (text : List ℕ) → has_spare s t spec.name ≡ true → IsRunning (bones s) t → Keeps (add s t spec text)
   adds spec text h running =
       subst AreSound (sym (made_is s spec phases.Initialising load_kinds.Plain t text stages.Open))
-        (sound_made (bones s) sound t spec.name load_kinds.Plain stages.Open refl running.going
-          (covered_made (bones s) sound t spec.name load_kinds.Plain stages.Open refl running.going (spare s t spec.name h)))
+      (sound_made (bones s) sound t spec.name load_kinds.Plain stages.Open refl running.going
+      (covered_made (bones s) sound t spec.name load_kinds.Plain stages.Open refl running.going (spare s t spec.name h)))
 
   pub adds_lazy : (spec : Spec) (text : List ℕ) → has_spare s t spec.name ≡ true → IsRunning (bones s) t → Keeps (add_lazy s t spec text)
   adds_lazy spec text h running =
@@ -212,4 +212,4 @@ module _ (s : State) (sound : IsSound s) (t : ℕ) where
       let more = spare s t spec.name h in
       let here = total t spec.name in
       subst AreSound (sym (ap (λ (c : Bones). record c { locks = given s.locks t spec.name }) (made_is s spec phases.Lazy load_kinds.Lazy t text stages.Resting)))
-        (sound_given after kept t spec.name (omega arith))
+      (sound_given after kept t spec.name (omega arith))

@@ -79,7 +79,7 @@ pub opens_of : (s : State) (t : ℕ) (n : List ℕ) → opens (bones s) t n ≡ 
 opens_of s t n =
     sum_map (λ x. bit (counts_in (bones s) t n x)) body_bone s.table.loads
     ∙ same_sum (λ l. bit (counts_in (bones s) t n (body_bone l))) (λ l. bit (counts_for s.table t n l)) s.table.loads
-      (λ i l is. ap (λ c. bit (is_open_of t l && c)) (ap (λ o. is_named o n) (get_map module_bone s.table.objects l.mid) ∙ same_named (slice_get s.table.objects l.mid) n))
+    (λ i l is. ap (λ c. bit (is_open_of t l && c)) (ap (λ o. is_named o n) (get_map module_bone s.table.objects l.mid) ∙ same_named (slice_get s.table.objects l.mid) n))
 
 -- a spare take is one more than the open loads
 pub spare : (s : State) (t : ℕ) (n : List ℕ) → has_spare s t n ≡ true → opens (bones s) t n < held s.locks t n

@@ -72,10 +72,15 @@ module _ (b : Bones) (sound : AreSound b) (i : ℕ) (l : Body) (m : Module) (is 
         (any_phase staged mid staged_module (phase_of stage) (i, staged_body, own_load, set_there b.bodies i l staged_body is, sym here.0, imported))
     | inr other ↦
         more_phase b staged mid k k.phase
-          (λ has. (has.0, has.1, has.2,
-            set_elsewhere b.bodies i has.0 staged_body (λ e. other.0 (let same : has.1 ≡ l = let f : Some has.1 ≡ Some l = sym has.3 ∙ ap (slice_get b.bodies) e ∙ is in cc in sym has.4 ∙ ap (λ (z : Body). z.mid) same)) ∙ has.3,
-            has.4, has.5))
-          (sound.modules mid k other.1)
+        (λ has. (
+          has.0,
+          has.1,
+          has.2,
+          set_elsewhere b.bodies i has.0 staged_body (λ e. other.0 (let same : has.1 ≡ l = let f : Some has.1 ≡ Some l = sym has.3 ∙ ap (slice_get b.bodies) e ∙ is in cc in sym has.4 ∙ ap (λ (z : Body). z.mid) same)) ∙ has.3,
+          has.4,
+          has.5,
+        ))
+        (sound.modules mid k other.1)
   ]
 
   reloads_staged : (n : List ℕ) (r : Reload) → get b.reloads n ≡ Some r → FitsReload staged n r

@@ -40,14 +40,14 @@ ends s sound t h =
     let free = untrue (holds s.locks t) front.0 in
     let none = untrue (list_any (is_open_of t) s.table.loads) parts.1 in
     sound_ended (bones s) sound t
-      (λ n owner. false≢true (sym free ∙ owner_holds s.locks n t owner))
-      (λ i l is opened kind own.
-        let at = unmap body_bone s.table.loads i l is in
-        let opened' : is_open at.0.stage ≡ true = ap (λ (z : Body). is_open z.stage) at.2 ∙ opened in
-        let kind' : not (is_main at.0.kind) ≡ true = ap not (ap (λ (z : Body). is_main z.kind) at.2 ∙ kind) in
-        let own' : at.0.thread ≡ t = ap (λ (z : Body). z.thread) at.2 ∙ own in
-        false≢true (sym none ∙ any_at (is_open_of t) s.table.loads i at.0 at.1
-          (and_from (is_open at.0.stage && eqb at.0.thread t) (not (is_main at.0.kind)) (and_from (is_open at.0.stage) (eqb at.0.thread t) opened' (eq-eqb at.0.thread t own')) kind')))
+    (λ n owner. false≢true (sym free ∙ owner_holds s.locks n t owner))
+    (λ i l is opened kind own.
+    let at = unmap body_bone s.table.loads i l is in
+    let opened' : is_open at.0.stage ≡ true = ap (λ (z : Body). is_open z.stage) at.2 ∙ opened in
+    let kind' : not (is_main at.0.kind) ≡ true = ap not (ap (λ (z : Body). is_main z.kind) at.2 ∙ kind) in
+    let own' : at.0.thread ≡ t = ap (λ (z : Body). z.thread) at.2 ∙ own in
+    false≢true (sym none ∙ any_at (is_open_of t) s.table.loads i at.0 at.1
+    (and_from (is_open at.0.stage && eqb at.0.thread t) (not (is_main at.0.kind)) (and_from (is_open at.0.stage) (eqb at.0.thread t) opened' (eq-eqb at.0.thread t own')) kind')))
 
 pub sound_step : (s : State) → IsSound s → (t : ℕ) (e : Event) → IsTrue (allowed s t e) → IsSound (step s t e).1
 sound_step s sound t (events.Ask n) h = asks_slot s sound t n _ (λ _. sound) (get s.table.cache n)

@@ -36,3 +36,13 @@ rank stages.Ended = 2
 -- loads are never taken away, keep their kinds and modules, and only go on, from resting to open to ended
 pub record GoOn (before after : List Load) : Type 0 where
   pub kept : (i : ℕ) (l : Load) → slice_get before i ≡ Some l → (k : Load) × (slice_get after i ≡ Some k) × (k.kind ≡ l.kind) × (k.mid ≡ l.mid) × (rank l.stage ≤ rank k.stage)
+
+-- the module has one load of kind Plain or Lazy, at this stage
+pub record HasOneLoad (s : State) (mid : ℕ) (stage : LoadStage) : Type 0 where
+  pub number : ℕ
+  pub load : Load
+  pub there : slice_get s.table.loads number ≡ Some load
+  pub of_it : load.mid ≡ mid
+  pub imported : is_imported load.kind ≡ true
+  pub at : load.stage ≡ stage
+  pub only : (j : ℕ) (k : Load) → slice_get s.table.loads j ≡ Some k → k.mid ≡ mid → is_imported k.kind ≡ true → j ≡ number

@@ -44,7 +44,12 @@ impl State {
         }
     }
 
-    pub(crate) fn reload_begin(&mut self, thread: u32, mid: u32, raw: bool) -> Result<Reply, NoMemory>
+    pub(crate) fn reload_begin(
+        &mut self,
+        thread: u32,
+        mid: u32,
+        raw: bool,
+    ) -> Result<Reply, NoMemory>
         ensures reply { IfOk result (λ reply. reply ≡ (reload_begin self.old thread mid raw).0) }
         ensures ok { OnOk result (self.new ≡ (reload_begin self.old thread mid raw).1) }
         ensures err { OnErr result (self.new ≡ self.old) }
@@ -129,7 +134,12 @@ impl State {
         }
     }
 
-    fn reload_leave(&mut self, thread: u32, name: &Dotted, load: Option<u32>) -> Result<Reply, NoMemory>
+    fn reload_leave(
+        &mut self,
+        thread: u32,
+        name: &Dotted,
+        load: Option<u32>,
+    ) -> Result<Reply, NoMemory>
         ensures reply { IfOk result (λ reply. reply ≡ (reload_leave self.old thread name.now load).0) }
         ensures ok { OnOk result (self.new ≡ (reload_leave self.old thread name.now load).1) }
         ensures err { OnErr result (self.new ≡ self.old) }
@@ -149,7 +159,12 @@ impl State {
         }
     }
 
-    pub(crate) fn reload_end(&mut self, thread: u32, mid: u32, load: Option<u32>) -> Result<Reply, NoMemory>
+    pub(crate) fn reload_end(
+        &mut self,
+        thread: u32,
+        mid: u32,
+        load: Option<u32>,
+    ) -> Result<Reply, NoMemory>
         ensures reply { IfOk result (λ reply. reply ≡ (reload_end self.old thread mid load).0) }
         ensures ok { OnOk result (self.new ≡ (reload_end self.old thread mid load).1) }
         ensures err { OnErr result (self.new ≡ self.old) }
