@@ -1,5 +1,5 @@
 -- An outlet that keeps up, one entry at a time.
-use Rattle.std.proofs.Common.{◌≡◌, ◌≢◌, ℕ, ◌<◌, ◌≤◌, Bool, List, [], ◌∷◌, ◌++◌, flat_map, Option, Some, None, refl, sym, ◌∙◌, ap, arith}
+use Rattle.std.proofs.Common.{◌≡◌, ℕ, ◌≤◌, List, [], ◌∷◌, ◌++◌, Option, Some, None, refl, sym, ◌∙◌, ap, arith}
 use Rattle.std.proofs.lemmas.List.{append-nil, append_assoc}
 use Rattle.std.proofs.lemmas.Grind.{flat_map-append}
 use Rattle.tree_files.specs.Count.{Rose}
@@ -7,7 +7,6 @@ use Rattle.machine_events.specs.declared.event.Entry.{Entry}
 use Rattle.machine_book.specs.declared.outlet.Flow.{Flow}
 use Rattle.machine_book.specs.declared.outlet.Flow.TheVariants.{Open, Failed, Short}
 use Rattle.machine_book.specs.Sight.{Sight, Telling, KeepsUp, Continues}
-use Rattle.machine_book.specs.Histories.{Begins}
 use Rattle.machine_book.specs.Outgo.{Outgo, Pieces, Kept, text_of, Appends, AppendsPart, Flows, FlowsFrom}
 
 appends_then : (a b c : Option (List ℕ)) (x y : List ℕ) → Appends a b x → Appends b c y → Appends a c (x ++ y)
@@ -61,7 +60,7 @@ kept_next piece a b c entries entry p q = record {
   trace = q.trace ∙ p.trace;
   faults = omega (arith, p.faults, q.faults);
   text = rw (flat_map-append (piece a.trace) entries (entry ∷ []))
-    (from_then a b c (text_of piece a.trace entries) (text_of piece a.trace (entry ∷ [])) p.faults q.faults a.flow refl p.text (rw p.trace at q.text));
+      (from_then a b c (text_of piece a.trace entries) (text_of piece a.trace (entry ∷ [])) p.faults q.faults a.flow refl p.text (rw p.trace at q.text));
 }
 
 pub kept_then : (piece : Pieces) (a b c : Outgo) (xs ys : List Entry) → Kept piece a b xs → Kept piece b c ys → Kept piece a c (xs ++ ys)
@@ -69,7 +68,7 @@ kept_then piece a b c xs ys p q = record {
   trace = q.trace ∙ p.trace;
   faults = omega (arith, p.faults, q.faults);
   text = rw (flat_map-append (piece a.trace) xs ys)
-    (from_then a b c (text_of piece a.trace xs) (text_of piece a.trace ys) p.faults q.faults a.flow refl p.text (rw p.trace at q.text));
+      (from_then a b c (text_of piece a.trace xs) (text_of piece a.trace ys) p.faults q.faults a.flow refl p.text (rw p.trace at q.text));
 }
 
 keeps_then : (a b c : Option Telling) (xs ys : List Entry) → KeepsUp a b xs → KeepsUp b c ys → KeepsUp a c (xs ++ ys)
@@ -82,6 +81,7 @@ keeps_then (Some a) (Some b) None xs ys p q = absurd q
 
 pub continues_trans : (a b c : Sight) → Continues a b → Continues b c → Continues a c
 continues_trans a b c p q = record {
+  opening = q.opening ∙ p.opening;
   number = q.number ∙ p.number;
   place = q.place ∙ p.place;
   seen = record { rest = p.seen.rest ++ q.seen.rest; joined = sym (append_assoc a.seen p.seen.rest q.seen.rest) ∙ (ap (λ w. w ++ q.seen.rest) p.seen.joined ∙ q.seen.joined) };
@@ -105,8 +105,8 @@ keeps_none None = tt
 keeps_none (Some a) = (refl, kept_none a.piece a.out)
 
 pub continues_refl : (a : Sight) → Continues a a
-continues_refl a = record { number = refl; place = refl; seen = record { rest = []; joined = append-nil a.seen }; keeps = keeps_none a.telling }
+continues_refl a = record { opening = refl; number = refl; place = refl; seen = record { rest = []; joined = append-nil a.seen }; keeps = keeps_none a.telling }
 
 -- one entry more
-pub continues_snoc : (a b : Sight) (e : Entry) → b.number ≡ a.number → b.place ≡ a.place → b.seen ≡ a.seen ++ e ∷ [] → KeepsUp a.telling b.telling (e ∷ []) → Continues a b
-continues_snoc a b e n p s k = record { number = n; place = p; seen = record { rest = e ∷ []; joined = sym s }; keeps = k }
+pub continues_snoc : (a b : Sight) (e : Entry) → b.opening ≡ a.opening → b.number ≡ a.number → b.place ≡ a.place → b.seen ≡ a.seen ++ e ∷ [] → KeepsUp a.telling b.telling (e ∷ []) → Continues a b
+continues_snoc a b e o n p s k = record { opening = o; number = n; place = p; seen = record { rest = e ∷ []; joined = sym s }; keeps = k }

@@ -12,7 +12,7 @@ use spec_core::{Dotted, Spec};
 
 impl State {
     // Whether the cache has the module at the name.
-    fn is_entry(&self, mid: u32, name: &Dotted) -> bool
+    pub(crate) fn is_entry(&self, mid: u32, name: &Dotted) -> bool
         ensures { result ≡ is_entry mid (maps.get self.now.table.cache name.now) }
     {
         match self.table.entry(name) {
@@ -21,7 +21,7 @@ impl State {
         }
     }
 
-    fn busy(&self, mid: u32) -> Result<Reply, NoMemory>
+    pub(crate) fn busy(&self, mid: u32) -> Result<Reply, NoMemory>
         ensures { IfOk result (λ reply. reply ≡ busy_of mid (slice_get self.now.table.objects mid)) }
     {
         match self.table.object(mid) {
@@ -44,7 +44,12 @@ impl State {
         }
     }
 
-    pub(crate) fn reload_begin(&mut self, thread: u32, mid: u32, raw: bool) -> Result<Reply, NoMemory>
+    pub(crate) fn reload_begin(
+        &mut self,
+        thread: u32,
+        mid: u32,
+        raw: bool,
+    ) -> Result<Reply, NoMemory>
         ensures reply { IfOk result (λ reply. reply ≡ (reload_begin self.old thread mid raw).0) }
         ensures ok { OnOk result (self.new ≡ (reload_begin self.old thread mid raw).1) }
         ensures err { OnErr result (self.new ≡ self.old) }
@@ -120,7 +125,7 @@ impl State {
         self.reload_start(thread, mid, &spec, text)
     }
 
-    fn kept_or_lost(&self, name: &Dotted) -> Result<Reply, NoMemory>
+    pub(crate) fn kept_or_lost(&self, name: &Dotted) -> Result<Reply, NoMemory>
         ensures { IfOk result (λ reply. reply ≡ kept_or_lost (maps.get self.now.table.cache name.now)) }
     {
         match self.table.entry(name) {
@@ -129,7 +134,12 @@ impl State {
         }
     }
 
-    fn reload_leave(&mut self, thread: u32, name: &Dotted, load: Option<u32>) -> Result<Reply, NoMemory>
+    fn reload_leave(
+        &mut self,
+        thread: u32,
+        name: &Dotted,
+        load: Option<u32>,
+    ) -> Result<Reply, NoMemory>
         ensures reply { IfOk result (λ reply. reply ≡ (reload_leave self.old thread name.now load).0) }
         ensures ok { OnOk result (self.new ≡ (reload_leave self.old thread name.now load).1) }
         ensures err { OnErr result (self.new ≡ self.old) }
@@ -149,7 +159,12 @@ impl State {
         }
     }
 
-    pub(crate) fn reload_end(&mut self, thread: u32, mid: u32, load: Option<u32>) -> Result<Reply, NoMemory>
+    pub(crate) fn reload_end(
+        &mut self,
+        thread: u32,
+        mid: u32,
+        load: Option<u32>,
+    ) -> Result<Reply, NoMemory>
         ensures reply { IfOk result (λ reply. reply ≡ (reload_end self.old thread mid load).0) }
         ensures ok { OnOk result (self.new ≡ (reload_end self.old thread mid load).1) }
         ensures err { OnErr result (self.new ≡ self.old) }
