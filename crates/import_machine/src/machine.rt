@@ -63,6 +63,13 @@ impl Machine {
         self.state.step(thread, event)
     }
 
+    /// What `step` would answer to the event. It changes nothing.
+    pub fn reply(&self, thread: u32, event: &Event) -> Result<Reply, NoMemory>
+        ensures { IfOk result (λ reply. reply ≡ (step self.now thread event.now).0) }
+    {
+        self.state.reply(thread, event)
+    }
+
     /// Whether the thread may make the event. It takes no memory.
     pub fn allowed(&self, thread: u32, event: &Event) -> bool
         ensures { result ≡ allowed self.now thread event.now }

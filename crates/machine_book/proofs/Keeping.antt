@@ -81,6 +81,7 @@ keeps_then (Some a) (Some b) None xs ys p q = absurd q
 
 pub continues_trans : (a b c : Sight) → Continues a b → Continues b c → Continues a c
 continues_trans a b c p q = record {
+  opening = q.opening ∙ p.opening;
   number = q.number ∙ p.number;
   place = q.place ∙ p.place;
   seen = record { rest = p.seen.rest ++ q.seen.rest; joined = sym (append_assoc a.seen p.seen.rest q.seen.rest) ∙ (ap (λ w. w ++ q.seen.rest) p.seen.joined ∙ q.seen.joined) };
@@ -104,8 +105,8 @@ keeps_none None = tt
 keeps_none (Some a) = (refl, kept_none a.piece a.out)
 
 pub continues_refl : (a : Sight) → Continues a a
-continues_refl a = record { number = refl; place = refl; seen = record { rest = []; joined = append-nil a.seen }; keeps = keeps_none a.telling }
+continues_refl a = record { opening = refl; number = refl; place = refl; seen = record { rest = []; joined = append-nil a.seen }; keeps = keeps_none a.telling }
 
 -- one entry more
-pub continues_snoc : (a b : Sight) (e : Entry) → b.number ≡ a.number → b.place ≡ a.place → b.seen ≡ a.seen ++ e ∷ [] → KeepsUp a.telling b.telling (e ∷ []) → Continues a b
-continues_snoc a b e n p s k = record { number = n; place = p; seen = record { rest = e ∷ []; joined = sym s }; keeps = k }
+pub continues_snoc : (a b : Sight) (e : Entry) → b.opening ≡ a.opening → b.number ≡ a.number → b.place ≡ a.place → b.seen ≡ a.seen ++ e ∷ [] → KeepsUp a.telling b.telling (e ∷ []) → Continues a b
+continues_snoc a b e o n p s k = record { opening = o; number = n; place = p; seen = record { rest = e ∷ []; joined = sym s }; keeps = k }

@@ -5,6 +5,8 @@ use Rattle.machine_events.specs.declared.event.Event.{Event}
 use Rattle.machine_events.specs.declared.event.Reply.{Reply}
 use Rattle.machine_events.specs.declared.event.Entry.{Entry}
 use Rattle.machine_events.specs.Fitting.{Fits}
+use Rattle.machine_state.specs.declared.state.State.{State}
+use Rattle.machine_state.specs.Legal.{IsLegal}
 use Rattle.machine_book.specs.Histories.{Begins, EndsWith}
 use Rattle.machine_book.specs.Outgo.{Outgo, Pieces, Kept}
 
@@ -21,6 +23,8 @@ KeepsUp None (Some new) entries = ⊥
 KeepsUp (Some old) None entries = ⊥
 
 pub record Sight : Type 0 where
+  -- the state that the machine was opened in
+  pub opening : State
   -- the desk's thread
   pub number : ℕ
   -- which borrow the desk works on
@@ -32,15 +36,17 @@ pub record Sight : Type 0 where
   -- the thread's own events with their replies
   pub mine : List (Event × Reply)
 
--- no call changes the first two, and the history only grows
+-- no call changes the first three, and the history only grows
 pub record Continues (old new : Sight) : Type 0 where
+  pub opening : new.opening ≡ old.opening
   pub number : new.number ≡ old.number
   pub place : new.place ≡ old.place
   pub seen : Begins old.seen new.seen
   pub keeps : KeepsUp old.telling new.telling seen.rest
 
--- the event was made, and got this reply
+-- the event was made, and got this reply; what is seen then is legal
 pub record Gains (old new : Sight) (event : Event) (reply : Reply) : Type 0 where
+  pub legal : IsLegal new.opening new.seen
   pub entry : EndsWith new.seen (record { thread = new.number; event = event; reply = reply })
   pub mine : new.mine ≡ old.mine ++ (event, reply) ∷ []
   pub fits : Fits event reply

@@ -2,8 +2,14 @@
 //! its events on a book.
 #![tactic(auto)]
 
+mod book;
 mod desk;
+mod opening;
 mod outlet;
+mod solo;
 
+pub use book::Book;
 pub use desk::{Desk, Halt};
+pub use opening::Opening;
 pub use outlet::{Flow, Outlet, outlets_keep_up};
+pub use solo::SoloDesk;

@@ -44,7 +44,7 @@ impl State {
 }
 
 // Whether the name is one of the modules that stand in the cache from the start.
-fn is_fixed(name: &Dotted) -> bool
+pub(crate) fn is_fixed(name: &Dotted) -> bool
     ensures { result ≡ is_fixed name.now }
 {
     name.text() == "sys" || name.text() == "importlib" || name.text() == "pyimport"

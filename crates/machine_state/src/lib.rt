@@ -9,6 +9,8 @@ mod known;
 mod lazies;
 mod opening;
 mod reloads;
+mod reply;
+mod reply_later;
 mod search;
 mod state;
 mod step;

@@ -12,7 +12,7 @@ use spec_core::{Dotted, Spec};
 
 impl State {
     // Whether the cache has the module at the name.
-    fn is_entry(&self, mid: u32, name: &Dotted) -> bool
+    pub(crate) fn is_entry(&self, mid: u32, name: &Dotted) -> bool
         ensures { result ≡ is_entry mid (maps.get self.now.table.cache name.now) }
     {
         match self.table.entry(name) {
@@ -21,7 +21,7 @@ impl State {
         }
     }
 
-    fn busy(&self, mid: u32) -> Result<Reply, NoMemory>
+    pub(crate) fn busy(&self, mid: u32) -> Result<Reply, NoMemory>
         ensures { IfOk result (λ reply. reply ≡ busy_of mid (slice_get self.now.table.objects mid)) }
     {
         match self.table.object(mid) {
@@ -125,7 +125,7 @@ impl State {
         self.reload_start(thread, mid, &spec, text)
     }
 
-    fn kept_or_lost(&self, name: &Dotted) -> Result<Reply, NoMemory>
+    pub(crate) fn kept_or_lost(&self, name: &Dotted) -> Result<Reply, NoMemory>
         ensures { IfOk result (λ reply. reply ≡ kept_or_lost (maps.get self.now.table.cache name.now)) }
     {
         match self.table.entry(name) {

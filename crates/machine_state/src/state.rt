@@ -32,7 +32,7 @@ fn closes_by<L: Ledger>(locks: &Locks, thread: u32, name: &Dotted, blank: Blank)
     locks.closes(thread, name, &mut steps)
 }
 
-fn closes(locks: &Locks, thread: u32, name: &Dotted) -> bool
+pub(crate) fn closes(locks: &Locks, thread: u32, name: &Dotted) -> bool
     ensures { result ≡ closes locks.now thread name.now }
 {
     closes_by::<Brand>(locks, thread, name, Blank::new(1))
