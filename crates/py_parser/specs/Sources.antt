@@ -1,8 +1,7 @@
 -- The sources that are built so far: each line ends with LF and is empty, `import NAME` or `print("TEXT")`, with the
 -- single blank as shown. NAME is an ASCII identifier, no keyword and not `print`; TEXT is printable ASCII without `"`
 -- and backslash.
-use Rattle.std.specs.Prelude.{ℕ, Bool, true, false, not, ◌&&◌, ◌||◌, ◌==◌, ◌-◌, ◌≡◌, nat_le, nat_eq, List, [], ◌∷◌, ◌++◌, take, drop, length, codes, Option, Some, None, Result, Ok, Err, if◌then◌else◌}
-use Rattle.std.specs.Option.{option_map}
+use Rattle.std.specs.Prelude.{ℕ, Bool, false, not, ◌&&◌, ◌||◌, ◌==◌, ◌-◌, ◌≡◌, nat_le, nat_eq, List, [], ◌∷◌, take, drop, length, codes, Option, Some, None, Result, Ok, Err, if◌then◌else◌}
 use Rattle.std.specs.List.{list_all, slice_split}
 use Rattle.std.specs.Cmp.Lexicographic.{pointwise}
 use Rattle.spec_core.specs.Identifiers.{is_dotted}
@@ -75,3 +74,9 @@ abbrev pub Parses : Option (List Stmt) → Result Script ParseError → Type 0
 Parses expected (Ok script) = expected ≡ Some script.body
 Parses expected (Err error.NotYet) = expected ≡ None
 Parses expected (Err error.NoMemory) = Unit {0}
+
+-- the same of one statement
+abbrev pub Reads : Option Stmt → Result Stmt ParseError → Type 0
+Reads expected (Ok statement) = expected ≡ Some statement
+Reads expected (Err error.NotYet) = expected ≡ None
+Reads expected (Err error.NoMemory) = Unit {0}
