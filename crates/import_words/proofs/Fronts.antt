@@ -1,5 +1,5 @@
 -- What `strip_prefix` gives, in the words of the definitions.
-use Rattle.std.proofs.Common.{◌≡◌, refl, ap, sym, ◌∙◌, ℕ, List, Option, Some, None, Bor, Bool, true, false, cond, length, drop}
+use Rattle.std.proofs.Common.{◌≡◌, ap, sym, ◌∙◌, ℕ, List, Option, Some, None, Bor, true, false, length, drop}
 use Rattle.std.specs.Option.{option_map, MatchOption}
 use Rattle.std.specs.Str.Pattern.{FindsTextPrefix, StripsPrefix}
 use Rattle.std.specs.Str.{IsCharBoundary}

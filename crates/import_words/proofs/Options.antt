@@ -1,5 +1,5 @@
 -- The options of words, an option at a time.
-use Rattle.std.proofs.Common.{◌≡◌, refl, List, [], ◌∷◌, Option, Some, None, true}
+use Rattle.std.proofs.Common.{◌≡◌, refl, List, [], ◌∷◌, Some, None, true}
 use Rattle.import_words.specs.declared.option.Setting.{Setting}
 use Rattle.import_words.specs.declared.option.Settings.{Settings}
 use Rattle.import_words.specs.Words.{Word, is_dashed, joined, apart, added, options}

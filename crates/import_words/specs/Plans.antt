@@ -1,5 +1,5 @@
 -- What each command makes of its words: the plan, or None where they are refused.
-use Rattle.std.specs.Prelude.{◌≡◌, ℕ, Bool, true, false, not, ◌&&◌, ◌||◌, ◌==◌, nat_le, List, [], ◌∷◌, codes, length, Option, Some, None, Result, Ok, Err, is_some, if◌then◌else◌}
+use Rattle.std.specs.Prelude.{◌≡◌, ℕ, Bool, not, ◌&&◌, ◌||◌, ◌==◌, nat_le, List, [], ◌∷◌, codes, length, Option, Some, None, Result, Ok, Err, is_some, if◌then◌else◌}
 use Rattle.std.specs.List.{list_all, list_any, slice_split}
 use Rattle.std.specs.Option.{option_map, option_or, option_and_then}
 use Rattle.std.specs.Char.{is_ascii_digit}
@@ -9,7 +9,6 @@ use Rattle.import_words.specs.Words.{Word, same_text, is_refused, is_dashed, opt
 use Rattle.import_words.specs.declared.command.Command.{Command}
 use Rattle.import_words.specs.declared.command.Command.TheVariants as command
 use Rattle.import_words.specs.declared.option.Settings.{Settings}
-use Rattle.import_words.specs.declared.option.Front.{Front}
 use Rattle.import_words.specs.declared.plan.Plan.{Plan}
 use Rattle.import_words.specs.declared.plan.Plan.TheVariants as plan
 use Rattle.import_words.specs.declared.plan.RunPlan.{RunPlan}
@@ -60,7 +59,7 @@ are_scripts words = nat_le 1 (length words) && (nat_le (length words) 16 && list
 abbrev pub run_with : Settings → Word → List Word → Option RunPlan
 run_with s entry scripts =
     option_and_then (λ path. option_map (λ fuel. record { path = path; fuel = fuel; trace = s.trace; scripts = scripts; rounds = s.rounds; bundles = s.bundles }) (fuel_of s.fuel))
-      (path_of s.path entry)
+    (path_of s.path entry)
 
 -- with `--rounds` there are no scripts, and else the first one says where is searched
 abbrev pub run_of : Settings → List Word → Option RunPlan

@@ -1,5 +1,5 @@
 -- The words of a command line, each as its bytes, and the options among them.
-use Rattle.std.specs.Prelude.{ℕ, Bool, true, false, not, ◌==◌, nat_eq, List, [], ◌∷◌, take, drop, length, codes, Option, Some, None, is_some, if◌then◌else◌}
+use Rattle.std.specs.Prelude.{ℕ, Bool, true, false, ◌==◌, nat_eq, List, [], ◌∷◌, take, drop, length, codes, Option, Some, None, is_some, if◌then◌else◌}
 use Rattle.std.specs.List.{list_any}
 use Rattle.std.specs.Option.{option_map, option_or, option_and_then}
 use Rattle.std.specs.Cmp.Lexicographic.{pointwise}
@@ -36,7 +36,7 @@ joined word =
     if same_text word (codes "--bundles") then Some setting.Bundles
     else if same_text word (codes "--trace") then Some setting.Trace
     else option_or (option_map setting.Path (behind (codes "--path=") word))
-      (option_or (option_map setting.Fuel (behind (codes "--fuel=") word)) (option_map setting.Rounds (behind (codes "--rounds=") word)))
+    (option_or (option_map setting.Fuel (behind (codes "--fuel=") word)) (option_map setting.Rounds (behind (codes "--rounds=") word)))
 
 -- the option that a word spells with its value in the next word, which does not begin with `-`
 abbrev pub apart : Word → Word → Option Setting
@@ -72,5 +72,5 @@ options s [] = front [] s
 options s (word ∷ []) = if is_dashed word then goes_on (joined word) s (front []) else front (word ∷ []) s
 options s (word ∷ next ∷ words) =
     if is_dashed word then
-      (if is_some (joined word) then goes_on (joined word) s (λ t. options t (next ∷ words)) else goes_on (apart word next) s (λ t. options t words))
+    (if is_some (joined word) then goes_on (joined word) s (λ t. options t (next ∷ words)) else goes_on (apart word next) s (λ t. options t words))
     else front (word ∷ next ∷ words) s

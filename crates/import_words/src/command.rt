@@ -39,9 +39,11 @@ pub(crate) fn command_of(word: &str) -> Option<Command>
     }
 }
 
-const RUN_USAGE: &str = "pyimport: usage: pyimport run [--path LIST] [--fuel N] [--trace] [--bundles] (SCRIPT.. | --rounds FILE) | pyimport gen SEED MODULES SCRIPTS";
+const RUN_USAGE: &str =
+    "pyimport: usage: pyimport run [--path LIST] [--fuel N] [--trace] [--bundles] (SCRIPT.. | --rounds FILE) | pyimport gen SEED MODULES SCRIPTS";
 
-const CHECK_USAGE: &str = "pyimport: usage: pyimport check [--path LIST] [--fuel N] (TRACE SCRIPT.. | --rounds FILE TRACE) | pyimport convert TRACE";
+const CHECK_USAGE: &str =
+    "pyimport: usage: pyimport check [--path LIST] [--fuel N] (TRACE SCRIPT.. | --rounds FILE TRACE) | pyimport convert TRACE";
 
 fn usage_by(command: Option<Command>) -> &'static str
     ensures { result.now ≡ usage_by command }

@@ -8,6 +8,8 @@ mod path;
 mod plan;
 mod read;
 mod run;
+#[cfg(test)]
+mod tests;
 
 pub use command::usage_line;
 pub use plan::{Plan, RunPlan, WordsError};

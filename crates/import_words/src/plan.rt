@@ -30,15 +30,25 @@ pub enum Plan {
         scripts: u32,
     },
     /// A stored trace is judged against a run.
-    Check { run: RunPlan, trace_file: Text },
+    Check {
+        run: RunPlan,
+        trace_file: Text,
+    },
     /// A stored trace is written in the newest format.
-    Convert { trace_file: Text },
+    Convert {
+        trace_file: Text,
+    },
     /// Modules are run as programs; their names stand in place of scripts.
     Module(RunPlan),
     /// All imports under a folder are reported.
-    Report { path: Texts, dir: Text },
+    Report {
+        path: Texts,
+        dir: Text,
+    },
     /// The files under a folder are written as a bundle.
-    Bundle { dir: Text },
+    Bundle {
+        dir: Text,
+    },
 }
 
 /// Why there is no plan.

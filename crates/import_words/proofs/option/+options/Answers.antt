@@ -1,6 +1,6 @@
 use Rattle.std.proofs.Common.{sym, ap, ◌∙◌, ◌∷◌, rules}
 use Rattle.std.proofs.lemmas.Result.{IfOk-weaker}
-use Rattle.import_words.specs.Words.{is_dashed, joined, apart, options}
+use Rattle.import_words.specs.Words.{is_dashed, joined, options}
 use Rattle.import_words.proofs.Options.{joined_goes_on, joined_again, apart_goes_on}
 use Rattle.import_words.proofs.option.+options.Goals as goal
 
