@@ -1,4 +1,5 @@
--- The words of a command line, each as its bytes, and the options among them.
+-- The words of a command line, each as its bytes, and the options among them. The rules are this project's own. Options
+-- stand before the other words, in any order, each at most once, and none is shortened.
 use Rattle.std.specs.Prelude.{ℕ, Bool, true, false, ◌==◌, nat_eq, List, [], ◌∷◌, take, drop, length, codes, Option, Some, None, is_some, if◌then◌else◌}
 use Rattle.std.specs.List.{list_any}
 use Rattle.std.specs.Option.{option_map, option_or, option_and_then}
