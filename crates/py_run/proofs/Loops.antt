@@ -1,15 +1,15 @@
 -- One item of the work, and then the rest.
-use Rattle.std.proofs.Common.{◌≡◌, ℕ, List, [], ◌∷◌, ◌++◌, Option, refl, subst, sym}
+use Rattle.std.proofs.Common.{◌≡◌, ℕ, List, [], ◌∷◌, Option, refl, subst, sym}
 use Rattle.tree_files.specs.Files.{Files}
 use Rattle.machine_events.specs.declared.event.Event.{Event}
 use Rattle.machine_events.specs.declared.event.Reply.{Reply}
 use Rattle.machine_events.specs.Knowing.{shown, shown_first}
-use Rattle.meanings.specs.Runs.{Run, Stands, StandsIn, IsSpent, IsUnread, Safe}
+use Rattle.meanings.specs.Runs.{Run, Stands, StandsIn, Safe}
 use Rattle.meanings.proofs.Stand.{safe_stands, stands_start, in_some}
 use Rattle.spec_core.specs.declared.name.Dotted.{Dotted}
 use Rattle.py_run.specs.Meaning.{meaning}
 use Rattle.py_run.specs.Work.{item_does, rest, held_of}
-use Rattle.py_run.specs.Steps.{AfterReading, MovesReading, AfterStretch, IsSafe, Stood}
+use Rattle.py_run.specs.Steps.{AfterReading, MovesReading, AfterStretch, IsSafe}
 use Rattle.py_run.specs.declared.flow.Flow.{Flow}
 use Rattle.py_run.specs.declared.flow.Flow.TheVariants.{On}
 use Rattle.py_run.specs.declared.work.Item.{Item}

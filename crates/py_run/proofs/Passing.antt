@@ -1,10 +1,9 @@
 -- A way that no item but some looks at.
-use Rattle.std.proofs.Common.{◌≡◌, ◌<◌, ◌+◌, ◌*◌, ◌-◌, ℕ, List, [], ◌∷◌, refl, arith}
+use Rattle.std.proofs.Common.{◌≡◌, ◌<◌, ℕ, [], refl, arith}
 use Rattle.py_value.specs.declared.value.ModRef.{ModRef}
 use Rattle.py_value.specs.declared.value.Raised.{Raised as Error}
 use Rattle.base_types.specs.declared.seq.Seq.{Seq}
 use Rattle.spec_core.specs.declared.name.Dotted.{Dotted}
-use Rattle.machine_events.specs.Knowing.{Holding}
 use Rattle.machine_book.specs.Sight.{Sight, Continues}
 use Rattle.machine_book.proofs.Keeping.{continues_refl, continues_trans}
 use Rattle.py_run.specs.Meaning.{Onward}

@@ -1,5 +1,5 @@
 -- What a thread's events show is always enough for the next one: each word of the meaning keeps that.
-use Rattle.std.proofs.Common.{◌≡◌, ◌⊎◌, inl, inr, ℕ, zero, suc, Bool, true, false, if◌then◌else◌, nat_lt, nat_eq, ◌≤◌, ◌<◌, ◌+◌, ◌/◌, length, List, [], ◌∷◌, ◌++◌, codes, Option, Some, None, refl, ap, sym, ◌∙◌, subst, arith, length-append}
+use Rattle.std.proofs.Common.{◌≡◌, inl, inr, ℕ, zero, suc, Bool, true, false, if◌then◌else◌, nat_lt, nat_eq, ◌≤◌, ◌/◌, length, List, [], ◌∷◌, ◌++◌, codes, Option, Some, None, refl, ap, sym, ◌∙◌, subst, arith, length-append}
 use Rattle.std.proofs.lemmas.Bool.{eq-eqb, ltb-false}
 use Rattle.std.specs.Cmp.Lexicographic.{pointwise}
 use Rattle.py_value.specs.declared.value.Value.TheVariants as values
@@ -22,7 +22,7 @@ use Rattle.py_parser.specs.declared.script.Stmt.TheVariants.{Import, Print}
 use Rattle.py_run.specs.Errors.{halted, not_found, deadlock, lost, too_long, too_deep, text_too_long, not_built, no_reply}
 use Rattle.py_run.specs.declared.flow.Flow.{Flow}
 use Rattle.py_run.specs.declared.flow.Flow.TheVariants.{On, Found, Raised}
-use Rattle.py_run.specs.Meaning.{Onward, Body, Imports, most, fails, asked, taken, gives_back, spec_of, finished, finishes, added, adds, has_text, reads, by_file, by_folder, searches, is_searched, finds, takes, asks, binds, prints, argument, callee, statement, on_good, statements, parsed, runs, bodies, imports, outcome_of, ends, meaning}
+use Rattle.py_run.specs.Meaning.{Onward, Body, Imports, most, fails, asked, taken, gives_back, spec_of, finished, finishes, added, adds, has_text, by_file, by_folder, searches, is_searched, finds, takes, asks, binds, prints, argument, callee, statement, on_good, statements, parsed, bodies, imports, ends, meaning}
 
 -- after s comes s', which shows as much; it runs, and holds this
 record Later (s s' : Shown) (held : List Holding) : Type 0 where

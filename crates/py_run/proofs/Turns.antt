@@ -1,10 +1,9 @@
 -- One turn of an import.
-use Rattle.std.proofs.Common.{◌≡◌, ℕ, zero, suc, ◌-◌, ◌+◌, ◌<◌, ◌/◌, false, length, List, ap, arith}
+use Rattle.std.proofs.Common.{◌≡◌, ℕ, zero, suc, ◌-◌, ◌<◌, ◌/◌, false, length, List, ap, arith}
 use Rattle.machine_events.specs.declared.event.Event.TheVariants as e
-use Rattle.meanings.specs.Runs.{Run, Pays, make}
+use Rattle.meanings.specs.Runs.{Pays, make}
 use Rattle.py_parser.specs.Sources.{script_of}
-use Rattle.py_run.specs.Errors.{too_deep}
-use Rattle.py_run.specs.Meaning.{Onward, Body, most, fails, asks, asked, takes, bodies, imports, parsed, runs}
+use Rattle.py_run.specs.Meaning.{Onward, Body, most, asks, asked, takes, bodies, imports, parsed}
 
 pub asks_more : (body : Body) (turns : ℕ) (n : List ℕ) (k : Onward) → 0 < turns → asks body turns n k ≡ make (e.Ask n) (asked (asks body (turns - 1) n k) (takes body (asks body (turns - 1) n k) n k) n k)
 asks_more body zero n k some = absurd (omega (arith, some))

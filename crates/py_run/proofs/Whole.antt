@@ -1,24 +1,22 @@
 -- From the run of a script to its End, and to what stands where it is broken off.
-use Rattle.std.proofs.Common.{◌≡◌, ℕ, ◌+◌, ◌-◌, ◌≤◌, List, [], ◌∷◌, ◌++◌, Bool, true, false, Option, Some, Result, Ok, Err, IfOk, OnErr, refl, sym, ap, ◌∙◌, subst, arith}
+use Rattle.std.proofs.Common.{◌≡◌, ℕ, ◌+◌, ◌-◌, ◌≤◌, List, [], ◌∷◌, ◌++◌, Bool, true, Option, Some, refl, arith}
 use Rattle.tree_files.specs.Files.{Files}
 use Rattle.tree_files.specs.Count.{Rose}
 use Rattle.machine_events.specs.declared.event.Event.{Event}
 use Rattle.machine_events.specs.declared.event.Event.TheVariants.{End}
 use Rattle.machine_events.specs.declared.event.Reply.{Reply}
 use Rattle.machine_events.specs.declared.event.Reply.TheVariants.{Done}
-use Rattle.machine_events.specs.declared.event.Outcome.{Outcome}
 use Rattle.machine_events.specs.declared.event.Outcome.TheVariants as o
-use Rattle.machine_events.specs.Knowing.{Running, shown, shown_first}
+use Rattle.machine_events.specs.Knowing.{Running, shown}
 use Rattle.meanings.specs.Runs.{Run, How, Ended, Spent, Reaches, spend, Stands, StandsIn, IsSpent, IsUnread, Safe, GivesUp}
 use Rattle.meanings.specs.Runs as runs
-use Rattle.meanings.specs.Follows.{Follows, IsPart, Ends}
-use Rattle.meanings.proofs.Stand.{whole_of, safe_stands, over_reached, in_some, part, part_given, all_given, spent_gives_up, unread_gives_up}
+use Rattle.meanings.specs.Follows.{Follows, Ends}
+use Rattle.meanings.proofs.Stand.{whole_of, safe_stands, over_reached, part, part_given, all_given, spent_gives_up, unread_gives_up}
 use Rattle.py_run.specs.Meaning.{meaning, outcome_of}
 use Rattle.py_run.specs.Ending.{Broken, in_run, at_read}
 use Rattle.py_run.specs.declared.flow.Flow.{Flow}
 use Rattle.py_run.specs.declared.flow.Flow.TheVariants.{On, Found, Raised}
 use Rattle.py_run.proofs.Safety.{safe_meaning}
-use Rattle.py_run.proofs.Loops.{begins_in}
 
 ends_came : (flow : Flow) (fuel : ℕ) → Ends fuel (outcome_of flow) fuel (Ended (outcome_of flow))
 ends_came On fuel = (refl, refl)

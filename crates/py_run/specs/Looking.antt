@@ -1,5 +1,4 @@
 -- What a stamp tells.
-use Rattle.std.specs.Prelude.{ℕ}
 use Rattle.tree_files.specs.declared.tree.Stamp.{Stamp}
 use Rattle.tree_files.specs.declared.tree.Stamp.TheVariants as stamps
 

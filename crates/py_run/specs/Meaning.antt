@@ -1,16 +1,13 @@
 -- What the sources built so far mean: a script's run, by recursion on how many more bodies and imports may be open.
-use Rattle.std.specs.Prelude.{ℕ, zero, suc, ◌+◌, ◌/◌, ◌-◌, ◌^◌, min, length, List, [], ◌∷◌, ◌++◌, codes, drop, Option, Some, None, nat_lt, ◌&&◌, if◌then◌else◌, Bool, true, false}
+use Rattle.std.specs.Prelude.{ℕ, zero, suc, ◌/◌, ◌-◌, ◌^◌, min, length, List, [], ◌∷◌, ◌++◌, codes, Option, Some, None, nat_lt, ◌&&◌, if◌then◌else◌, Bool, true, false}
 use Rattle.base_types.specs.Path.{is_part}
 use Rattle.py_value.specs.Measures.{size_of}
-use Rattle.py_value.specs.declared.value.Value.{Value}
 use Rattle.py_value.specs.declared.value.Value.TheVariants as values
-use Rattle.py_value.specs.declared.value.ModRef.{ModRef}
 use Rattle.py_value.specs.declared.value.Raised.{Raised as Error}
 use Rattle.spec_core.specs.declared.spec.Spec.{Spec}
 use Rattle.spec_core.specs.declared.spec.SpecKind.TheVariants as kinds
 use Rattle.tree_files.specs.declared.tree.Stamp.{Stamp}
 use Rattle.tree_files.specs.declared.tree.Stamp.TheVariants as stamps
-use Rattle.machine_events.specs.declared.event.Event.{Event}
 use Rattle.machine_events.specs.declared.event.Event.TheVariants as e
 use Rattle.machine_events.specs.declared.event.Reply.{Reply}
 use Rattle.machine_events.specs.declared.event.Reply.TheVariants as r

@@ -1,6 +1,5 @@
 -- What a step of the evaluator keeps.
-use Rattle.std.specs.Prelude.{◌≡◌, ◌≤◌, ℕ, ◌+◌, Bool, true, false, List, [], ◌∷◌, ◌++◌, Option, Some, None, Result, OnErr}
-use Rattle.base_types.specs.declared.no_memory.NoMemory.{NoMemory}
+use Rattle.std.specs.Prelude.{◌≡◌, ℕ, List, ◌++◌, Option}
 use Rattle.tree_files.specs.Files.{Files}
 use Rattle.tree_files.specs.Count.{Rose}
 use Rattle.machine_events.specs.declared.event.Event.{Event}
@@ -9,10 +8,8 @@ use Rattle.machine_events.specs.Knowing.{Holding, shown, shown_first}
 use Rattle.meanings.specs.Runs.{Run, Ended, Stands, StandsIn, IsSpent, IsUnread, Safe}
 use Rattle.meanings.specs.Runs as runs
 use Rattle.py_run.specs.Meaning.{Onward, ends, outcome_of}
-use Rattle.py_run.specs.Work.{lead_does, rest, held_of, held_after, hold_at, weights, weight_after}
-use Rattle.py_run.specs.declared.flow.Flow.{Flow}
+use Rattle.py_run.specs.Work.{lead_does, rest, held_of, held_after, hold_at, weight_after}
 use Rattle.py_run.specs.declared.work.Item.{Item}
-use Rattle.py_run.specs.declared.work.Hold.{Hold}
 use Rattle.py_run.specs.declared.work.Step.{Step}
 use Rattle.py_run.specs.declared.work.Step.TheVariants as step
 use Rattle.py_run.specs.declared.work.Reading.{Reading}

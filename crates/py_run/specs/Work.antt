@@ -1,5 +1,5 @@
 -- What the work that remains will do, in the words of the meaning; what it holds; and how much it is.
-use Rattle.std.specs.Prelude.{ℕ, zero, suc, ◌+◌, ◌*◌, ◌-◌, ◌<◌, ◌≤◌, List, [], ◌∷◌, ◌++◌, drop, length, Option, Some, None}
+use Rattle.std.specs.Prelude.{ℕ, ◌+◌, ◌*◌, ◌-◌, ◌<◌, ◌≤◌, List, [], ◌∷◌, ◌++◌, drop, length, Option, Some, None}
 use Rattle.py_value.specs.declared.value.Raised.{Raised as Error}
 use Rattle.machine_events.specs.declared.event.Event.TheVariants as e
 use Rattle.machine_events.specs.Knowing.{Holding, Taken, Loading}
@@ -8,7 +8,6 @@ use Rattle.py_parser.specs.Sources.{script_of}
 use Rattle.py_parser.specs.declared.script.Stmt.{Stmt}
 use Rattle.py_run.specs.Errors.{halted, not_found, deadlock, lost, too_long, too_deep, text_too_long, not_built, no_reply}
 use Rattle.py_run.specs.Meaning.{Onward, fails, bodies, imports, asks, takes, finds, searches, adds, gives_back, finishes, statements, statement, argument, binds, on_good, ends}
-use Rattle.py_run.specs.declared.flow.Flow.{Flow}
 use Rattle.py_run.specs.declared.flow.Flow.TheVariants.{On, Found, Raised}
 use Rattle.py_run.specs.declared.why.Why.{Why}
 use Rattle.py_run.specs.declared.why.Why.TheVariants as why

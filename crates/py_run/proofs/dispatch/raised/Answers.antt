@@ -1,5 +1,5 @@
-use Rattle.std.proofs.Common.{◌≡◌, ◌<◌, ◌≤◌, ◌∙◌, ◌++◌, ℕ, List, ap, subst, sym, refl, arith}
-use Rattle.machine_events.specs.Knowing.{Holding, shown}
+use Rattle.std.proofs.Common.{◌∙◌, ◌++◌, List, ap, subst, arith}
+use Rattle.machine_events.specs.Knowing.{Holding}
 use Rattle.machine_book.proofs.Keeping.{continues_refl}
 use Rattle.meanings.specs.Runs.{Run, Stands}
 use Rattle.py_run.proofs.Passing.{passes}

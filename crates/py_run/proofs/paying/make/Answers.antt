@@ -1,4 +1,4 @@
-use Rattle.std.proofs.Common.{◌≡◌, ◌∷◌, ◌++◌, [], ap, ◌∙◌}
+use Rattle.std.proofs.Common.{ap, ◌∙◌}
 use Rattle.machine_events.specs.Knowing.{shown}
 use Rattle.meanings.proofs.Spends.{shown-snoc}
 use Rattle.meanings.proofs.Stand.{stands_made}

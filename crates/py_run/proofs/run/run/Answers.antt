@@ -1,14 +1,12 @@
-use Rattle.std.proofs.Common.{◌≡◌, ◌≤◌, ◌<◌, ◌+◌, ℕ, List, [], ◌∷◌, ◌++◌, Option, OnErr, refl, sym, ap, ◌∙◌, subst, arith}
+use Rattle.std.proofs.Common.{◌≡◌, Option, refl, sym, ◌∙◌, subst, arith}
 use Rattle.tree_files.specs.Files.{Files}
-use Rattle.machine_events.specs.Knowing.{Holding, shown}
+use Rattle.machine_events.specs.Knowing.{shown}
 use Rattle.machine_book.proofs.Keeping.{continues_refl, continues_trans}
-use Rattle.meanings.specs.Runs.{Run, Stands, StandsIn}
+use Rattle.meanings.specs.Runs.{Run, Stands}
 use Rattle.meanings.proofs.Stand.{on_err}
 use Rattle.py_run.specs.Meaning.{meaning}
-use Rattle.py_run.specs.Work.{rest, held_of}
+use Rattle.py_run.specs.Work.{rest}
 use Rattle.py_run.specs.Steps.{AfterStretch, held_stretch}
-use Rattle.py_run.specs.declared.flow.Flow.TheVariants.{On}
-use Rattle.py_run.specs.declared.work.Item.{Item}
 use Rattle.py_run.specs.declared.work.Stretch.{Stretch}
 use Rattle.py_run.proofs.Loops.{begins_with, begins_in, holds_none, after_stretch}
 use Rattle.py_run.proofs.Safety.{safe_meaning}

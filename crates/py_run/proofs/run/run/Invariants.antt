@@ -1,7 +1,7 @@
-use Rattle.std.proofs.Common.{◌≡◌, ◌≤◌, ℕ}
+use Rattle.std.proofs.Common.{◌≡◌, ◌≤◌}
 use Rattle.machine_events.specs.Knowing.{shown}
 use Rattle.machine_book.specs.Sight.{Continues}
-use Rattle.meanings.specs.Runs.{Run, Stands}
+use Rattle.meanings.specs.Runs.{Stands}
 use Rattle.py_run.specs.Meaning.{meaning}
 use Rattle.py_run.specs.Work.{rest, held_of}
 use Rattle.py_run.proofs.run.run.Given as goal

@@ -1,15 +1,10 @@
-use Rattle.std.proofs.Common.{◌≡◌, ◌≤◌, ◌<◌, ◌+◌, ℕ, List, [], ◌∷◌, ◌++◌, Option, refl, sym, ap, ◌∙◌, subst, arith}
-use Rattle.std.proofs.lemmas.List.{append_assoc}
-use Rattle.tree_files.specs.Files.{Files}
-use Rattle.machine_events.specs.declared.event.Event.{Event}
-use Rattle.machine_events.specs.declared.event.Reply.{Reply}
-use Rattle.machine_events.specs.Knowing.{Holding, shown}
+use Rattle.std.proofs.Common.{◌≡◌, ◌++◌, refl, sym, ap, ◌∙◌, subst, arith}
+use Rattle.machine_events.specs.Knowing.{shown}
 use Rattle.machine_book.proofs.Keeping.{continues_refl, continues_trans}
 use Rattle.meanings.specs.Runs.{Run, Stands, StandsIn}
 use Rattle.meanings.proofs.Stand.{in_some, on_err}
-use Rattle.py_run.specs.Work.{rest, held_of, held_at, held_lead, lead_does, weights, weight, weight_lead}
-use Rattle.py_run.specs.Steps.{AfterReading, held_reading, weight_reading}
-use Rattle.py_run.specs.declared.work.Item.{Item}
+use Rattle.py_run.specs.Work.{rest, held_of, held_lead}
+use Rattle.py_run.specs.Steps.{AfterReading, held_reading}
 use Rattle.py_run.specs.declared.work.Reading.{Reading}
 use Rattle.py_run.specs.declared.work.Reading.TheVariants as reading
 use Rattle.py_run.specs.declared.work.Step.TheVariants as step

@@ -1,4 +1,4 @@
-use Rattle.std.proofs.Common.{◌≡◌, ◌++◌, List, ap, sym, ◌∙◌}
+use Rattle.std.proofs.Common.{◌++◌, List, ap, sym, ◌∙◌}
 use Rattle.machine_events.specs.Knowing.{Holding}
 use Rattle.machine_book.proofs.Keeping.{continues_trans}
 use Rattle.py_run.specs.Work.{held_of}

@@ -1,22 +1,21 @@
-use Rattle.std.proofs.Common.{◌≡◌, ◌≤◌, ◌-◌, ◌∷◌, ◌++◌, [], ℕ, List, Option, Some, Result, Ok, Err, IfOk, OnErr, refl, sym, ap, ◌∙◌, subst, arith}
+use Rattle.std.proofs.Common.{ℕ, List, Option, Some, Result, Ok, Err, OnErr, sym, subst}
 use Rattle.std.proofs.lemmas.Result.{IfOk-weaker}
 use Rattle.tree_files.specs.Files.{Files}
 use Rattle.machine_events.specs.declared.event.Event.{Event}
 use Rattle.machine_events.specs.declared.event.Reply.{Reply}
 use Rattle.machine_events.specs.declared.event.Outcome.{Outcome}
-use Rattle.machine_events.specs.Knowing.{shown}
 use Rattle.machine_book.proofs.Keeping.{continues_refl, continues_trans}
 use Rattle.meanings.specs.Runs.{Run, Stands, StandsIn, IsSpent, IsUnread, Ended}
 use Rattle.meanings.specs.Runs as runs
 use Rattle.meanings.specs.Follows.{Follows}
 use Rattle.meanings.proofs.Stand.{on_err}
-use Rattle.py_run.specs.Ending.{Broken, outcome}
+use Rattle.py_run.specs.Ending.{Broken}
 use Rattle.py_run.specs.Meaning.{meaning, outcome_of}
 use Rattle.py_run.specs.Steps.{Overs, CountsOver}
 use Rattle.py_run.specs.declared.work.Over.{Over}
 use Rattle.py_run.specs.declared.work.Over.TheVariants as over
 use Rattle.py_run.proofs.Loops.{begins_in}
-use Rattle.py_run.proofs.Whole.{follows_came, follows_out, follows_read, broken_in, broken_out, broken_read, came_safe, spent_runs, unread_runs, unread_left}
+use Rattle.py_run.proofs.Whole.{follows_came, follows_out, follows_read, broken_in, broken_out, broken_read, came_safe, spent_runs, unread_runs}
 use Rattle.py_run.proofs.script.run_script.Goals as goal
 
 on_err_then : {T E : Type 0} {P Q : Type 0} (r : Result T E) → OnErr r P → (P → Q) → OnErr r Q
@@ -95,7 +94,7 @@ returns-in-Came-clause-follows g c = λ files e.
     let mine' = (g.D.Desk.sight c.came.new.desk).mine in
     let stands : Stands (Some files) whole fuel mine came_to.0 (runs.Over (Ended (outcome_of c.in-Came.flow))) = subst (λ (o : Option Files). Stands o whole fuel mine came_to.0 (runs.Over (Ended (outcome_of c.in-Came.flow)))) e came_to.1 in
     IfOk-weaker c.came.result _ _ (λ ending ends.
-        subst (λ (how : Outcome). Follows files t whole fuel mine' how) (sym ends.0) (follows_came files t whole fuel came_to.0 mine mine' c.in-Came.flow stands ends.1)) c.came.ensures.ends
+    subst (λ (how : Outcome). Follows files t whole fuel mine' how) (sym ends.0) (follows_came files t whole fuel came_to.0 mine mine' c.in-Came.flow stands ends.1)) c.came.ensures.ends
 
 pub returns-in-Came-clause-part : goal.returns-in-Came-clause-part
 returns-in-Came-clause-part g c = λ files e.
@@ -109,7 +108,7 @@ returns-in-Came-clause-part g c = λ files e.
     let came_to : Overs files₀ whole fuel mine (over.Came c.in-Came.flow) = subst (λ (o : Over). Overs files₀ whole fuel mine o) c.in-Came.is reached in
     let mine' = (g.D.Desk.sight c.came.new.desk).mine in
     let here : Broken files t whole fuel mine (g.T.Tree.faults c.args.tree.now) (g.T.Tree.faults c.run.new.tree) =
-        broken_in files t whole fuel mine _ _ (subst (λ (o : Option Files). StandsIn o whole fuel mine) e (record { budget = came_to.0; rest = runs.Over (Ended (outcome_of c.in-Came.flow)); stands = came_to.1 })) in
+    broken_in files t whole fuel mine _ _ (subst (λ (o : Option Files). StandsIn o whole fuel mine) e (record { budget = came_to.0; rest = runs.Over (Ended (outcome_of c.in-Came.flow)); stands = came_to.1 })) in
     on_err_then c.came.result c.came.ensures.err (λ same. subst (λ (m : List (Event × Reply)). Broken files t whole fuel m (g.T.Tree.faults c.args.tree.now) (g.T.Tree.faults c.run.new.tree)) (sym same) here)
 
 pub broke-requires-clause-runs : goal.broke-requires-clause-runs

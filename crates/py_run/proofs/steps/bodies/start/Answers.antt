@@ -1,4 +1,4 @@
-use Rattle.std.proofs.Common.{◌≡◌, ◌<◌, ◌-◌, false, subst, arith}
+use Rattle.std.proofs.Common.{◌-◌, false, subst, arith}
 use Rattle.meanings.specs.Runs.{Run, Stands}
 use Rattle.py_parser.specs.Sources.{script_of}
 use Rattle.py_run.specs.Meaning.{imports, parsed}

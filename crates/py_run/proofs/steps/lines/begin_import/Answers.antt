@@ -1,4 +1,4 @@
-use Rattle.std.proofs.Common.{◌≡◌, ◌<◌, ◌-◌, ◌∙◌, ap, sym, arith, ℕ, List}
+use Rattle.std.proofs.Common.{◌-◌, ◌∙◌, ap, sym, arith, ℕ, List}
 use Rattle.py_run.specs.Meaning.{asks, bodies, binds, most}
 use Rattle.py_run.proofs.Turns.{imports_more}
 use Rattle.py_run.proofs.steps.lines.begin_import.Goals as goal

@@ -1,11 +1,10 @@
-use Rattle.std.proofs.Common.{◌≡◌, ◌≤◌, ◌/◌, ◌++◌, ◌∷◌, [], Bool, true, false, nat_lt, length, subst, arith, if◌then◌else◌}
+use Rattle.std.proofs.Common.{◌≡◌, ◌++◌, ◌∷◌, [], Bool, false, nat_lt, length, subst, arith, if◌then◌else◌}
 use Rattle.std.proofs.lemmas.Bool.{le-ltb}
-use Rattle.std.proofs.lemmas.Result.{IfOk-weaker}
 use Rattle.machine_events.specs.declared.event.Event.TheVariants as e
 use Rattle.machine_book.proofs.Keeping.{continues_refl}
 use Rattle.meanings.specs.Runs.{Run, Pays, Makes, Stands}
 use Rattle.py_run.specs.Errors.{text_too_long}
-use Rattle.py_run.specs.Meaning.{fails, prints}
+use Rattle.py_run.specs.Meaning.{fails}
 use Rattle.py_run.specs.declared.flow.Flow.TheVariants.{On}
 use Rattle.py_run.proofs.steps.lines.prints.Goals as goal
 

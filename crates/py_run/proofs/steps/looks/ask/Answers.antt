@@ -1,4 +1,4 @@
-use Rattle.std.proofs.Common.{◌≡◌, ◌<◌, ◌-◌, false, subst, sym, arith}
+use Rattle.std.proofs.Common.{◌≡◌, ◌-◌, false, subst, sym, arith}
 use Rattle.machine_events.specs.declared.event.Event.TheVariants as e
 use Rattle.machine_events.specs.declared.event.Reply.{Reply}
 use Rattle.meanings.specs.Runs.{Run, Stands, Makes, make}

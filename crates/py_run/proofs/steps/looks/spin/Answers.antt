@@ -1,5 +1,4 @@
-use Rattle.std.proofs.Common.{◌≡◌, true, false, subst, sym}
-use Rattle.meanings.specs.Runs.{Run, Pays, Stands}
+use Rattle.std.proofs.Common.{false}
 use Rattle.py_run.specs.Errors.{no_reply}
 use Rattle.py_run.specs.Meaning.{fails}
 use Rattle.py_run.proofs.steps.looks.spin.Goals as goal

@@ -1,6 +1,6 @@
-use Rattle.std.proofs.Common.{◌≡◌, ◌≤◌, ◌<◌, ◌∷◌, [], List, ℕ, length, Bool, true, Option, Some, None, IfSome, Result, Err, ap, sym, subst}
+use Rattle.std.proofs.Common.{◌≡◌, ◌<◌, ◌∷◌, [], List, ℕ, length, true, Option, Some, None, IfSome, Err, ap, subst}
 use Rattle.base_types.specs.Path.{Path}
-use Rattle.tree_files.specs.Files.{Files, node_at, bytes_of}
+use Rattle.tree_files.specs.Files.{node_at, bytes_of}
 use Rattle.meanings.specs.Runs.{Run, Looks, TextOf, Stands}
 use Rattle.py_run.specs.Meaning.{bodies, file_of, has_text}
 use Rattle.py_run.specs.Work.{again}

@@ -1,9 +1,9 @@
-use Rattle.std.proofs.Common.{◌≡◌, ◌∷◌, [], List, ℕ, Option, sym, subst}
+use Rattle.std.proofs.Common.{Option, sym, subst}
 use Rattle.std.proofs.lemmas.Result.{IfOk-weaker}
 use Rattle.base_types.specs.Path.{Path}
 use Rattle.tree_files.specs.declared.tree.Stamp.{Stamp}
 use Rattle.tree_files.specs.Files.{Files}
-use Rattle.meanings.specs.Runs.{Run, Looks, StampOf, Stands, IsUnread}
+use Rattle.meanings.specs.Runs.{Run, Looks, StampOf, Stands}
 use Rattle.py_run.specs.Meaning.{bodies, by_file}
 use Rattle.py_run.specs.Work.{again}
 use Rattle.py_run.specs.Steps.{AfterReading}
