@@ -1,28 +1,20 @@
 -- What holds in every state is kept where modules and loads are added or changed, and where a thread ends.
-use Rattle.std.proofs.Common.{◌≡◌, ◌≢◌, ◌⊎◌, ℕ, zero, suc, ◌+◌, ◌<◌, ◌≤◌, length, arith, Bool, true, false, cond, ◌&&◌, List, [], ◌∷◌, ◌++◌, Option, Some, None, refl, sym, ap, subst, ◌∙◌, eqb, inl, inr}
-use Rattle.std.specs.Prelude.{slice_get, slice_set, not, is_some, is_none}
-use Rattle.std.specs.Ordering.{nat_cmp, eq_by_cmp}
-use Rattle.std.specs.Cmp.{nat_cmp_total, eq_by_cmp_equiv}
-use Rattle.std.specs.Cmp.Lexicographic.{slice_cmp, nat_list_cmp_total}
-use Rattle.std.specs.FinMap.{FinMap, get, insert, remove, get-insert, get-remove}
-use Rattle.std.proofs.lemmas.Bool.{false≢true, eqb-true, eqb-false, eq-eqb}
-use Rattle.std.proofs.lemmas.Bool.Decides.{nat_tests}
-use Rattle.module_lock.specs.Table.{Table, owner_of, is_free, got, given}
-use Rattle.module_lock.proofs.Kept.{acyclic-got, acyclic-given}
+use Rattle.std.proofs.Common.{◌≡◌, ℕ, ◌+◌, ◌<◌, ◌≤◌, length, arith, true, false, List, [], ◌∷◌, ◌++◌, Option, Some, None, refl, sym, ap, subst, ◌∙◌, inl, inr}
+use Rattle.std.specs.Prelude.{slice_get, is_some}
+use Rattle.std.specs.FinMap.{get}
+use Rattle.std.proofs.lemmas.Bool.{false≢true}
 use Rattle.module_table.specs.declared.module.LoadKind.{LoadKind}
 use Rattle.module_table.specs.declared.module.LoadKind.TheVariants as load_kinds
 use Rattle.module_table.specs.declared.module.LoadStage.{LoadStage}
-use Rattle.module_table.specs.declared.module.LoadStage.TheVariants as stages
 use Rattle.module_table.specs.declared.module.Phase.{Phase}
 use Rattle.module_table.specs.declared.module.Phase.TheVariants as phases
 use Rattle.module_table.specs.declared.module.Reload.{Reload}
-use Rattle.machine_state.specs.Parts.{is_open, is_main, is_imported}
+use Rattle.machine_state.specs.Parts.{is_imported}
 use Rattle.import_machine.specs.Bones.{Bones, Module, Body, is_named, counts_in, opens, held}
-use Rattle.import_machine.specs.Sound.{AreSound, IsRunning, FitsModule, FitsKind, FitsPhase, FitsLoad, FitsReload, HasBody, IsMadeBy, Begins, phase_of}
-use Rattle.import_machine.proofs.Lists.{pushed_last, pushed_keeps, pushed_at, within, set_there, set_elsewhere, set_at}
-use Rattle.import_machine.proofs.Holds.{same_text, same_name, at_or_elsewhere, held_got, held_more, held_less, held_elsewhere}
-use Rattle.import_machine.proofs.Counts.{bit, counts_own, counts_there, renamed, opens_push, opens_set, changed_name}
-use Rattle.import_machine.proofs.Moves.{made, loaded_again}
+use Rattle.import_machine.specs.Sound.{AreSound, FitsModule, FitsKind, FitsPhase, FitsLoad, HasBody, IsMadeBy, phase_of}
+use Rattle.import_machine.proofs.Lists.{pushed_last, pushed_keeps, pushed_at}
+use Rattle.import_machine.proofs.Counts.{bit, counts_own, renamed, opens_push}
+use Rattle.import_machine.proofs.Moves.{made}
 
 -- a load of kind Plain or Lazy is the one that its module was made with
 pub fits_made : (i : ℕ) (l : Body) (m : Module) (kind : LoadKind) → is_imported kind ≡ true → IsMadeBy i l m → FitsKind i l m kind
@@ -62,14 +54,13 @@ more_load b c r (Some i) h fits = h i _ fits refl
 module _ (b : Bones) (sound : AreSound b) where
   -- the next module, with its load; where the load is open, the thread has taken the lock once more than needed
   module _ (t : ℕ) (n : List ℕ) (kind : LoadKind) (stage : LoadStage) (imported : is_imported kind ≡ true) (going : is_some (get b.ended t) ≡ false) where
-
     -- the old loads count as before, and the new one at this thread and name alone
     pub opens_made : (u : ℕ) (m : List ℕ) → opens (made b t n (phase_of stage) kind stage) u m ≡ opens b u m + bit (counts_in (made b t n (phase_of stage) kind stage) u m (record { kind = kind; thread = t; mid = length b.modules; stage = stage }))
     opens_made u m =
         let more : List Module = b.modules ++ record { name = n; phase = phase_of stage; load = Some (length b.bodies) } ∷ [] in
         opens_push (record b { modules = more }) (record { kind = kind; thread = t; mid = length b.modules; stage = stage }) u m
         ∙ ap (λ k. k + bit (counts_in (made b t n (phase_of stage) kind stage) u m (record { kind = kind; thread = t; mid = length b.modules; stage = stage })))
-          (renamed b more (λ i l is k. let old = sound.bodies i l is in ap (λ o. is_named o k) (pushed_keeps b.modules _ l.mid old.0 old.1 ∙ sym old.1)) u m)
+        (renamed b more (λ i l is k. let old = sound.bodies i l is in ap (λ o. is_named o k) (pushed_keeps b.modules _ l.mid old.0 old.1 ∙ sym old.1)) u m)
 
     -- what holds of the new list of loads and modules beside the counts
     pub bodies_made : (i : ℕ) (l : Body) → slice_get (b.bodies ++ record { kind = kind; thread = t; mid = length b.modules; stage = stage } ∷ []) i ≡ Some l → FitsModule (made b t n (phase_of stage) kind stage) i l
@@ -100,7 +91,7 @@ module _ (b : Bones) (sound : AreSound b) where
       bodies = bodies_made;
       modules = modules_made;
       reloads = λ k r h. let old = sound.reloads k r h in
-        (old.0, pushed_keeps b.modules _ r.mid old.0 old.1, old.2, more_load b (made b t n (phase_of stage) kind stage) r r.load (λ i l is _. pushed_keeps b.bodies _ i l is) old.3);
+          (old.0, pushed_keeps b.modules _ r.mid old.0 old.1, old.2, more_load b (made b t n (phase_of stage) kind stage) r r.load (λ i l is _. pushed_keeps b.bodies _ i l is) old.3);
       owners = λ m u h. let r = sound.owners m u h in record { first = r.first; round = r.round; going = r.going; earlier = r.earlier };
       alive = λ i l is opened kind_is. elim (pushed_at b.bodies _ i l is) [
         | inl old ↦ sound.alive i l old opened kind_is

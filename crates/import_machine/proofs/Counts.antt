@@ -1,14 +1,12 @@
 -- How many open loads a thread has of each name, after loads or modules were added or changed.
-use Rattle.std.proofs.Common.{◌≡◌, ◌≢◌, ◌⊎◌, ℕ, zero, suc, ◌+◌, ◌<◌, ◌≤◌, length, arith, Bool, true, false, cond, ◌&&◌, List, [], ◌∷◌, ◌++◌, Option, Some, None, refl, sym, ap, subst, ◌∙◌, map, add-zero, eqb, inl, inr}
+use Rattle.std.proofs.Common.{◌≡◌, ℕ, zero, suc, ◌+◌, ◌<◌, arith, Bool, true, false, cond, ◌&&◌, List, [], ◌∷◌, ◌++◌, Some, refl, sym, ap, subst, ◌∙◌, map, add-zero}
 use Rattle.std.specs.Prelude.{◌==◌, slice_get, slice_set, not, sum_by, count_by, nat_eq}
-use Rattle.std.specs.Option.{option_map}
 use Rattle.std.specs.Cmp.Lexicographic.{pointwise, nat_list_eq_equiv}
-use Rattle.std.proofs.lemmas.Bool.{and_parts, and_from, false≢true, eqb-true, eq-eqb, ne_eqb, eqb-false}
+use Rattle.std.proofs.lemmas.Bool.{and_parts, and_from, eqb-true, eq-eqb}
 use Rattle.std.proofs.lemmas.List.Sums.{sum_by-cons, sum_by-append}
 use Rattle.std.proofs.lemmas.Slice.Eq.{bytes_eq-Decides}
 use Rattle.machine_state.specs.Parts.{is_open, is_main}
 use Rattle.import_machine.specs.Bones.{Bones, Module, Body, is_named, counts_in, opens}
-use Rattle.import_machine.proofs.Lists.{pushed_keeps, pushed_last}
 
 abbrev pub bit : Bool → ℕ
 bit c = cond c 1 0
@@ -50,7 +48,7 @@ module _ (b : Bones) where
   counts_there l m is opened kind =
       let named : is_named (slice_get b.modules l.mid) m.name ≡ true = ap (λ o. is_named o m.name) is ∙ nat_list_eq_equiv.refl m.name in
       and_from (is_open l.stage && (l.thread == l.thread) && not (is_main l.kind)) (is_named (slice_get b.modules l.mid) m.name)
-        (and_from (is_open l.stage && (l.thread == l.thread)) (not (is_main l.kind)) (and_from (is_open l.stage) (l.thread == l.thread) opened (eq-eqb l.thread l.thread refl)) (ap not kind)) named
+      (and_from (is_open l.stage && (l.thread == l.thread)) (not (is_main l.kind)) (and_from (is_open l.stage) (l.thread == l.thread) opened (eq-eqb l.thread l.thread refl)) (ap not kind)) named
 
   one_for : (u : ℕ) (n : List ℕ) (x : Body) → counts_in b u n x ≡ true → bit (counts_in b u n x) ≡ 1
   one_for u n x h = ap bit h
@@ -70,7 +68,7 @@ module _ (b : Bones) where
       → (u : ℕ) (n : List ℕ) → opens (record b { modules = modules }) u n ≡ opens b u n
   renamed modules h u n =
       same_sum (λ x. bit (counts_in (record b { modules = modules }) u n x)) (λ x. bit (counts_in b u n x)) b.bodies
-        (λ i l is. ap (λ c. bit ((is_open l.stage && (l.thread == u) && not (is_main l.kind)) && c)) (h i l is n))
+      (λ i l is. ap (λ c. bit ((is_open l.stage && (l.thread == u) && not (is_main l.kind)) && c)) (h i l is n))
 
   pub opens_push : (l : Body) (u : ℕ) (n : List ℕ) → opens (record b { bodies = b.bodies ++ l ∷ [] }) u n ≡ opens b u n + bit (counts_in b u n l)
   opens_push l u n = push_sum (λ x. bit (counts_in b u n x)) b.bodies l

@@ -1,29 +1,17 @@
 -- What each kind of change does to what holds in every state.
-use Rattle.std.proofs.Common.{◌≡◌, ◌≢◌, ◌⊎◌, ℕ, zero, suc, ◌+◌, ◌<◌, ◌≤◌, length, arith, Bool, true, false, cond, ◌&&◌, List, [], ◌∷◌, ◌++◌, Option, Some, None, refl, sym, ap, subst, ◌∙◌, eqb, inl, inr}
-use Rattle.std.specs.Prelude.{slice_get, slice_set, not, is_some}
+use Rattle.std.proofs.Common.{◌≡◌, ◌⊎◌, ℕ, zero, suc, ◌+◌, ◌<◌, ◌≤◌, arith, true, false, cond, List, Some, None, refl, sym, ap, subst, ◌∙◌, inl, inr}
+use Rattle.std.specs.Prelude.{slice_get, is_some}
 use Rattle.std.specs.Option.{option_map}
-use Rattle.std.specs.Ordering.{nat_cmp, eq_by_cmp}
-use Rattle.std.specs.Cmp.{nat_cmp_total}
-use Rattle.std.specs.Cmp.Lexicographic.{slice_cmp, nat_list_cmp_total}
-use Rattle.std.specs.FinMap.{FinMap, get, insert, remove, get-insert, get-remove}
-use Rattle.std.proofs.lemmas.Bool.{false≢true, eqb-true, eqb-false, eq-eqb}
+use Rattle.std.specs.Cmp.Lexicographic.{nat_list_cmp_total}
+use Rattle.std.specs.FinMap.{get, insert, remove, get-insert, get-remove}
 use Rattle.module_lock.specs.declared.locks.Lock.{Lock}
-use Rattle.module_lock.specs.Table.{Table, lock_of, owner_of, is_free, got, given, lowered, taken_count}
+use Rattle.module_lock.specs.Table.{Table, lock_of, owner_of, is_free, got, given, taken_count}
 use Rattle.module_lock.specs.Cycles.{IsAcyclic}
 use Rattle.module_lock.proofs.Kept.{acyclic-got, acyclic-given, inserted, lowered_owner}
-use Rattle.module_table.specs.declared.module.LoadKind.{LoadKind}
-use Rattle.module_table.specs.declared.module.LoadKind.TheVariants as load_kinds
-use Rattle.module_table.specs.declared.module.LoadStage.{LoadStage}
-use Rattle.module_table.specs.declared.module.LoadStage.TheVariants as stages
-use Rattle.module_table.specs.declared.module.Phase.{Phase}
-use Rattle.module_table.specs.declared.module.Phase.TheVariants as phases
 use Rattle.module_table.specs.declared.module.Reload.{Reload}
-use Rattle.machine_state.specs.Parts.{is_open, is_main, is_imported}
-use Rattle.import_machine.specs.Bones.{Bones, Module, Body, is_named, counts_in, opens, held_by, held}
-use Rattle.import_machine.specs.Sound.{AreSound, IsRunning, FitsModule, FitsKind, FitsPhase, FitsLoad, FitsReload, HasBody, IsMadeBy, Begins, phase_of}
-use Rattle.import_machine.proofs.Lists.{pushed_last, pushed_keeps, pushed_at, within, set_there, set_elsewhere, set_at}
-use Rattle.import_machine.proofs.Holds.{same_text, same_name, same_self, at_or_elsewhere, held_got, held_more, held_less, held_elsewhere}
-use Rattle.import_machine.proofs.Counts.{counts_own, counts_there, renamed, opens_push, opens_set, changed_name}
+use Rattle.import_machine.specs.Bones.{Bones, Module, opens, held_by, held}
+use Rattle.import_machine.specs.Sound.{AreSound, IsRunning, FitsLoad, FitsReload}
+use Rattle.import_machine.proofs.Holds.{same_text, same_name, at_or_elsewhere, held_got, held_more, held_less, held_elsewhere}
 
 -- the owner of a lock after one was taken is the taker or was the owner before
 got_owner : (table : Table) (t : ℕ) (n m : List ℕ) (u : ℕ) → owner_of (got table t n) m ≡ Some u → (u ≡ t) ⊎ (owner_of table m ≡ Some u)
@@ -69,7 +57,7 @@ module _ (b : Bones) (sound : AreSound b) where
     few = sound.few;
     acyclic = acyclic-given b.locks sound.acyclic t n;
     covered = at_or_elsewhere (λ u m. opens b u m ≤ held (given b.locks t n) u m) t n (let l = held_less b.locks t n in omega arith)
-      (λ u m apart. let e = held_elsewhere b.locks t n u m apart in let c = sound.covered u m in omega arith);
+        (λ u m apart. let e = held_elsewhere b.locks t n u m apart in let c = sound.covered u m in omega arith);
     bodies = sound.bodies;
     modules = sound.modules;
     reloads = sound.reloads;
@@ -86,10 +74,10 @@ module _ (b : Bones) (sound : AreSound b) where
     bodies = sound.bodies;
     modules = sound.modules;
     reloads = λ k q h.
-      elim (same_text k n) as (λ c. same_text k n ≡ c → cond c (Some r) (get b.reloads k) ≡ Some q → FitsReload b k q) [
-        | true ↦ λ p e. let same : r ≡ q = cc in subst (λ z. FitsReload b k z) same (m, is, named ∙ sym (same_name k n p), fits)
-        | false ↦ λ p e. sound.reloads k q e
-      ] refl (sym (get-insert nat_list_cmp_total b.reloads n r k) ∙ h);
+        elim (same_text k n) as (λ c. same_text k n ≡ c → cond c (Some r) (get b.reloads k) ≡ Some q → FitsReload b k q) [
+          | true ↦ λ p e. let same : r ≡ q = cc in subst (λ z. FitsReload b k z) same (m, is, named ∙ sym (same_name k n p), fits)
+          | false ↦ λ p e. sound.reloads k q e
+        ] refl (sym (get-insert nat_list_cmp_total b.reloads n r k) ∙ h);
     owners = λ m u h. let r = sound.owners m u h in record { first = r.first; round = r.round; going = r.going; earlier = r.earlier };
     alive = sound.alive;
   }
@@ -103,10 +91,10 @@ module _ (b : Bones) (sound : AreSound b) where
     bodies = sound.bodies;
     modules = sound.modules;
     reloads = λ k q h.
-      elim (same_text k n) as (λ c. cond c None (get b.reloads k) ≡ Some q → FitsReload b k q) [
-        | true ↦ λ e. cc
-        | false ↦ λ e. sound.reloads k q e
-      ] (sym (get-remove nat_list_cmp_total b.reloads n k) ∙ h);
+        elim (same_text k n) as (λ c. cond c None (get b.reloads k) ≡ Some q → FitsReload b k q) [
+          | true ↦ λ e. cc
+          | false ↦ λ e. sound.reloads k q e
+        ] (sym (get-remove nat_list_cmp_total b.reloads n k) ∙ h);
     owners = λ m u h. let r = sound.owners m u h in record { first = r.first; round = r.round; going = r.going; earlier = r.earlier };
     alive = sound.alive;
   }

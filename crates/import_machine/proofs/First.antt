@@ -1,13 +1,14 @@
 -- What holds in every state holds at the opening.
-use Rattle.std.proofs.Common.{◌≡◌, ◌⊎◌, ℕ, zero, suc, ◌+◌, ◌<◌, ◌≤◌, arith, Bool, true, false, cond, ◌&&◌, List, [], ◌∷◌, ◌++◌, length, Option, Some, None, refl, sym, ap, subst, ◌∙◌, map, inl, inr, eqb}
-use Rattle.std.specs.Prelude.{slice_get, sum_by, not, is_some}
+use Rattle.std.proofs.Common.{◌≡◌, ℕ, zero, suc, ◌+◌, ◌<◌, ◌≤◌, arith, true, false, ◌&&◌, List, [], ◌∷◌, ◌++◌, length, Some, refl, sym, ap, subst, ◌∙◌, inl, inr, eqb}
+use Rattle.std.specs.Prelude.{slice_get, sum_by, not, replicate}
+use Rattle.std.specs.List.{sum}
 use Rattle.std.specs.Ordering.{nat_cmp}
 use Rattle.std.specs.Option.{option_map}
-use Rattle.std.specs.FinMap.{get, empty, get-empty}
+use Rattle.std.specs.FinMap.{get-empty}
 use Rattle.std.proofs.lemmas.Bool.{false≢true, and_parts}
 use Rattle.std.proofs.lemmas.List.Sums.{sum_by-cons}
+use Rattle.std.proofs.lemmas.List.{length-append, length-replicate}
 use Rattle.std.specs.Cmp.Lexicographic.{slice_cmp}
-use Rattle.module_lock.specs.Cycles.{IsAcyclic}
 use Rattle.module_lock.specs.declared.locks.Lock.{Lock}
 use Rattle.module_lock.proofs.Kept.{acyclic-empty}
 use Rattle.module_table.specs.declared.module.Object.{Object}
@@ -20,8 +21,8 @@ use Rattle.machine_state.specs.declared.state.State.{State}
 use Rattle.machine_state.specs.Parts.{is_open, is_main}
 use Rattle.machine_state.specs.Opening.{opening, round_starts, script_objects, script_object, script_loads, script_load, sys_module, importlib_module, pyimport_module}
 use Rattle.machine_state.specs.Legal.{replay, IsLegal}
-use Rattle.import_machine.specs.Bones.{Bones, Module, Body, bones, module_bone, body_bone, counts_in, opens, is_named}
-use Rattle.import_machine.specs.Sound.{AreSound, IsSound, FitsPhase, FitsModule, FitsKind, Begins}
+use Rattle.import_machine.specs.Bones.{Module, Body, bones, module_bone, body_bone, counts_in, opens, is_named}
+use Rattle.import_machine.specs.Sound.{IsSound, FitsPhase, FitsKind, Begins}
 use Rattle.import_machine.proofs.Counts.{bit}
 use Rattle.import_machine.proofs.Same.{unmap, map_at}
 use Rattle.import_machine.proofs.Lists.{pushed_at, within, pushed_keeps}
@@ -65,11 +66,12 @@ module _ (scripts texts path : List (List ℕ)) (rounds : List ℕ) where
       let less = within (script_loads 0 texts) i at.0 at.1 in
       let long = loads_length 0 texts in
       let mid : at.0.mid ≡ 0 + i = ap (λ (z : Load). z.mid) load.1 in
-      let same : at.0.mid ≡ l.mid = ap (λ (z : Body). z.mid) at.2 in
-      (sym (ap (λ (z : Body). z.kind) at.2) ∙ ap (λ (z : Load). z.kind) load.1,
-       sym (ap (λ (z : Body). z.stage) at.2) ∙ ap (λ (z : Load). z.stage) load.1,
-       omega arith,
-       omega arith)
+      let same : at.0.mid ≡ l.mid = ap (λ (z : Body). z.mid) at.2 in (
+        sym (ap (λ (z : Body). z.kind) at.2) ∙ ap (λ (z : Load). z.kind) load.1,
+        sym (ap (λ (z : Body). z.stage) at.2) ∙ ap (λ (z : Load). z.stage) load.1,
+        omega arith,
+        omega arith,
+      )
 
   all_ready : (mid : ℕ) (m : Module) → slice_get (bones first).modules mid ≡ Some m → m.phase ≡ phases.Ready
   all_ready mid m is =
@@ -98,9 +100,9 @@ module _ (scripts texts path : List (List ℕ)) (rounds : List ℕ) where
     acyclic = acyclic-empty;
     covered = λ t n. let none : opens (bones first) t n ≡ 0 = no_counts (λ x. bit (counts_in (bones first) t n x)) (bones first).bodies (λ i l is. uncounted t n l (main_loads i l is).0) in omega arith;
     bodies = λ i l is.
-      let main = main_loads i l is in
-      let m = there i (omega arith) in
-      (m.0, ap (slice_get (bones first).modules) main.2 ∙ m.1, fits_main i l m.0 main.0 main.1);
+        let main = main_loads i l is in
+        let m = there i (omega arith) in
+        (m.0, ap (slice_get (bones first).modules) main.2 ∙ m.1, fits_main i l m.0 main.0 main.1);
     modules = λ mid m is. subst (FitsPhase (bones first) mid m) (sym (all_ready mid m is)) tt;
     reloads = λ n r h. let e = sym (get-empty (slice_cmp nat_cmp) n) ∙ h in cc;
     owners = λ n t h. let e = sym (ap (option_map (λ (lock : Lock). lock.owner)) (get-empty (slice_cmp nat_cmp) n)) ∙ h in cc;
@@ -116,8 +118,18 @@ module _ (scripts texts path : List (List ℕ)) (rounds : List ℕ) where
                 absurd (false≢true (sym (ap (λ k. not (is_main k)) kind) ∙ main.1))
             | false ↦ λ p. refl
           ] refl
+
       fits_main : (i : ℕ) (l : Body) (m : Module) → l.kind ≡ load_kinds.Main → l.stage ≡ stages.Open → FitsKind i l m l.kind
       fits_main i l m kind stage = subst (FitsKind i l m) (sym kind) (subst Begins (sym stage) tt)
 
 pub always : (scripts texts path : List (List ℕ)) (rounds : List ℕ) (es : List Entry) → length texts ≤ length scripts → length (round_starts 0 rounds) ≤ 16 → IsLegal (opening scripts texts path rounds) es → IsSound (replay (opening scripts texts path rounds) es)
 always scripts texts path rounds es enough few h = sound_after (opening scripts texts path rounds) es (sound_opening scripts texts path rounds enough few) h
+
+-- there are as many threads as the rounds have in all
+pub rounds_long : (k : ℕ) (sizes : List ℕ) → length (round_starts k sizes) ≡ sum sizes
+rounds_long k [] = refl
+rounds_long k (size ∷ sizes) =
+    length-append (replicate size k) (round_starts (k + size) sizes)
+    ∙ ap (λ n. n + length (round_starts (k + size) sizes)) (length-replicate size k)
+    ∙ ap (λ n. size + n) (rounds_long (k + size) sizes)
+    ∙ sym (sum_by-cons (λ x. x) size sizes)

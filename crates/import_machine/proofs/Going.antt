@@ -1,9 +1,8 @@
 -- Loads are never taken away, and only go on.
-use Rattle.std.proofs.Common.{◌≡◌, ◌≢◌, ◌⊎◌, ℕ, zero, suc, ◌+◌, ◌<◌, ◌≤◌, arith, Bool, true, false, cond, ◌&&◌, List, [], ◌∷◌, ◌++◌, length, Option, Some, None, refl, sym, ap, subst, ◌∙◌, eqb, inl, inr, map}
+use Rattle.std.proofs.Common.{◌≡◌, ℕ, ◌≤◌, arith, Bool, true, false, ◌&&◌, List, [], ◌∷◌, ◌++◌, length, Option, Some, None, refl, sym, ap, subst, ◌∙◌, eqb}
 use Rattle.std.specs.Prelude.{slice_get, slice_set, not, nat_lt}
 use Rattle.std.specs.FinMap.{get}
-use Rattle.std.proofs.lemmas.Bool.{and_parts, false≢true, eqb-true, eqb-false}
-use Rattle.std.proofs.lemmas.List.{map-append}
+use Rattle.std.proofs.lemmas.Bool.{eqb-true, eqb-false}
 use Rattle.py_value.specs.declared.value.ModRef.{ModRef}
 use Rattle.spec_core.specs.declared.spec.Spec.{Spec}
 use Rattle.machine_events.specs.declared.module.Slot.{Slot}
@@ -13,14 +12,13 @@ use Rattle.machine_events.specs.declared.event.Event.TheVariants as events
 use Rattle.machine_events.specs.declared.event.Entry.{Entry}
 use Rattle.machine_events.specs.declared.event.Reply.{Reply}
 use Rattle.machine_events.specs.declared.event.Reply.TheVariants as replies
-use Rattle.module_lock.specs.Table.{is_free, owns, closes}
+use Rattle.module_lock.specs.Table.{is_free, owns}
 use Rattle.module_table.specs.Lists.{changed, changed_to}
 use Rattle.module_table.specs.Vars.{var_of}
 use Rattle.module_table.specs.declared.table.Table.{Table as Modules}
 use Rattle.py_value.specs.declared.value.Value.{Value}
 use Rattle.spec_core.specs.Names.{parent_of}
 use Rattle.machine_state.specs.Cache.{is_fixed}
-use Rattle.module_table.specs.Tables.{reload_opened}
 use Rattle.module_table.specs.declared.module.Object.{Object}
 use Rattle.module_table.specs.declared.module.Load.{Load}
 use Rattle.module_table.specs.declared.module.Reload.{Reload}
@@ -32,20 +30,18 @@ use Rattle.module_table.specs.declared.module.Phase.{Phase}
 use Rattle.module_table.specs.declared.module.Phase.TheVariants as phases
 use Rattle.machine_state.specs.declared.state.State.{State}
 use Rattle.machine_state.specs.Parts.{is_initialising, is_built_in, is_built_in_place}
-use Rattle.machine_state.specs.Waits.{wait_on, ask_object, ask_none, ask_slot}
+use Rattle.machine_state.specs.Waits.{ask_object, ask_slot}
 use Rattle.machine_state.specs.Bodies.{bound, bind_under, bind_parent, good_entry, finish_entry, finish_object, finish_load}
 use Rattle.machine_state.specs.Variables.{sleeping, set_on, del_found, del_on}
-use Rattle.machine_state.specs.Reloads.{is_entry, enter, reload_begin_on, reload_take, reload_start, reload_leave, reload_end_on}
+use Rattle.machine_state.specs.Reloads.{is_entry, enter, reload_begin_on, reload_take, reload_leave, reload_end_on}
 use Rattle.machine_state.specs.Lazies.{open_lazy, rouse_lazy, rouse_phase, rouse_on}
 use Rattle.machine_state.specs.Step.{step}
-use Rattle.machine_state.specs.Allowed.{allowed, can_finish, is_reload, is_number, reloads_object}
 use Rattle.machine_state.specs.Legal.{replay, IsLegal}
 use Rattle.import_machine.specs.Bones.{Bones, Body, Module, bones, body_bone, module_bone}
 use Rattle.import_machine.specs.Sound.{IsSound, FitsPhase, HasBody, phase_of}
 use Rattle.import_machine.specs.Answered.{rank, GoOn}
-use Rattle.import_machine.proofs.Same.{either, changed_map, map_at, unmap}
-use Rattle.import_machine.proofs.Lists.{changed_is, pushed_keeps, set_there, set_elsewhere}
-use Rattle.import_machine.proofs.Leave.{fitting}
+use Rattle.import_machine.proofs.Same.{either, map_at}
+use Rattle.import_machine.proofs.Lists.{pushed_keeps, set_there, set_elsewhere}
 use Rattle.import_machine.proofs.Changes.{made_fits}
 use Rattle.import_machine.proofs.Kept.{finishes_entry}
 use Rattle.import_machine.proofs.Steps.{sound_step}
@@ -72,6 +68,7 @@ moved ls f i h = by (slice_get ls i) refl
   where
     le : (n : ℕ) → n ≤ n
     le n = omega arith
+
     at_set : (l : Load) → slice_get ls i ≡ Some l → (j : ℕ) (k : Load) → slice_get ls j ≡ Some k → (m : Load) × (slice_get (slice_set ls i (f l)) j ≡ Some m) × (m.kind ≡ k.kind) × (m.mid ≡ k.mid) × (rank k.stage ≤ rank m.stage)
     at_set l is j k at =
         elim (eqb j i) as (λ c. eqb j i ≡ c → (m : Load) × (slice_get (slice_set ls i (f l)) j ≡ Some m) × (m.kind ≡ k.kind) × (m.mid ≡ k.mid) × (rank k.stage ≤ rank m.stage)) [
@@ -82,6 +79,7 @@ moved ls f i h = by (slice_get ls i) refl
               (f l, ap (slice_get (slice_set ls i (f l))) here ∙ set_there ls i l (f l) is, go.0 ∙ ap (λ (z : Load). z.kind) same, go.1 ∙ ap (λ (z : Load). z.mid) same, subst (λ (z : Load). rank z.stage ≤ rank (f l).stage) same go.2)
           | false ↦ λ p. (k, set_elsewhere ls i j (f l) (eqb-false j i p) ∙ at, refl, refl, le (rank k.stage))
         ] refl
+
     by : (o : Option Load) → slice_get ls i ≡ o → Goes ls (changed_to f ls i o)
     by None is = stay ls
     by (Some l) is = record { kept = at_set l is }
@@ -145,12 +143,15 @@ entry_loads s kind good n = either (λ (p : Reply × State). p.1.table.loads ≡
     bound_loads entry slots.Absent = refl
     bound_loads entry slots.Halted = refl
     bound_loads entry (slots.Module m) = either (λ (z : State). z.table.loads ≡ s.table.loads) (is_built_in_place m.place) _ _ refl refl
+
     under_loads : (entry : Slot) (parent : Option Slot) → (bind_under s n entry parent).1.table.loads ≡ s.table.loads
     under_loads entry None = refl
     under_loads entry (Some parent) = bound_loads entry parent
+
     parent_loads : (entry : Slot) (parent : Option (List ℕ)) → (bind_parent s n entry parent).1.table.loads ≡ s.table.loads
     parent_loads entry None = refl
     parent_loads entry (Some parent) = under_loads entry (get s.table.cache parent)
+
     good_loads : (kind : LoadKind) (entry : Option Slot) → (good_entry s kind n entry).1.table.loads ≡ s.table.loads
     good_loads load_kinds.Plain None = refl
     good_loads load_kinds.Plain (Some entry) = parent_loads entry (parent_of n)
@@ -166,10 +167,11 @@ ended_later stages.Ended = omega arith
 module _ (s : State) (t : ℕ) where
   finishes_object : (load : ℕ) (good : Bool) (l : Load) (o : Option Object) → On s (finish_object s t load good l o)
   finishes_object load good l None = same_loads s
-  finishes_object load good l (Some o) =
-      (subst (λ ls. Goes s.table.loads (changed (λ (l : Load). record l { stage = stages.Ended }) ls load)) (sym (entry_loads s l.kind good o.spec.name))
+  finishes_object load good l (Some o) = (
+    subst (λ ls. Goes s.table.loads (changed (λ (l : Load). record l { stage = stages.Ended }) ls load)) (sym (entry_loads s l.kind good o.spec.name))
         (moved s.table.loads (λ l. record l { stage = stages.Ended }) load (λ l is. (refl, refl, ended_later l.stage))),
-       ap (λ (b : Bones). b.rounds) (finishes_entry s t l.kind good o.spec.name))
+    ap (λ (b : Bones). b.rounds) (finishes_entry s t l.kind good o.spec.name),
+  )
 
   finishes : (load : ℕ) (good : Bool) (l : Option Load) → On s (finish_load s t load good l)
   finishes load good None = same_loads s
@@ -263,12 +265,14 @@ goes_step s sound t (events.Main spec text) = (main_loads s t text, refl)
 goes_step s sound t (events.End outcome spent) = same_loads s
 
 onward : (a b c : List Load) → Goes a b → Goes b c → Goes a c
-onward a b c one two = record { kept = λ i l is.
-  let x = one.kept i l is in
-  let y = two.kept i x.0 x.1 in
-  let h = x.4 in
-  let k = y.4 in
-  (y.0, y.1, y.2 ∙ x.2, y.3 ∙ x.3, le (rank l.stage) (rank x.0.stage) (rank y.0.stage) h k) }
+onward a b c one two = record {
+  kept = λ i l is.
+      let x = one.kept i l is in
+      let y = two.kept i x.0 x.1 in
+      let h = x.4 in
+      let k = y.4 in
+      (y.0, y.1, y.2 ∙ x.2, y.3 ∙ x.3, le (rank l.stage) (rank x.0.stage) (rank y.0.stage) h k);
+}
   where
     le : (x y z : ℕ) → x ≤ y → y ≤ z → x ≤ z
     le x y z h k = omega arith
@@ -278,8 +282,8 @@ pub goes_after : (s : State) (es : List Entry) → IsSound s → IsLegal s es �
 goes_after s [] sound h = stay s.table.loads
 goes_after s (e ∷ es) sound h =
     onward s.table.loads (step s e.thread e.event).1.table.loads (replay s (e ∷ es)).table.loads
-      (goes_step s sound e.thread e.event).0
-      (goes_after (step s e.thread e.event).1 es (sound_step s sound e.thread e.event h.0) h.2)
+    (goes_step s sound e.thread e.event).0
+    (goes_after (step s e.thread e.event).1 es (sound_step s sound e.thread e.event h.0) h.2)
 
 -- no event changes the rounds
 pub same_rounds : (s : State) (es : List Entry) → IsSound s → IsLegal s es → (replay s es).rounds ≡ s.rounds

@@ -1,9 +1,9 @@
 -- How often a thread owns a lock, after one was taken or given back.
-use Rattle.std.proofs.Common.{◌≡◌, ◌≢◌, ◌⊎◌, ℕ, ◌+◌, ◌-◌, ◌<◌, ◌≤◌, arith, Bool, true, false, cond, Ordering, Less, Equal, Greater, List, Option, Some, None, refl, sym, ap, subst, ◌∙◌, leb, eqb, inl, inr}
+use Rattle.std.proofs.Common.{◌≡◌, ◌⊎◌, ℕ, ◌+◌, ◌-◌, ◌≤◌, arith, Bool, true, false, cond, Ordering, Less, Equal, Greater, List, Option, Some, None, refl, sym, ap, subst, ◌∙◌, leb, eqb, inl, inr}
 use Rattle.std.specs.Ordering.{nat_cmp, eq_by_cmp, is_eq}
 use Rattle.std.specs.Cmp.{eq_by_cmp_equiv}
 use Rattle.std.specs.Cmp.Lexicographic.{slice_cmp, nat_list_cmp_total}
-use Rattle.std.specs.FinMap.{FinMap, get, insert, remove, get-insert, get-remove, nat_cmp-IsAntisymmetric, slice_cmp-IsAntisymmetric}
+use Rattle.std.specs.FinMap.{get, insert, remove, get-insert, get-remove, nat_cmp-IsAntisymmetric, slice_cmp-IsAntisymmetric}
 use Rattle.std.proofs.lemmas.Bool.{false≢true, eqb-true, eqb-false, ne_eqb, leb-true, eq-eqb}
 use Rattle.module_lock.specs.declared.locks.Lock.{Lock}
 use Rattle.module_lock.specs.Table.{Table, lock_of, got, given, lowered, taken_count, is_free, is_free_for}
@@ -43,17 +43,17 @@ module _ (table : Table) (t : ℕ) (n : List ℕ) where
   free_le u (Some lock) h =
       let same : lock.owner ≡ t = eqb-true lock.owner t h in
       subst (λ z. held_by u (Some lock) ≤ cond (eqb z u) (lock.count + 1) 0) same
-          (elim (eqb lock.owner u) as (λ b. cond b lock.count 0 ≤ cond b (lock.count + 1) 0) [ true ↦ omega arith | false ↦ omega arith ])
+      (elim (eqb lock.owner u) as (λ b. cond b lock.count 0 ≤ cond b (lock.count + 1) 0) [ true ↦ omega arith | false ↦ omega arith ])
 
   -- taking a lock that is free lowers nobody's count
   pub held_got : is_free table t n ≡ true → (u : ℕ) (m : List ℕ) → held table u m ≤ held (got table t n) u m
   held_got free u m =
       let l : Lock = record { owner = t; count = taken_count (lock_of table n) + 1 } in
       rw (get-insert nat_list_cmp_total table.locks n l m)
-        (elim (same_text m n) as (λ b. same_text m n ≡ b → held_by u (get table.locks m) ≤ held_by u (cond b (Some l) (get table.locks m))) [
-          | true ↦ λ p. subst (λ z. held_by u (get table.locks z) ≤ held_by u (Some l)) (sym (same_name m n p)) (free_le u (lock_of table n) free)
-          | false ↦ λ _. omega arith
-        ] refl)
+      (elim (same_text m n) as (λ b. same_text m n ≡ b → held_by u (get table.locks m) ≤ held_by u (cond b (Some l) (get table.locks m))) [
+        | true ↦ λ p. subst (λ z. held_by u (get table.locks z) ≤ held_by u (Some l)) (sym (same_name m n p)) (free_le u (lock_of table n) free)
+        | false ↦ λ _. omega arith
+      ] refl)
 
   free_more : (o : Option Lock) → is_free_for t o ≡ true → held_by t (Some (record { owner = t; count = taken_count o + 1 })) ≡ held_by t o + 1
   free_more None h = let own = eq-eqb t t refl in rw own refl

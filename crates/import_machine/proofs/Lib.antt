@@ -16,4 +16,5 @@ pub mod First
 pub mod Replies
 pub mod Chain
 pub mod Going
+pub mod OneLoad
 pub mod Always

@@ -1,24 +1,19 @@
 -- Reloads and lazy modules keep what holds in every state.
-use Rattle.std.proofs.Common.{◌≡◌, ◌⊎◌, ℕ, ◌+◌, ◌<◌, ◌≤◌, arith, Bool, true, false, cond, ◌&&◌, List, [], ◌∷◌, ◌++◌, length, Option, Some, None, refl, sym, ap, subst, ◌∙◌, eqb, map}
-use Rattle.std.specs.Prelude.{slice_get, slice_set, nat_eq, is_some, ◌==◌}
-use Rattle.std.specs.Cmp.Lexicographic.{pointwise}
+use Rattle.std.proofs.Common.{◌≡◌, ℕ, ◌+◌, ◌≤◌, arith, Bool, true, false, cond, ◌&&◌, List, [], ◌∷◌, ◌++◌, length, Option, Some, None, refl, sym, ap, subst, ◌∙◌}
+use Rattle.std.specs.Prelude.{slice_get, is_some, ◌==◌}
 use Rattle.std.specs.FinMap.{get, insert, remove}
 use Rattle.std.proofs.lemmas.Bool.{and_parts, false≢true, eqb-true}
 use Rattle.std.proofs.lemmas.List.{map-append, length-map}
 use Rattle.std.proofs.lemmas.Slice.Eq.{bytes_eq-Decides}
 use Rattle.spec_core.specs.declared.spec.Spec.{Spec}
-use Rattle.machine_events.specs.declared.module.Slot.{Slot}
 use Rattle.machine_events.specs.Modules.{module_of}
-use Rattle.machine_events.specs.declared.event.Reply.{Reply}
 use Rattle.machine_events.specs.declared.event.Reply.TheVariants as replies
-use Rattle.module_lock.specs.Table.{Table, is_free, owns, got, given}
+use Rattle.module_lock.specs.Table.{is_free, owns, got, given}
 use Rattle.module_table.specs.Lists.{changed}
 use Rattle.module_table.specs.Tables.{reload_opened, restarted_object, with_phase, with_open}
-use Rattle.module_table.specs.declared.table.Table.{Table as Modules}
 use Rattle.module_table.specs.declared.module.Object.{Object}
 use Rattle.module_table.specs.declared.module.Load.{Load}
 use Rattle.module_table.specs.declared.module.Reload.{Reload}
-use Rattle.module_table.specs.declared.module.LoadKind.{LoadKind}
 use Rattle.module_table.specs.declared.module.LoadKind.TheVariants as load_kinds
 use Rattle.module_table.specs.declared.module.LoadStage.TheVariants as stages
 use Rattle.module_table.specs.declared.module.Phase.{Phase}
@@ -32,9 +27,8 @@ use Rattle.machine_state.specs.Lazies.{open_lazy, rouse_lazy, rouse_phase, rouse
 use Rattle.machine_state.specs.Allowed.{has_name, is_reload, is_number, reloads_object}
 use Rattle.import_machine.specs.Bones.{Bones, Module, Body, bones, module_bone, body_bone, counts_in, opens, held}
 use Rattle.import_machine.specs.Sound.{AreSound, IsSound, IsRunning, FitsPhase, HasBody}
-use Rattle.import_machine.proofs.Same.{either, changed_map, kept_map, map_at, unmap}
+use Rattle.import_machine.proofs.Same.{either, changed_map, kept_map, map_at}
 use Rattle.import_machine.proofs.Lists.{changed_is}
-use Rattle.import_machine.proofs.Holds.{same_text, held_got, held_more}
 use Rattle.import_machine.proofs.Counts.{bit, counts_own, counts_there}
 use Rattle.import_machine.proofs.Facts.{sound_got, sound_given, sound_entered, sound_left, bumped_by}
 use Rattle.import_machine.proofs.Stages.{staged, opens_staged, sound_staged}
@@ -98,21 +92,21 @@ module _ (s : State) (sound : IsSound s) (t : ℕ) where
       let body : Body = record { kind = load_kinds.Reload; thread = r.thread; mid = r.mid; stage = stages.Open } in
       let after = again b first spec.name r own_module there named going in
       let covers : (u : ℕ) (k : List ℕ) → opens after u k ≤ held b.locks u k =
-        bumped_by (bones s) sound t spec.name free (λ u k. bit (counts_in b u k body)) (opens after)
-          (λ u k. let e : opens after u k ≡ opens b u k + bit (counts_in b u k body) = opens_again b first spec.name r own_module there named going u k in omega arith)
-          (λ u k. elim (counts_in b u k body) as (λ c. bit c ≤ 1) [ true ↦ omega arith | false ↦ omega arith ])
-          (λ u k h. let own = counts_own b u k body own_module there (one_is (counts_in b u k body) h) in (own.0 ∙ thread, own.1 ∙ named))
+      bumped_by (bones s) sound t spec.name free (λ u k. bit (counts_in b u k body)) (opens after)
+      (λ u k. let e : opens after u k ≡ opens b u k + bit (counts_in b u k body) = opens_again b first spec.name r own_module there named going u k in omega arith)
+      (λ u k. elim (counts_in b u k body) as (λ c. bit c ≤ 1) [ true ↦ omega arith | false ↦ omega arith ])
+      (λ u k h. let own = counts_own b u k body own_module there (one_is (counts_in b u k body) h) in (own.0 ∙ thread, own.1 ∙ named))
       in
       subst AreSound (sym (started_is mid spec text r ∙ ap (λ z. record (bones s) {
-          locks = got s.locks t spec.name;
-          bodies = (bones s).bodies ++ record { kind = load_kinds.Reload; thread = z; mid = mid; stage = stages.Open } ∷ [];
-          reloads = insert s.table.reloading spec.name (record { thread = r.thread; mid = r.mid; load = Some (length (bones s).bodies) });
-        }) (sym thread) ∙ ap (λ z. record (bones s) {
-          locks = got s.locks t spec.name;
-          bodies = (bones s).bodies ++ record { kind = load_kinds.Reload; thread = r.thread; mid = z; stage = stages.Open } ∷ [];
-          reloads = insert s.table.reloading spec.name (record { thread = r.thread; mid = r.mid; load = Some (length (bones s).bodies) });
-        }) (sym same_mid)))
-        (sound_again b first spec.name r own_module there named going covers)
+        locks = got s.locks t spec.name;
+        bodies = (bones s).bodies ++ record { kind = load_kinds.Reload; thread = z; mid = mid; stage = stages.Open } ∷ [];
+        reloads = insert s.table.reloading spec.name (record { thread = r.thread; mid = r.mid; load = Some (length (bones s).bodies) });
+      }) (sym thread) ∙ ap (λ z. record (bones s) {
+        locks = got s.locks t spec.name;
+        bodies = (bones s).bodies ++ record { kind = load_kinds.Reload; thread = r.thread; mid = z; stage = stages.Open } ∷ [];
+        reloads = insert s.table.reloading spec.name (record { thread = r.thread; mid = r.mid; load = Some (length (bones s).bodies) });
+      }) (sym same_mid)))
+      (sound_again b first spec.name r own_module there named going covers)
     where
       one_is : (c : Bool) → bit c ≡ 1 → c ≡ true
       one_is true h = refl
@@ -157,9 +151,9 @@ module _ (s : State) (sound : IsSound s) (t : ℕ) where
       let done : AreSound (record after { locks = given b.locks r.thread mine.0.name }) = sound_given after kept r.thread mine.0.name (omega arith) in
       let here : AreSound (record after { locks = given b.locks t n }) = subst (λ u. AreSound (record after { locks = given b.locks u n })) thread (subst (λ k. AreSound (record after { locks = given b.locks r.thread k })) mine.2 done) in
       subst AreSound (sym (
-          ap (λ ls. record b { bodies = ls; reloads = remove b.reloads n; locks = given b.locks t n }) (changed_map body_bone _ (λ (l : Body). record l { stage = stages.Ended }) (λ l. refl) s.table.loads load)
-          ∙ ap (λ ls. record b { bodies = ls; reloads = remove b.reloads n; locks = given b.locks t n }) (changed_is (λ (l : Body). record l { stage = stages.Ended }) b.bodies load body at)
-        )) here
+      ap (λ ls. record b { bodies = ls; reloads = remove b.reloads n; locks = given b.locks t n }) (changed_map body_bone _ (λ (l : Body). record l { stage = stages.Ended }) (λ l. refl) s.table.loads load)
+      ∙ ap (λ ls. record b { bodies = ls; reloads = remove b.reloads n; locks = given b.locks t n }) (changed_is (λ (l : Body). record l { stage = stages.Ended }) b.bodies load body at)
+      )) here
 
   leaves : (mid : ℕ) (n : List ℕ) (load : Option ℕ) (r : Option Reload) → get s.table.reloading n ≡ r → is_reload t mid load r ≡ true → Keeps (reload_leave s t n load)
   leaves mid n load None is h = absurd (false≢true h)
@@ -191,20 +185,20 @@ module _ (s : State) (sound : IsSound s) (t : ℕ) where
       let after = staged b first load body own_module body_at there imported t stages.Open in
       let new : Body = record { kind = l.kind; thread = t; mid = l.mid; stage = stages.Open } in
       let covers : (u : ℕ) (k : List ℕ) → opens after u k ≤ held b.locks u k =
-        bumped_by (bones s) sound t o.spec.name free (λ u k. bit (counts_in b u k new)) (opens after)
-          (λ u k. let e : opens after u k + bit (counts_in b u k body) ≡ opens b u k + bit (counts_in b u k new) = opens_staged b first load body own_module body_at there imported t stages.Open u k in omega arith)
-          (λ u k. elim (counts_in b u k new) as (λ c. bit c ≤ 1) [ true ↦ omega arith | false ↦ omega arith ])
-          (λ u k h. counts_own b u k new own_module there (one_is (counts_in b u k new) h))
+      bumped_by (bones s) sound t o.spec.name free (λ u k. bit (counts_in b u k new)) (opens after)
+      (λ u k. let e : opens after u k + bit (counts_in b u k body) ≡ opens b u k + bit (counts_in b u k new) = opens_staged b first load body own_module body_at there imported t stages.Open u k in omega arith)
+      (λ u k. elim (counts_in b u k new) as (λ c. bit c ≤ 1) [ true ↦ omega arith | false ↦ omega arith ])
+      (λ u k h. counts_own b u k new own_module there (one_is (counts_in b u k new) h))
       in
       let done : AreSound after = sound_staged b first load body own_module body_at there imported t stages.Open covers (λ _. running.going) in
       let state : State = record s { table = with_phase (with_open s.table load t) mid phases.Initialising; locks = got s.locks t o.spec.name } in
       subst AreSound (sym (
-          ap (λ ls. record (bones state) { bodies = ls }) (changed_map body_bone _ (λ (l : Body). record l { stage = stages.Open; thread = t }) (λ l. refl) s.table.loads load ∙ changed_is (λ (l : Body). record l { stage = stages.Open; thread = t }) b.bodies load body body_at)
-          ∙ ap (λ ms. record after { modules = ms }) (
-            changed_map module_bone _ (λ (m : Module). record m { phase = phases.Initialising }) (λ o. refl) s.table.objects mid
-            ∙ ap (changed (λ (m : Module). record m { phase = phases.Initialising }) b.modules) (sym own_mid)
-            ∙ changed_is (λ (m : Module). record m { phase = phases.Initialising }) b.modules l.mid own_module there)
-        )) done
+      ap (λ ls. record (bones state) { bodies = ls }) (changed_map body_bone _ (λ (l : Body). record l { stage = stages.Open; thread = t }) (λ l. refl) s.table.loads load ∙ changed_is (λ (l : Body). record l { stage = stages.Open; thread = t }) b.bodies load body body_at)
+      ∙ ap (λ ms. record after { modules = ms }) (
+      changed_map module_bone _ (λ (m : Module). record m { phase = phases.Initialising }) (λ o. refl) s.table.objects mid
+      ∙ ap (changed (λ (m : Module). record m { phase = phases.Initialising }) b.modules) (sym own_mid)
+      ∙ changed_is (λ (m : Module). record m { phase = phases.Initialising }) b.modules l.mid own_module there)
+      )) done
     where
       one_is : (c : Bool) → bit c ≡ 1 → c ≡ true
       one_is true h = refl

@@ -1,11 +1,10 @@
 -- Who is answered a module that is initialising, and who of a round can go on.
-use Rattle.std.specs.Prelude.{◌≡◌, ◌<◌, ◌≤◌, ℕ, true, false, is_some, List, Option, Some, None, slice_get}
+use Rattle.std.specs.Prelude.{◌≡◌, ◌<◌, ◌≤◌, ℕ, true, false, is_some, List, Some, None, slice_get}
 use Rattle.std.specs.FinMap.{get}
 use Rattle.module_lock.specs.Table.{owns, next}
 use Rattle.module_table.specs.declared.module.Load.{Load}
 use Rattle.module_table.specs.declared.module.LoadStage.{LoadStage}
 use Rattle.module_table.specs.declared.module.LoadStage.TheVariants as stages
-use Rattle.module_table.specs.declared.module.Object.{Object}
 use Rattle.machine_state.specs.declared.state.State.{State}
 use Rattle.machine_state.specs.Parts.{is_open, is_imported}
 
@@ -36,3 +35,13 @@ rank stages.Ended = 2
 -- loads are never taken away, keep their kinds and modules, and only go on, from resting to open to ended
 pub record GoOn (before after : List Load) : Type 0 where
   pub kept : (i : ℕ) (l : Load) → slice_get before i ≡ Some l → (k : Load) × (slice_get after i ≡ Some k) × (k.kind ≡ l.kind) × (k.mid ≡ l.mid) × (rank l.stage ≤ rank k.stage)
+
+-- the module has one load of kind Plain or Lazy, at this stage
+pub record HasOneLoad (s : State) (mid : ℕ) (stage : LoadStage) : Type 0 where
+  pub number : ℕ
+  pub load : Load
+  pub there : slice_get s.table.loads number ≡ Some load
+  pub of_it : load.mid ≡ mid
+  pub imported : is_imported load.kind ≡ true
+  pub at : load.stage ≡ stage
+  pub only : (j : ℕ) (k : Load) → slice_get s.table.loads j ≡ Some k → k.mid ≡ mid → is_imported k.kind ≡ true → j ≡ number

@@ -1,7 +1,8 @@
 -- What a machine is begun with.
 use Rattle.std.specs.Prelude.{◌≡◌, ◌≤◌, ℕ, List, length}
+use Rattle.std.specs.List.{sum}
 use Rattle.machine_state.specs.declared.state.State.{State}
-use Rattle.machine_state.specs.Opening.{opening, round_starts}
+use Rattle.machine_state.specs.Opening.{opening}
 
 -- scripts with their texts, a search path, and the sizes of the rounds
 pub record Begun : Type 0 where
@@ -11,7 +12,7 @@ pub record Begun : Type 0 where
   pub rounds : List ℕ
   pub few : length scripts ≤ 16
   pub as_many : length texts ≡ length scripts
-  pub whole : length (round_starts 0 rounds) ≡ length scripts
+  pub whole : sum rounds ≡ length scripts
 
 -- the state before the first event
 abbrev pub first : Begun → State

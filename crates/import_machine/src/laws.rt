@@ -6,11 +6,13 @@ ghost use Rattle.machine_events.specs.declared.event.Event.TheVariants as events
 ghost use Rattle.machine_events.specs.declared.event.Reply.TheVariants as replies;
 ghost use Rattle.module_lock.specs.Cycles.{Closes};
 ghost use Rattle.module_table.specs.declared.module.Object.{Object};
+ghost use Rattle.module_table.specs.declared.module.LoadStage.TheVariants as stages;
+ghost use Rattle.module_table.specs.declared.module.Phase.TheVariants as phases;
 ghost use Rattle.machine_state.specs.Step.{step};
 ghost use Rattle.machine_state.specs.Parts.{is_initialising};
 ghost use Rattle.machine_state.specs.Legal.{IsLegal, replay};
 ghost use Rattle.import_machine.specs.Sound.{IsSound};
-ghost use Rattle.import_machine.specs.Answered.{IsOwn, IsInFirstRound, SomeoneGoesOn, GoOn};
+ghost use Rattle.import_machine.specs.Answered.{IsOwn, IsInFirstRound, SomeoneGoesOn, GoOn, HasOneLoad};
 ghost use Rattle.import_machine.specs.Begun.{Begun, first};
 
 /// In the state after every legal history holds what the machine's type keeps: among the rest, no
@@ -60,4 +62,16 @@ pub fn loads_go_on()
 pub fn someone_goes_on()
     ensures { (b : Begun) (history : List Entry) → IsLegal (first b) history
         → (t start : ℕ) → IsInFirstRound (replay (first b) history) t start → SomeoneGoesOn (replay (first b) history) start }
+{}
+
+/// A module that is initialising has one load of kind Plain or Lazy, and it is open.
+pub fn one_open_load()
+    ensures { (b : Begun) (history : List Entry) → IsLegal (first b) history
+        → (mid : ℕ) (o : Object) → slice_get (replay (first b) history).table.objects mid ≡ Some o → o.phase ≡ phases.Initialising → HasOneLoad (replay (first b) history) mid stages.Open }
+{}
+
+/// A lazy module has one load of kind Plain or Lazy, and it rests.
+pub fn one_resting_load()
+    ensures { (b : Begun) (history : List Entry) → IsLegal (first b) history
+        → (mid : ℕ) (o : Object) → slice_get (replay (first b) history).table.objects mid ≡ Some o → o.phase ≡ phases.Lazy → HasOneLoad (replay (first b) history) mid stages.Resting }
 {}

@@ -1,10 +1,11 @@
 //! The machine, and what holds in every state of it.
 ghost use Rattle.std.specs.Prelude.{◌≡◌, ◌≤◌, ℕ, length, IfOk, OnOk, OnErr, IsTrue, List};
 ghost use Rattle.std.specs.Option.{option_copied};
+ghost use Rattle.std.specs.List.{sum};
 ghost use Rattle.machine_state.specs.Step.{step};
 ghost use Rattle.machine_state.specs.Allowed.{allowed, scripts};
 ghost use Rattle.machine_state.specs.Gives.{gives};
-ghost use Rattle.machine_state.specs.Opening.{opening, round_starts};
+ghost use Rattle.machine_state.specs.Opening.{opening};
 ghost use Rattle.import_machine.specs.Sound.{IsSound};
 
 use base_types::{NoMemory, Seq, Texts};
@@ -44,7 +45,7 @@ impl Machine {
     ) -> Result<Machine, NoMemory>
         requires few { length scripts.now ≤ 16 }
         requires texts { length texts.now ≡ length scripts.now }
-        requires rounds { length (round_starts 0 rounds.now) ≡ length scripts.now }
+        requires rounds { sum rounds.now ≡ length scripts.now }
         ensures { IfOk result (λ it. it ≡ opening scripts.now texts.now path.now rounds.now) }
     {
         Ok(Machine {

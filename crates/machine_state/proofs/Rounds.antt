@@ -1,5 +1,5 @@
 -- How the test that all earlier threads have ended goes on by one thread.
-use Rattle.std.proofs.Common.{◌≡◌, ℕ, zero, suc, ◌+◌, ◌<◌, true, false, refl, sym, ap, ◌∙◌, arith}
+use Rattle.std.proofs.Common.{◌≡◌, ℕ, zero, suc, ◌+◌, ◌<◌, true, false, ap, ◌∙◌, arith}
 use Rattle.std.specs.Prelude.{◌&&◌}
 use Rattle.machine_state.specs.declared.state.State.{State}
 use Rattle.machine_state.specs.Allowed.{has_ended, all_ended}

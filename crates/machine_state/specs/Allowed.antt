@@ -1,9 +1,8 @@
 -- When an event of a thread is allowed.
 use Rattle.std.specs.Prelude.{ℕ, ◌==◌, ◌&&◌, not, nat_lt, nat_le, nat_eq, is_none, is_some, count_by, Bool, true, false, List, map, zero, suc, Option, Some, None, slice_get, length, if◌then◌else◌}
 use Rattle.std.specs.List.{list_any, list_all}
-use Rattle.std.specs.Ordering.{nat_cmp}
 use Rattle.std.specs.Cmp.Lexicographic.{pointwise}
-use Rattle.std.specs.FinMap.{FinMap, get}
+use Rattle.std.specs.FinMap.{get}
 use Rattle.py_value.specs.declared.value.Value.{Value}
 use Rattle.py_value.specs.declared.value.Value.TheVariants as values
 use Rattle.spec_core.specs.declared.spec.SpecKind.{SpecKind}

@@ -1,5 +1,5 @@
 -- Add, Finish, Release, Source, Main and End: how bodies begin and end.
-use Rattle.std.specs.Prelude.{ℕ, Bool, codes, List, Option, Some, None, length, slice_get, if◌then◌else◌}
+use Rattle.std.specs.Prelude.{ℕ, Bool, List, Option, Some, None, length, slice_get, if◌then◌else◌}
 use Rattle.std.specs.FinMap.{get}
 use Rattle.spec_core.specs.Names.{parent_of, tail_of}
 use Rattle.spec_core.specs.declared.spec.Spec.{Spec}
@@ -8,7 +8,7 @@ use Rattle.machine_events.specs.declared.module.Slot.{Slot}
 use Rattle.machine_events.specs.declared.module.Slot.TheVariants as slots
 use Rattle.machine_events.specs.declared.event.Reply.{Reply}
 use Rattle.machine_events.specs.declared.event.Reply.TheVariants as replies
-use Rattle.module_table.specs.Tables.{with_unit, with_phase, with_set, with_end, with_entry, without_entry, with_main, with_ended}
+use Rattle.module_table.specs.Tables.{with_unit, with_phase, with_set, with_end, without_entry, with_main, with_ended}
 use Rattle.module_table.specs.declared.module.Object.{Object}
 use Rattle.module_table.specs.declared.module.Load.{Load}
 use Rattle.module_table.specs.declared.module.LoadKind.{LoadKind}

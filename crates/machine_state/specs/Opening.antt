@@ -1,6 +1,6 @@
 -- The state before the first event.
-use Rattle.std.specs.Prelude.{ℕ, ◌+◌, replicate, codes, List, [], ◌∷◌, ◌++◌, Option, Some, None, map, length}
-use Rattle.std.specs.FinMap.{empty, insert}
+use Rattle.std.specs.Prelude.{ℕ, ◌+◌, replicate, codes, List, [], ◌∷◌, ◌++◌, Some, None, map, length}
+use Rattle.std.specs.FinMap.{empty}
 use Rattle.py_value.specs.declared.value.Value.{Value}
 use Rattle.py_value.specs.declared.value.Value.TheVariants as values
 use Rattle.py_value.specs.declared.kind.Native.TheVariants as natives
@@ -14,7 +14,7 @@ use Rattle.module_table.specs.declared.module.Load.{Load}
 use Rattle.module_table.specs.declared.module.LoadKind.TheVariants as load_kinds
 use Rattle.module_table.specs.declared.module.LoadStage.TheVariants as stages
 use Rattle.module_table.specs.declared.module.Phase.TheVariants as phases
-use Rattle.module_table.specs.Tables.{new_table, with_object, with_load, with_entry}
+use Rattle.module_table.specs.Tables.{new_table, with_object, with_entry}
 use Rattle.machine_state.specs.declared.state.State.{State}
 
 -- script i: a module `__main__` of its own, which is not in the cache

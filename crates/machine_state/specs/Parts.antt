@@ -1,5 +1,5 @@
 -- What the rows of the events ask of phases, loads, slots and specs.
-use Rattle.std.specs.Prelude.{ℕ, Bool, true, false, List, Option, Some, None}
+use Rattle.std.specs.Prelude.{Bool, true, false, Option, Some, None}
 use Rattle.py_value.specs.declared.value.Place.{Place}
 use Rattle.py_value.specs.declared.value.Place.TheVariants as places
 use Rattle.py_value.specs.declared.value.Value.{Value}

@@ -107,12 +107,7 @@ impl State {
         }
     }
 
-    fn finish_entry(
-        &mut self,
-        kind: LoadKind,
-        good: bool,
-        name: &Dotted,
-    ) -> Result<Reply, NoMemory>
+    fn finish_entry(&mut self, kind: LoadKind, good: bool, name: &Dotted) -> Result<Reply, NoMemory>
         ensures reply { IfOk result (λ reply. reply ≡ (finish_entry self.old kind good name.now).0) }
         ensures ok { OnOk result (self.new ≡ (finish_entry self.old kind good name.now).1) }
         ensures err { OnErr result (self.new ≡ self.old) }
@@ -173,7 +168,12 @@ impl State {
         Ok(Reply::Loaded(module, body.text.copy()?))
     }
 
-    pub(crate) fn main(&mut self, thread: u32, spec: &Spec, text: Seq<u8>) -> Result<Reply, NoMemory>
+    pub(crate) fn main(
+        &mut self,
+        thread: u32,
+        spec: &Spec,
+        text: Seq<u8>,
+    ) -> Result<Reply, NoMemory>
         ensures reply { IfOk result (λ reply. reply ≡ (main self.old thread spec.now text).0) }
         ensures ok { OnOk result (self.new ≡ (main self.old thread spec.now text).1) }
         ensures err { OnErr result (self.new ≡ self.old) }

@@ -35,10 +35,7 @@ impl State {
             Event::Finish { load, .. } => self.name_of_load(*load),
             Event::Release(name) => Some(name),
             Event::AddLazy { spec, .. } => Some(&spec.name),
-            Event::ReloadEnd {
-                mid,
-                load: Some(_),
-            } => self.name_of(*mid),
+            Event::ReloadEnd { mid, load: Some(_) } => self.name_of(*mid),
             _ => None,
         }
     }

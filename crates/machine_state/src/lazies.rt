@@ -10,7 +10,12 @@ use module_table::{LoadKind, LoadStage, Phase};
 use spec_core::{Dotted, Spec};
 
 impl State {
-    pub(crate) fn add_lazy(&mut self, thread: u32, spec: Spec, text: Seq<u8>) -> Result<Reply, NoMemory>
+    pub(crate) fn add_lazy(
+        &mut self,
+        thread: u32,
+        spec: Spec,
+        text: Seq<u8>,
+    ) -> Result<Reply, NoMemory>
         ensures reply { IfOk result (λ reply. reply ≡ (add_lazy self.old thread spec text).0) }
         ensures ok { OnOk result (self.new ≡ (add_lazy self.old thread spec text).1) }
         ensures err { OnErr result (self.new ≡ self.old) }
@@ -33,7 +38,13 @@ impl State {
     }
 
     // The resting load is the thread's, and its module is initialising.
-    fn open_lazy(&mut self, thread: u32, mid: u32, name: Dotted, load: u32) -> Result<Reply, NoMemory>
+    fn open_lazy(
+        &mut self,
+        thread: u32,
+        mid: u32,
+        name: Dotted,
+        load: u32,
+    ) -> Result<Reply, NoMemory>
         requires { maps.get self.old.locks.waits thread ≡ None }
         ensures reply { IfOk result (λ reply. reply ≡ (open_lazy self.old thread mid name load (slice_get self.old.table.loads load)).0) }
         ensures ok { OnOk result (self.new ≡ (open_lazy self.old thread mid name load (slice_get self.old.table.loads load)).1) }
@@ -49,7 +60,13 @@ impl State {
         Ok(Reply::Yours(load, text))
     }
 
-    fn rouse_lazy(&mut self, thread: u32, mid: u32, name: Dotted, load: Option<u32>) -> Result<Reply, NoMemory>
+    fn rouse_lazy(
+        &mut self,
+        thread: u32,
+        mid: u32,
+        name: Dotted,
+        load: Option<u32>,
+    ) -> Result<Reply, NoMemory>
         requires { maps.get self.old.locks.waits thread ≡ None }
         ensures reply { IfOk result (λ reply. reply ≡ (rouse_lazy self.old thread mid name load).0) }
         ensures ok { OnOk result (self.new ≡ (rouse_lazy self.old thread mid name load).1) }

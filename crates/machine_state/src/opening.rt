@@ -127,7 +127,12 @@ fn importlib_module(alloc: Global) -> Result<Object, NoMemory>
     let mut object = built_in(alloc, KnownName::Importlib)?;
     let invalidate = Value::Native(Native::InvalidateCaches);
     set(alloc, &mut object.vars, "invalidate_caches", invalidate)?;
-    set(alloc, &mut object.vars, "reload", Value::Native(Native::Reload))?;
+    set(
+        alloc,
+        &mut object.vars,
+        "reload",
+        Value::Native(Native::Reload),
+    )?;
     Ok(object)
 }
 

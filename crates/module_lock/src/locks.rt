@@ -7,11 +7,11 @@ ghost use Rattle.module_lock.specs.Table.{closes, leads_to, took_of, after_take,
 ghost use Rattle.module_lock.specs.Cycles.{Closes};
 
 use crate::steps::Steps;
+use base_types::{NoMemory, Seq};
 use spec_core::{Dotted, NameMap, NumberMap};
 use std::alloc::Global;
 use std::marker::Model;
 use std::sync::ledger::Ledger;
-use base_types::{NoMemory, Seq};
 
 /// Who owns a lock, and how often it was taken.
 #[derive(Clone, Copy, PartialEq, Eq, Drop)]

@@ -6,11 +6,11 @@ ghost use Rattle.module_table.specs.Tables.{restarted_with};
 ghost use Rattle.module_table.specs.Vars.{with_var, without_var, var_of};
 
 use crate::module::{Object, Phase};
+use crate::vars::Vars;
+use base_types::{NoMemory, Text};
 use py_value::{NsState, Value};
 use std::alloc::Global;
 use std::marker::Model;
-use base_types::{NoMemory, Text};
-use crate::vars::Vars;
 
 /// The modules in the order of their numbers, from 0.
 #[derive(Drop)]

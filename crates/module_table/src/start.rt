@@ -4,10 +4,10 @@ ghost use Rattle.module_table.specs.Tables.{with_file, main_vars};
 ghost use Rattle.module_table.specs.Start.{start_vars, start_ns, kind_vars, restarted};
 
 use crate::vars::Vars;
+use base_types::{Exact, NoMemory, Seq, Text, Texts};
 use py_value::{Items, NsState, Value};
 use spec_core::{Spec, SpecKind, package_of};
 use std::alloc::Global;
-use base_types::{Exact, NoMemory, Seq, Text, Texts};
 
 /// The texts as values.
 pub fn text_values(alloc: Global, texts: &Texts) -> Result<Items, NoMemory>
@@ -74,11 +74,7 @@ pub fn start_vars(alloc: Global, spec: &Spec) -> Result<Vars, NoMemory>
 }
 
 /// What a module's variables are once those of the spec are set on them.
-pub(crate) fn restarted_vars(
-    alloc: Global,
-    spec: &Spec,
-    vars: &Vars,
-) -> Result<Vars, NoMemory>
+pub(crate) fn restarted_vars(alloc: Global, spec: &Spec, vars: &Vars) -> Result<Vars, NoMemory>
     ensures { IfOk result (λ it. it ≡ restarted spec.now vars.now) }
 {
     let mut more = vars.copy()?;

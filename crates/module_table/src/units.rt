@@ -9,9 +9,9 @@ use crate::objects::Objects;
 use crate::start::{main_vars, restarted_vars, start_ns, start_vars};
 use crate::table::{Table, number};
 use crate::vars::Vars;
-use py_value::NsState;
 use base_types::{Exact, NoMemory, Seq};
 use machine_events::{Slot, module_of};
+use py_value::NsState;
 use spec_core::{Dotted, Spec};
 
 impl Table {

@@ -3,11 +3,11 @@ ghost use Rattle.std.specs.Prelude.{◌≡◌, [], map, IfOk, OnOk, OnErr};
 ghost use Rattle.std.specs.Option.{option_copied};
 ghost use Rattle.module_table.specs.Vars.{var_of, with_var, without_var};
 
+use base_types::{Exact, NoMemory, Seq, Text, Texts};
 use indexmap::IndexMap;
 use py_value::Value;
 use std::alloc::{AllocError, Global};
 use std::marker::Model;
-use base_types::{Exact, NoMemory, Seq, Text, Texts};
 
 /// Variables in the order in which they were first set.
 #[derive(Drop)]

@@ -1,8 +1,8 @@
-use Rattle.std.proofs.Common.{◌≡◌, ◌++◌, ◌∷◌, [], ◌+◌, List, ℕ, length, take, sym, ap, ◌∙◌, append_assoc, arith}
+use Rattle.std.proofs.Common.{◌≡◌, ◌++◌, ◌∷◌, [], ◌+◌, List, ℕ, length, take, sym, ap, ◌∙◌, append_assoc}
 use Rattle.std.proofs.lemmas.List.{take_more, length_push}
 use Rattle.module_table.specs.Tables.{with_load}
 use Rattle.module_table.specs.declared.table.Table.{Table}
-use Rattle.machine_state.specs.Opening.{script_load, script_loads}
+use Rattle.machine_state.specs.Opening.{script_loads}
 use Rattle.machine_state.proofs.Openings.{next_load}
 use Rattle.machine_state.proofs.opening.add_bodies.Goals as goal
 
@@ -17,9 +17,9 @@ loop-text-preserved c =
     let body = c.in_ok-load.ensures in
     record {
       table =
-        c.in_ok-_load.ensures.ok
-        ∙ ap (λ (t : Table). with_load t c.in_ok-load.load) c.loop-text.invariant.table
-        ∙ ap (λ os. record old { loads = os }) (
+          c.in_ok-_load.ensures.ok
+          ∙ ap (λ (t : Table). with_load t c.in_ok-load.load) c.loop-text.invariant.table
+          ∙ ap (λ os. record old { loads = os }) (
           append_assoc old.loads (script_loads 0 (take i xs)) (c.in_ok-load.load ∷ [])
           ∙ ap (λ o. old.loads ++ (script_loads 0 (take i xs) ++ o ∷ [])) body
           ∙ ap (λ r. old.loads ++ r) (sym (ap (script_loads 0) more ∙ next_load c.loop-text.number (take i xs) x number)));

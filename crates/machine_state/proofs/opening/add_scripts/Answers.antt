@@ -1,8 +1,8 @@
-use Rattle.std.proofs.Common.{◌≡◌, ◌++◌, ◌∷◌, [], ◌+◌, List, ℕ, length, take, sym, ap, ◌∙◌, append_assoc, arith}
+use Rattle.std.proofs.Common.{◌≡◌, ◌++◌, ◌∷◌, [], ◌+◌, List, ℕ, length, take, sym, ap, ◌∙◌, append_assoc}
 use Rattle.std.proofs.lemmas.List.{take_more, length_push}
 use Rattle.module_table.specs.Tables.{with_object}
 use Rattle.module_table.specs.declared.table.Table.{Table}
-use Rattle.machine_state.specs.Opening.{script_object, script_objects}
+use Rattle.machine_state.specs.Opening.{script_objects}
 use Rattle.machine_state.proofs.Openings.{next_object}
 use Rattle.machine_state.proofs.opening.add_scripts.Goals as goal
 
@@ -17,9 +17,9 @@ loop-script-preserved c =
     let object = c.in_ok-object.ensures in
     record {
       table =
-        c.in_ok-_mid.ensures.ok
-        ∙ ap (λ (t : Table). with_object t c.in_ok-object.object) c.loop-script.invariant.table
-        ∙ ap (λ os. record old { objects = os }) (
+          c.in_ok-_mid.ensures.ok
+          ∙ ap (λ (t : Table). with_object t c.in_ok-object.object) c.loop-script.invariant.table
+          ∙ ap (λ os. record old { objects = os }) (
           append_assoc old.objects (script_objects 0 (take i xs)) (c.in_ok-object.object ∷ [])
           ∙ ap (λ o. old.objects ++ (script_objects 0 (take i xs) ++ o ∷ [])) object
           ∙ ap (λ r. old.objects ++ r) (sym (ap (script_objects 0) more ∙ next_object c.loop-script.number (take i xs) x number)));

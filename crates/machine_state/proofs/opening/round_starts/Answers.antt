@@ -15,9 +15,9 @@ loop-size-preserved c =
     let first = c.loop-size.invariant.first in
     record {
       starts =
-        c.in_ok-push_round.ensures
-        ∙ ap (λ ys. ys ++ replicate x c.loop-size.first) starts
-        ∙ ap (λ f. round_starts 0 (take i xs) ++ replicate x f) first
-        ∙ sym (ap (round_starts 0) more ∙ next_round 0 (take i xs) x);
+          c.in_ok-push_round.ensures
+          ∙ ap (λ ys. ys ++ replicate x c.loop-size.first) starts
+          ∙ ap (λ f. round_starts 0 (take i xs) ++ replicate x f) first
+          ∙ sym (ap (round_starts 0) more ∙ next_round 0 (take i xs) x);
       first = c.in-Some.ensures.1 ∙ ap (λ f. f + x) first ∙ sym (ap (thread_after 0) more ∙ next_first 0 (take i xs) x);
     }

@@ -1,4 +1,4 @@
-use Rattle.std.proofs.Common.{◌≡◌, map, ℕ, List}
+use Rattle.std.proofs.Common.{◌≡◌, map}
 use Rattle.module_lock.specs.Table.{waiters_in}
 use Rattle.module_lock.proofs.locks.waiters_among.Given as goal
 
