@@ -1,5 +1,5 @@
 -- Whether a load failed because a call of the tree did.
-use Rattle.std.specs.Prelude.{Result, Ok, Err}
+use Rattle.std.specs.Prelude.{Result, Err}
 use Rattle.tree_files.specs.declared.tree.TreeFault.TheVariants as of_tree
 use Rattle.path_finder.specs.declared.load.LoadFault.{LoadFault}
 use Rattle.path_finder.specs.declared.load.LoadFault.TheVariants as fault

@@ -55,7 +55,7 @@ fn tokens_of_sources(rt: HostRuntime) -> Result<(), Fail> {
         ("a \\\n  b\n", "n:a@1 n:b@2 nl@2 end@3 "),
         ("# note\n\n  # note\nx\n", "n:x@4 nl@4 end@5 "),
         ("'a\\x41\\u00e9'\n", "s:aA\u{e9}@1 nl@1 end@2 "),
-        ("'\\\\\\'\\\"\\t'\n", "s:\\'\"\t@1 nl@1 end@2 "),
+        ("'\\\\\\'\\\"\\n\\r\\t'\n", "s:\\'\"\n\r\t@1 nl@1 end@2 "),
         ("\"\"\"a\nb\"\"\"\nx\n", "s:a\nb@1 nl@2 n:x@3 nl@3 end@4 "),
         (
             "x **= y // z >> 1 != ...\n",

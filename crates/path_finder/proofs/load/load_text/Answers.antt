@@ -1,4 +1,4 @@
-use Rattle.std.proofs.Common.{◌≡◌, ◌≤◌, ◌+◌, ◌∙◌, ap, sym, ℕ, List, ◌++◌, take, length, rules, Option, None, Some, IfSome, IfOk, arith, length-take}
+use Rattle.std.proofs.Common.{◌≡◌, ◌+◌, ◌∙◌, ap, ℕ, List, ◌++◌, take, rules, Option, None, Some, IfSome, arith, length-take}
 use Rattle.std.specs.Vec.{vec_len}
 use Rattle.tree_files.specs.Files.{Files, node_at, bytes_of, IsRead}
 use Rattle.base_types.specs.Path.{Path}

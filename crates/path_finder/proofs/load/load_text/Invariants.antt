@@ -1,6 +1,6 @@
-use Rattle.std.proofs.Common.{◌≡◌, ◌≤◌, ◌-◌, ◌+◌, length, take, vec_len}
-use Rattle.std.specs.Option.{ForSome, IfSome}
-use Rattle.tree_files.specs.Files.{node_at, bytes_of, IsFileAt}
+use Rattle.std.proofs.Common.{◌≡◌, ◌≤◌, ◌-◌, length, take, vec_len}
+use Rattle.std.specs.Option.{IfSome}
+use Rattle.tree_files.specs.Files.{node_at, bytes_of}
 use Rattle.path_finder.specs.declared.load.TheConstants.{LONGEST}
 use Rattle.path_finder.proofs.load.load_text.Given as goal
 

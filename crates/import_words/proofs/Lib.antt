@@ -1,0 +1,5 @@
+mod Fronts
+mod Options
+mod Slashes
+mod Cuts
+mod Digits
