@@ -1,24 +1,22 @@
 -- What holds in every state is kept where a reload begins or ends its load, and where a thread ends.
-use Rattle.std.proofs.Common.{◌≡◌, ◌≢◌, ◌⊎◌, ℕ, zero, suc, ◌+◌, ◌<◌, ◌≤◌, length, arith, Bool, true, false, cond, ◌&&◌, List, [], ◌∷◌, ◌++◌, Option, Some, None, refl, sym, ap, subst, ◌∙◌, eqb, inl, inr}
-use Rattle.std.specs.Prelude.{slice_get, slice_set, not, is_some}
-use Rattle.std.specs.Option.{option_map}
+use Rattle.std.proofs.Common.{◌≡◌, ◌≢◌, ℕ, ◌+◌, ◌≤◌, length, arith, true, false, cond, List, [], ◌∷◌, ◌++◌, Option, Some, None, refl, sym, ap, subst, ◌∙◌, inl, inr}
+use Rattle.std.specs.Prelude.{slice_get, slice_set, is_some}
 use Rattle.std.specs.Ordering.{nat_cmp, eq_by_cmp}
 use Rattle.std.specs.Cmp.{nat_cmp_total}
-use Rattle.std.specs.Cmp.Lexicographic.{slice_cmp, nat_list_cmp_total}
-use Rattle.std.specs.FinMap.{FinMap, get, insert, remove, get-insert, get-remove}
-use Rattle.std.proofs.lemmas.Bool.{false≢true, eqb-true, eqb-false, eq-eqb}
+use Rattle.std.specs.Cmp.Lexicographic.{nat_list_cmp_total}
+use Rattle.std.specs.FinMap.{get, insert, remove, get-insert, get-remove}
+use Rattle.std.proofs.lemmas.Bool.{false≢true}
 use Rattle.std.proofs.lemmas.Bool.Decides.{nat_tests}
-use Rattle.module_lock.specs.Table.{Table, owner_of}
-use Rattle.module_table.specs.declared.module.LoadKind.{LoadKind}
+use Rattle.module_lock.specs.Table.{owner_of}
 use Rattle.module_table.specs.declared.module.LoadKind.TheVariants as load_kinds
 use Rattle.module_table.specs.declared.module.LoadStage.TheVariants as stages
 use Rattle.module_table.specs.declared.module.Reload.{Reload}
 use Rattle.machine_state.specs.Parts.{is_open, is_main, is_imported}
-use Rattle.import_machine.specs.Bones.{Bones, Module, Body, is_named, counts_in, opens, held}
-use Rattle.import_machine.specs.Sound.{AreSound, IsRunning, FitsModule, FitsKind, FitsPhase, FitsLoad, FitsReload, HasBody}
-use Rattle.import_machine.proofs.Lists.{pushed_last, pushed_keeps, pushed_at, set_there, set_elsewhere, set_at}
+use Rattle.import_machine.specs.Bones.{Bones, Module, Body, counts_in, opens, held}
+use Rattle.import_machine.specs.Sound.{AreSound, FitsModule, FitsLoad, FitsReload}
+use Rattle.import_machine.proofs.Lists.{pushed_last, pushed_keeps, pushed_at, set_elsewhere, set_at}
 use Rattle.import_machine.proofs.Holds.{same_text, same_name, same_self}
-use Rattle.import_machine.proofs.Counts.{bit, counts_own, counts_there, opens_push, opens_set}
+use Rattle.import_machine.proofs.Counts.{bit, opens_push, opens_set}
 use Rattle.import_machine.proofs.Changes.{more_phase, more_load}
 
 same_number : (x t : ℕ) → eq_by_cmp nat_cmp x t ≡ true → x ≡ t

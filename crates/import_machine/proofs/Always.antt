@@ -1,16 +1,13 @@
 -- The facts over all legal histories.
-use Rattle.std.proofs.Common.{◌≡◌, ℕ, ◌≤◌, true, List, [], ◌∷◌, length, Some, refl, sym, ap, ◌∙◌, arith}
+use Rattle.std.proofs.Common.{◌≡◌, ℕ, true, List, Some, arith}
 use Rattle.std.specs.Prelude.{slice_get}
 use Rattle.py_value.specs.declared.value.ModRef.{ModRef}
 use Rattle.machine_events.specs.declared.event.Entry.{Entry}
-use Rattle.machine_events.specs.declared.event.Event.{Event}
 use Rattle.machine_events.specs.declared.event.Event.TheVariants as events
 use Rattle.machine_events.specs.declared.event.Reply.TheVariants as replies
 use Rattle.module_lock.specs.Cycles.{Closes}
 use Rattle.module_table.specs.declared.module.Object.{Object}
-use Rattle.machine_state.specs.declared.state.State.{State}
 use Rattle.machine_state.specs.Step.{step}
-use Rattle.machine_state.specs.Opening.{round_starts}
 use Rattle.machine_state.specs.Parts.{is_initialising}
 use Rattle.machine_state.specs.Legal.{IsLegal, replay}
 use Rattle.import_machine.specs.Sound.{IsSound}

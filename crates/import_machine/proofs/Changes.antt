@@ -1,28 +1,20 @@
 -- What holds in every state is kept where modules and loads are added or changed, and where a thread ends.
-use Rattle.std.proofs.Common.{◌≡◌, ◌≢◌, ◌⊎◌, ℕ, zero, suc, ◌+◌, ◌<◌, ◌≤◌, length, arith, Bool, true, false, cond, ◌&&◌, List, [], ◌∷◌, ◌++◌, Option, Some, None, refl, sym, ap, subst, ◌∙◌, eqb, inl, inr}
-use Rattle.std.specs.Prelude.{slice_get, slice_set, not, is_some, is_none}
-use Rattle.std.specs.Ordering.{nat_cmp, eq_by_cmp}
-use Rattle.std.specs.Cmp.{nat_cmp_total, eq_by_cmp_equiv}
-use Rattle.std.specs.Cmp.Lexicographic.{slice_cmp, nat_list_cmp_total}
-use Rattle.std.specs.FinMap.{FinMap, get, insert, remove, get-insert, get-remove}
-use Rattle.std.proofs.lemmas.Bool.{false≢true, eqb-true, eqb-false, eq-eqb}
-use Rattle.std.proofs.lemmas.Bool.Decides.{nat_tests}
-use Rattle.module_lock.specs.Table.{Table, owner_of, is_free, got, given}
-use Rattle.module_lock.proofs.Kept.{acyclic-got, acyclic-given}
+use Rattle.std.proofs.Common.{◌≡◌, ℕ, ◌+◌, ◌<◌, ◌≤◌, length, arith, true, false, List, [], ◌∷◌, ◌++◌, Option, Some, None, refl, sym, ap, subst, ◌∙◌, inl, inr}
+use Rattle.std.specs.Prelude.{slice_get, is_some}
+use Rattle.std.specs.FinMap.{get}
+use Rattle.std.proofs.lemmas.Bool.{false≢true}
 use Rattle.module_table.specs.declared.module.LoadKind.{LoadKind}
 use Rattle.module_table.specs.declared.module.LoadKind.TheVariants as load_kinds
 use Rattle.module_table.specs.declared.module.LoadStage.{LoadStage}
-use Rattle.module_table.specs.declared.module.LoadStage.TheVariants as stages
 use Rattle.module_table.specs.declared.module.Phase.{Phase}
 use Rattle.module_table.specs.declared.module.Phase.TheVariants as phases
 use Rattle.module_table.specs.declared.module.Reload.{Reload}
-use Rattle.machine_state.specs.Parts.{is_open, is_main, is_imported}
+use Rattle.machine_state.specs.Parts.{is_imported}
 use Rattle.import_machine.specs.Bones.{Bones, Module, Body, is_named, counts_in, opens, held}
-use Rattle.import_machine.specs.Sound.{AreSound, IsRunning, FitsModule, FitsKind, FitsPhase, FitsLoad, FitsReload, HasBody, IsMadeBy, Begins, phase_of}
-use Rattle.import_machine.proofs.Lists.{pushed_last, pushed_keeps, pushed_at, within, set_there, set_elsewhere, set_at}
-use Rattle.import_machine.proofs.Holds.{same_text, same_name, at_or_elsewhere, held_got, held_more, held_less, held_elsewhere}
-use Rattle.import_machine.proofs.Counts.{bit, counts_own, counts_there, renamed, opens_push, opens_set, changed_name}
-use Rattle.import_machine.proofs.Moves.{made, loaded_again}
+use Rattle.import_machine.specs.Sound.{AreSound, FitsModule, FitsKind, FitsPhase, FitsLoad, HasBody, IsMadeBy, phase_of}
+use Rattle.import_machine.proofs.Lists.{pushed_last, pushed_keeps, pushed_at}
+use Rattle.import_machine.proofs.Counts.{bit, counts_own, renamed, opens_push}
+use Rattle.import_machine.proofs.Moves.{made}
 
 -- a load of kind Plain or Lazy is the one that its module was made with
 pub fits_made : (i : ℕ) (l : Body) (m : Module) (kind : LoadKind) → is_imported kind ≡ true → IsMadeBy i l m → FitsKind i l m kind

@@ -1,14 +1,12 @@
 -- How many open loads a thread has of each name, after loads or modules were added or changed.
-use Rattle.std.proofs.Common.{◌≡◌, ◌≢◌, ◌⊎◌, ℕ, zero, suc, ◌+◌, ◌<◌, ◌≤◌, length, arith, Bool, true, false, cond, ◌&&◌, List, [], ◌∷◌, ◌++◌, Option, Some, None, refl, sym, ap, subst, ◌∙◌, map, add-zero, eqb, inl, inr}
+use Rattle.std.proofs.Common.{◌≡◌, ℕ, zero, suc, ◌+◌, ◌<◌, arith, Bool, true, false, cond, ◌&&◌, List, [], ◌∷◌, ◌++◌, Some, refl, sym, ap, subst, ◌∙◌, map, add-zero}
 use Rattle.std.specs.Prelude.{◌==◌, slice_get, slice_set, not, sum_by, count_by, nat_eq}
-use Rattle.std.specs.Option.{option_map}
 use Rattle.std.specs.Cmp.Lexicographic.{pointwise, nat_list_eq_equiv}
-use Rattle.std.proofs.lemmas.Bool.{and_parts, and_from, false≢true, eqb-true, eq-eqb, ne_eqb, eqb-false}
+use Rattle.std.proofs.lemmas.Bool.{and_parts, and_from, eqb-true, eq-eqb}
 use Rattle.std.proofs.lemmas.List.Sums.{sum_by-cons, sum_by-append}
 use Rattle.std.proofs.lemmas.Slice.Eq.{bytes_eq-Decides}
 use Rattle.machine_state.specs.Parts.{is_open, is_main}
 use Rattle.import_machine.specs.Bones.{Bones, Module, Body, is_named, counts_in, opens}
-use Rattle.import_machine.proofs.Lists.{pushed_keeps, pushed_last}
 
 abbrev pub bit : Bool → ℕ
 bit c = cond c 1 0

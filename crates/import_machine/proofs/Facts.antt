@@ -1,29 +1,17 @@
 -- What each kind of change does to what holds in every state.
-use Rattle.std.proofs.Common.{◌≡◌, ◌≢◌, ◌⊎◌, ℕ, zero, suc, ◌+◌, ◌<◌, ◌≤◌, length, arith, Bool, true, false, cond, ◌&&◌, List, [], ◌∷◌, ◌++◌, Option, Some, None, refl, sym, ap, subst, ◌∙◌, eqb, inl, inr}
-use Rattle.std.specs.Prelude.{slice_get, slice_set, not, is_some}
+use Rattle.std.proofs.Common.{◌≡◌, ◌⊎◌, ℕ, zero, suc, ◌+◌, ◌<◌, ◌≤◌, arith, true, false, cond, List, Some, None, refl, sym, ap, subst, ◌∙◌, inl, inr}
+use Rattle.std.specs.Prelude.{slice_get, is_some}
 use Rattle.std.specs.Option.{option_map}
-use Rattle.std.specs.Ordering.{nat_cmp, eq_by_cmp}
-use Rattle.std.specs.Cmp.{nat_cmp_total}
-use Rattle.std.specs.Cmp.Lexicographic.{slice_cmp, nat_list_cmp_total}
-use Rattle.std.specs.FinMap.{FinMap, get, insert, remove, get-insert, get-remove}
-use Rattle.std.proofs.lemmas.Bool.{false≢true, eqb-true, eqb-false, eq-eqb}
+use Rattle.std.specs.Cmp.Lexicographic.{nat_list_cmp_total}
+use Rattle.std.specs.FinMap.{get, insert, remove, get-insert, get-remove}
 use Rattle.module_lock.specs.declared.locks.Lock.{Lock}
-use Rattle.module_lock.specs.Table.{Table, lock_of, owner_of, is_free, got, given, lowered, taken_count}
+use Rattle.module_lock.specs.Table.{Table, lock_of, owner_of, is_free, got, given, taken_count}
 use Rattle.module_lock.specs.Cycles.{IsAcyclic}
 use Rattle.module_lock.proofs.Kept.{acyclic-got, acyclic-given, inserted, lowered_owner}
-use Rattle.module_table.specs.declared.module.LoadKind.{LoadKind}
-use Rattle.module_table.specs.declared.module.LoadKind.TheVariants as load_kinds
-use Rattle.module_table.specs.declared.module.LoadStage.{LoadStage}
-use Rattle.module_table.specs.declared.module.LoadStage.TheVariants as stages
-use Rattle.module_table.specs.declared.module.Phase.{Phase}
-use Rattle.module_table.specs.declared.module.Phase.TheVariants as phases
 use Rattle.module_table.specs.declared.module.Reload.{Reload}
-use Rattle.machine_state.specs.Parts.{is_open, is_main, is_imported}
-use Rattle.import_machine.specs.Bones.{Bones, Module, Body, is_named, counts_in, opens, held_by, held}
-use Rattle.import_machine.specs.Sound.{AreSound, IsRunning, FitsModule, FitsKind, FitsPhase, FitsLoad, FitsReload, HasBody, IsMadeBy, Begins, phase_of}
-use Rattle.import_machine.proofs.Lists.{pushed_last, pushed_keeps, pushed_at, within, set_there, set_elsewhere, set_at}
-use Rattle.import_machine.proofs.Holds.{same_text, same_name, same_self, at_or_elsewhere, held_got, held_more, held_less, held_elsewhere}
-use Rattle.import_machine.proofs.Counts.{counts_own, counts_there, renamed, opens_push, opens_set, changed_name}
+use Rattle.import_machine.specs.Bones.{Bones, Module, opens, held_by, held}
+use Rattle.import_machine.specs.Sound.{AreSound, IsRunning, FitsLoad, FitsReload}
+use Rattle.import_machine.proofs.Holds.{same_text, same_name, at_or_elsewhere, held_got, held_more, held_less, held_elsewhere}
 
 -- the owner of a lock after one was taken is the taker or was the owner before
 got_owner : (table : Table) (t : ℕ) (n m : List ℕ) (u : ℕ) → owner_of (got table t n) m ≡ Some u → (u ≡ t) ⊎ (owner_of table m ≡ Some u)

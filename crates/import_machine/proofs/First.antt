@@ -1,15 +1,14 @@
 -- What holds in every state holds at the opening.
-use Rattle.std.proofs.Common.{◌≡◌, ◌⊎◌, ℕ, zero, suc, ◌+◌, ◌<◌, ◌≤◌, arith, Bool, true, false, cond, ◌&&◌, List, [], ◌∷◌, ◌++◌, length, Option, Some, None, refl, sym, ap, subst, ◌∙◌, map, inl, inr, eqb}
-use Rattle.std.specs.Prelude.{slice_get, sum_by, not, is_some, replicate}
+use Rattle.std.proofs.Common.{◌≡◌, ℕ, zero, suc, ◌+◌, ◌<◌, ◌≤◌, arith, true, false, ◌&&◌, List, [], ◌∷◌, ◌++◌, length, Some, refl, sym, ap, subst, ◌∙◌, inl, inr, eqb}
+use Rattle.std.specs.Prelude.{slice_get, sum_by, not, replicate}
 use Rattle.std.specs.List.{sum}
 use Rattle.std.specs.Ordering.{nat_cmp}
 use Rattle.std.specs.Option.{option_map}
-use Rattle.std.specs.FinMap.{get, empty, get-empty}
+use Rattle.std.specs.FinMap.{get-empty}
 use Rattle.std.proofs.lemmas.Bool.{false≢true, and_parts}
 use Rattle.std.proofs.lemmas.List.Sums.{sum_by-cons}
 use Rattle.std.proofs.lemmas.List.{length-append, length-replicate}
 use Rattle.std.specs.Cmp.Lexicographic.{slice_cmp}
-use Rattle.module_lock.specs.Cycles.{IsAcyclic}
 use Rattle.module_lock.specs.declared.locks.Lock.{Lock}
 use Rattle.module_lock.proofs.Kept.{acyclic-empty}
 use Rattle.module_table.specs.declared.module.Object.{Object}
@@ -22,8 +21,8 @@ use Rattle.machine_state.specs.declared.state.State.{State}
 use Rattle.machine_state.specs.Parts.{is_open, is_main}
 use Rattle.machine_state.specs.Opening.{opening, round_starts, script_objects, script_object, script_loads, script_load, sys_module, importlib_module, pyimport_module}
 use Rattle.machine_state.specs.Legal.{replay, IsLegal}
-use Rattle.import_machine.specs.Bones.{Bones, Module, Body, bones, module_bone, body_bone, counts_in, opens, is_named}
-use Rattle.import_machine.specs.Sound.{AreSound, IsSound, FitsPhase, FitsModule, FitsKind, Begins}
+use Rattle.import_machine.specs.Bones.{Module, Body, bones, module_bone, body_bone, counts_in, opens, is_named}
+use Rattle.import_machine.specs.Sound.{IsSound, FitsPhase, FitsKind, Begins}
 use Rattle.import_machine.proofs.Counts.{bit}
 use Rattle.import_machine.proofs.Same.{unmap, map_at}
 use Rattle.import_machine.proofs.Lists.{pushed_at, within, pushed_keeps}

@@ -1,9 +1,8 @@
 -- Loads are never taken away, and only go on.
-use Rattle.std.proofs.Common.{◌≡◌, ◌≢◌, ◌⊎◌, ℕ, zero, suc, ◌+◌, ◌<◌, ◌≤◌, arith, Bool, true, false, cond, ◌&&◌, List, [], ◌∷◌, ◌++◌, length, Option, Some, None, refl, sym, ap, subst, ◌∙◌, eqb, inl, inr, map}
+use Rattle.std.proofs.Common.{◌≡◌, ℕ, ◌≤◌, arith, Bool, true, false, ◌&&◌, List, [], ◌∷◌, ◌++◌, length, Option, Some, None, refl, sym, ap, subst, ◌∙◌, eqb}
 use Rattle.std.specs.Prelude.{slice_get, slice_set, not, nat_lt}
 use Rattle.std.specs.FinMap.{get}
-use Rattle.std.proofs.lemmas.Bool.{and_parts, false≢true, eqb-true, eqb-false}
-use Rattle.std.proofs.lemmas.List.{map-append}
+use Rattle.std.proofs.lemmas.Bool.{eqb-true, eqb-false}
 use Rattle.py_value.specs.declared.value.ModRef.{ModRef}
 use Rattle.spec_core.specs.declared.spec.Spec.{Spec}
 use Rattle.machine_events.specs.declared.module.Slot.{Slot}
@@ -13,14 +12,13 @@ use Rattle.machine_events.specs.declared.event.Event.TheVariants as events
 use Rattle.machine_events.specs.declared.event.Entry.{Entry}
 use Rattle.machine_events.specs.declared.event.Reply.{Reply}
 use Rattle.machine_events.specs.declared.event.Reply.TheVariants as replies
-use Rattle.module_lock.specs.Table.{is_free, owns, closes}
+use Rattle.module_lock.specs.Table.{is_free, owns}
 use Rattle.module_table.specs.Lists.{changed, changed_to}
 use Rattle.module_table.specs.Vars.{var_of}
 use Rattle.module_table.specs.declared.table.Table.{Table as Modules}
 use Rattle.py_value.specs.declared.value.Value.{Value}
 use Rattle.spec_core.specs.Names.{parent_of}
 use Rattle.machine_state.specs.Cache.{is_fixed}
-use Rattle.module_table.specs.Tables.{reload_opened}
 use Rattle.module_table.specs.declared.module.Object.{Object}
 use Rattle.module_table.specs.declared.module.Load.{Load}
 use Rattle.module_table.specs.declared.module.Reload.{Reload}
@@ -32,20 +30,18 @@ use Rattle.module_table.specs.declared.module.Phase.{Phase}
 use Rattle.module_table.specs.declared.module.Phase.TheVariants as phases
 use Rattle.machine_state.specs.declared.state.State.{State}
 use Rattle.machine_state.specs.Parts.{is_initialising, is_built_in, is_built_in_place}
-use Rattle.machine_state.specs.Waits.{wait_on, ask_object, ask_none, ask_slot}
+use Rattle.machine_state.specs.Waits.{ask_object, ask_slot}
 use Rattle.machine_state.specs.Bodies.{bound, bind_under, bind_parent, good_entry, finish_entry, finish_object, finish_load}
 use Rattle.machine_state.specs.Variables.{sleeping, set_on, del_found, del_on}
-use Rattle.machine_state.specs.Reloads.{is_entry, enter, reload_begin_on, reload_take, reload_start, reload_leave, reload_end_on}
+use Rattle.machine_state.specs.Reloads.{is_entry, enter, reload_begin_on, reload_take, reload_leave, reload_end_on}
 use Rattle.machine_state.specs.Lazies.{open_lazy, rouse_lazy, rouse_phase, rouse_on}
 use Rattle.machine_state.specs.Step.{step}
-use Rattle.machine_state.specs.Allowed.{allowed, can_finish, is_reload, is_number, reloads_object}
 use Rattle.machine_state.specs.Legal.{replay, IsLegal}
 use Rattle.import_machine.specs.Bones.{Bones, Body, Module, bones, body_bone, module_bone}
 use Rattle.import_machine.specs.Sound.{IsSound, FitsPhase, HasBody, phase_of}
 use Rattle.import_machine.specs.Answered.{rank, GoOn}
-use Rattle.import_machine.proofs.Same.{either, changed_map, map_at, unmap}
-use Rattle.import_machine.proofs.Lists.{changed_is, pushed_keeps, set_there, set_elsewhere}
-use Rattle.import_machine.proofs.Leave.{fitting}
+use Rattle.import_machine.proofs.Same.{either, map_at}
+use Rattle.import_machine.proofs.Lists.{pushed_keeps, set_there, set_elsewhere}
 use Rattle.import_machine.proofs.Changes.{made_fits}
 use Rattle.import_machine.proofs.Kept.{finishes_entry}
 use Rattle.import_machine.proofs.Steps.{sound_step}

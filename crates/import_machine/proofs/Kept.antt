@@ -1,7 +1,7 @@
 -- What holds in every state is kept by every event.
-use Rattle.std.proofs.Common.{◌≡◌, ℕ, ◌+◌, Bool, true, false, cond, ◌&&◌, List, [], ◌∷◌, ◌++◌, length, Option, Some, None, refl, sym, ap, subst, ◌∙◌, arith}
-use Rattle.std.specs.Prelude.{ℤ, ◌==◌, ◌<◌, is_none, IsTrue, slice_get, not, nat_lt, Result, OnOk, OnErr, Ok, Err}
-use Rattle.std.specs.FinMap.{get, empty}
+use Rattle.std.proofs.Common.{◌≡◌, ℕ, ◌+◌, Bool, true, false, cond, ◌&&◌, List, length, Option, Some, None, refl, sym, ap, subst, ◌∙◌, arith}
+use Rattle.std.specs.Prelude.{ℤ, ◌==◌, slice_get, not, nat_lt}
+use Rattle.std.specs.FinMap.{get}
 use Rattle.std.proofs.lemmas.Bool.{and_parts, false≢true, eqb-true}
 use Rattle.py_value.specs.declared.value.Value.{Value}
 use Rattle.py_value.specs.declared.value.ModRef.{ModRef}
@@ -9,24 +9,16 @@ use Rattle.spec_core.specs.Names.{parent_of}
 use Rattle.spec_core.specs.declared.spec.Spec.{Spec}
 use Rattle.machine_events.specs.declared.module.Slot.{Slot}
 use Rattle.machine_events.specs.declared.module.Slot.TheVariants as slots
-use Rattle.machine_events.specs.declared.event.Event.{Event}
-use Rattle.machine_events.specs.declared.event.Event.TheVariants as events
-use Rattle.machine_events.specs.declared.event.Entry.{Entry}
 use Rattle.machine_events.specs.declared.event.Reply.{Reply}
 use Rattle.machine_events.specs.declared.event.Reply.TheVariants as replies
-use Rattle.module_lock.specs.Table.{Table, closes, is_free, owns, waiting, given}
-use Rattle.module_lock.specs.Cycles.{IsAcyclic}
-use Rattle.module_lock.proofs.Kept.{acyclic-got, acyclic-waiting, acyclic-woken, acyclic-given, acyclic-empty}
+use Rattle.module_lock.specs.Table.{closes, is_free, owns, waiting, given}
+use Rattle.module_lock.proofs.Kept.{acyclic-waiting}
 use Rattle.module_table.specs.Vars.{var_of}
-use Rattle.module_table.specs.Tables.{with_unit}
 use Rattle.module_table.specs.declared.module.Object.{Object}
 use Rattle.module_table.specs.declared.module.Load.{Load}
-use Rattle.module_table.specs.declared.module.Reload.{Reload}
 use Rattle.module_table.specs.declared.module.LoadKind.{LoadKind}
 use Rattle.module_table.specs.declared.module.LoadKind.TheVariants as load_kinds
-use Rattle.module_table.specs.declared.module.LoadStage.{LoadStage}
 use Rattle.module_table.specs.declared.module.LoadStage.TheVariants as stages
-use Rattle.module_table.specs.declared.module.Phase.{Phase}
 use Rattle.module_table.specs.declared.module.Phase.TheVariants as phases
 use Rattle.machine_state.specs.declared.state.State.{State}
 use Rattle.machine_state.specs.Parts.{is_initialising, is_built_in, is_built_in_place, is_open, is_main, is_imported}
@@ -35,27 +27,21 @@ use Rattle.machine_state.specs.Bodies.{add, bound, bind_under, bind_parent, good
 use Rattle.machine_state.specs.Variables.{sleeping, set_on, del_found, del_on}
 use Rattle.machine_state.specs.Cache.{is_fixed, tab_set, tab_del}
 use Rattle.machine_state.specs.Search.{path_add}
-use Rattle.machine_state.specs.Reloads.{is_entry, enter, reload_begin_on, reload_start, reload_take, reload_leave, reload_end_on}
-use Rattle.machine_state.specs.Lazies.{add_lazy, open_lazy, rouse_lazy, rouse_phase, rouse_on}
-use Rattle.machine_state.specs.Step.{step}
+use Rattle.machine_state.specs.Lazies.{add_lazy}
 use Rattle.machine_state.specs.Allowed.{can_finish, has_spare}
-use Rattle.machine_state.specs.Opening.{opening}
-use Rattle.machine_state.specs.Legal.{replay, IsLegal}
 use Rattle.import_machine.specs.Bones.{Bones, bones}
 use Rattle.import_machine.specs.Sound.{AreSound, IsSound}
-use Rattle.import_machine.specs.Bones.{Module, Body, module_bone, body_bone, counts_in, opens, held}
-use Rattle.import_machine.specs.Sound.{IsRunning, FitsPhase}
-use Rattle.import_machine.proofs.Same.{either, get_map, changed_map, map_at}
+use Rattle.import_machine.specs.Bones.{Module, Body, module_bone, body_bone, counts_in, opens}
+use Rattle.import_machine.specs.Sound.{IsRunning}
+use Rattle.import_machine.proofs.Same.{either, changed_map, map_at}
 use Rattle.module_table.specs.Lists.{changed}
 use Rattle.import_machine.proofs.Lists.{changed_is}
-use Rattle.import_machine.proofs.Holds.{same_text, held_got, held_more}
-use Rattle.import_machine.proofs.Counts.{bit, counts_own, counts_there}
-use Rattle.import_machine.proofs.Facts.{sound_locked, sound_got, sound_given, sound_entered, sound_left}
+use Rattle.import_machine.proofs.Counts.{bit, counts_there}
+use Rattle.import_machine.proofs.Facts.{sound_locked, sound_got, sound_given}
 use Rattle.import_machine.proofs.Changes.{sound_made, covered_made, opens_made}
 use Rattle.import_machine.proofs.Stages.{staged, opens_staged, sound_staged}
-use Rattle.import_machine.proofs.Again.{again, sound_again, opens_again, done_again, sound_done_again, opens_done, sound_ended}
-use Rattle.import_machine.proofs.Leave.{runs, idle, fitting, spare}
-use Rattle.import_machine.proofs.Moves.{made, set_same, deleted_same, ns_same, main_same, made_is, ended_is, opened_is, phase_is}
+use Rattle.import_machine.proofs.Leave.{spare}
+use Rattle.import_machine.proofs.Moves.{made, set_same, deleted_same, made_is}
 
 -- what an event leaves is sound
 abbrev pub Keeps : Reply × State → Type 0

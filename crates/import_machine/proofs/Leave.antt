@@ -1,19 +1,16 @@
 -- What an allowed event tells of the state and of the thread.
-use Rattle.std.proofs.Common.{◌≡◌, ℕ, zero, suc, ◌+◌, ◌<◌, arith, Bool, true, false, cond, ◌&&◌, List, [], ◌∷◌, Option, Some, None, refl, sym, ap, subst, ◌∙◌, eqb, ltb, map}
-use Rattle.std.specs.Prelude.{is_none, is_some, IsTrue, slice_get, not, sum_by, count_by, nat_eq}
+use Rattle.std.proofs.Common.{◌≡◌, ℕ, zero, suc, ◌<◌, arith, Bool, true, false, cond, ◌&&◌, List, Option, Some, None, refl, sym, ap, subst, ◌∙◌, eqb, ltb}
+use Rattle.std.specs.Prelude.{is_none, IsTrue, slice_get, not, count_by}
 use Rattle.std.specs.Option.{option_map}
-use Rattle.std.specs.Cmp.Lexicographic.{pointwise}
 use Rattle.std.specs.FinMap.{get}
 use Rattle.std.proofs.lemmas.Bool.{and_parts, false≢true, eqb-true, ltb-true, eqb-false}
 use Rattle.machine_events.specs.declared.event.Event.{Event}
-use Rattle.machine_events.specs.declared.event.Event.TheVariants as events
 use Rattle.module_lock.specs.declared.locks.Lock.{Lock}
 use Rattle.module_lock.specs.Table.{lock_of, can_wake}
 use Rattle.module_table.specs.declared.module.Object.{Object}
-use Rattle.module_table.specs.declared.module.Load.{Load}
 use Rattle.machine_state.specs.declared.state.State.{State}
 use Rattle.machine_state.specs.Allowed.{allowed, is_wake, fits, has_ended, all_ended, is_due, is_due_from, has_leave, has_spare, spare_of, counts_for, has_name, is_open_of}
-use Rattle.import_machine.specs.Bones.{Bones, Module, Body, bones, module_bone, body_bone, is_named, counts_in, opens, held_by, held}
+use Rattle.import_machine.specs.Bones.{bones, module_bone, body_bone, is_named, counts_in, opens, held_by, held}
 use Rattle.import_machine.specs.Sound.{IsRunning}
 use Rattle.import_machine.proofs.Same.{get_map}
 use Rattle.import_machine.proofs.Counts.{bit, same_sum, sum_map}

@@ -1,20 +1,16 @@
 -- What events do to the bones of a state.
-use Rattle.std.proofs.Common.{◌≡◌, ℕ, ◌+◌, Bool, List, [], ◌∷◌, ◌++◌, length, Option, Some, None, refl, sym, ap, ◌∙◌, map}
-use Rattle.std.specs.Prelude.{slice_get}
-use Rattle.std.specs.FinMap.{insert}
+use Rattle.std.proofs.Common.{◌≡◌, ℕ, List, [], ◌∷◌, ◌++◌, length, Some, refl, sym, ap, ◌∙◌, map}
 use Rattle.std.proofs.lemmas.List.{map-append, length-map}
 use Rattle.spec_core.specs.declared.spec.Spec.{Spec}
 use Rattle.py_value.specs.declared.value.Value.{Value}
 use Rattle.py_value.specs.declared.value.NsState.{NsState}
 use Rattle.module_lock.specs.Table.{Table}
 use Rattle.module_table.specs.Lists.{changed}
-use Rattle.module_table.specs.declared.module.Object.{Object}
-use Rattle.module_table.specs.declared.module.Load.{Load}
 use Rattle.module_table.specs.declared.module.LoadKind.{LoadKind}
 use Rattle.module_table.specs.declared.module.LoadStage.{LoadStage}
 use Rattle.module_table.specs.declared.module.LoadStage.TheVariants as stages
 use Rattle.module_table.specs.declared.module.Phase.{Phase}
-use Rattle.module_table.specs.Tables.{with_unit, with_phase, with_end, with_open, with_main, with_reloaded, with_set, with_deleted, with_ns, with_reload_load, reload_opened}
+use Rattle.module_table.specs.Tables.{with_unit, with_phase, with_end, with_open, with_main, with_set, with_deleted, with_ns}
 use Rattle.machine_state.specs.declared.state.State.{State}
 use Rattle.import_machine.specs.Bones.{Bones, Module, Body, bones, module_bone, body_bone}
 use Rattle.import_machine.proofs.Same.{changed_map, kept_map}

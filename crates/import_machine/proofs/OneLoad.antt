@@ -1,11 +1,9 @@
 -- A module that is initialising or lazy has one load of kind Plain or Lazy.
-use Rattle.std.proofs.Common.{◌≡◌, ℕ, true, Option, Some, None, refl, sym, ap, subst, ◌∙◌}
+use Rattle.std.proofs.Common.{◌≡◌, ℕ, true, Some, refl, sym, ap, subst, ◌∙◌}
 use Rattle.std.specs.Prelude.{slice_get}
 use Rattle.module_table.specs.declared.module.Object.{Object}
-use Rattle.module_table.specs.declared.module.Load.{Load}
 use Rattle.module_table.specs.declared.module.LoadStage.{LoadStage}
 use Rattle.module_table.specs.declared.module.LoadStage.TheVariants as stages
-use Rattle.module_table.specs.declared.module.Phase.{Phase}
 use Rattle.module_table.specs.declared.module.Phase.TheVariants as phases
 use Rattle.machine_state.specs.declared.state.State.{State}
 use Rattle.machine_state.specs.Parts.{is_imported}
@@ -49,8 +47,8 @@ module _ (s : State) (sound : IsSound s) (mid : ℕ) (o : Object) (is : slice_ge
         imported = ap (λ (z : Body). is_imported z.kind) load.2 ∙ has.5;
         at = ap (λ (z : Body). z.stage) load.2 ∙ tells has.1.stage made.1;
         only = λ j k at of_it imported.
-          let other = made_with j (body_bone k) (map_at body_bone s.table.loads j k at) of_it imported in
-          let e : Some j ≡ Some has.0 = sym other.0 ∙ made.0 in cc;
+            let other = made_with j (body_bone k) (map_at body_bone s.table.loads j k at) of_it imported in
+            let e : Some j ≡ Some has.0 = sym other.0 ∙ made.0 in cc;
       }
 
   pub one_open : o.phase ≡ phases.Initialising → HasOneLoad s mid stages.Open

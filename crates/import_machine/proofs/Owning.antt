@@ -1,11 +1,11 @@
 -- A thread that owns a lock, and an open load, are found by the tests.
-use Rattle.std.proofs.Common.{◌≡◌, ℕ, zero, suc, Bool, true, false, cond, ◌||◌, List, [], ◌∷◌, Option, Some, None, Ordering, refl, sym, ap, ◌∙◌, eqb, map}
+use Rattle.std.proofs.Common.{◌≡◌, ℕ, zero, suc, Bool, true, false, cond, ◌||◌, List, [], ◌∷◌, Option, Some, None, Ordering, refl, sym, ap, ◌∙◌, map}
 use Rattle.std.specs.Prelude.{slice_get, ◌==◌}
 use Rattle.std.specs.Option.{option_map}
 use Rattle.std.specs.List.{list_any}
 use Rattle.std.specs.Ordering.{is_eq, nat_cmp}
 use Rattle.std.specs.Cmp.Lexicographic.{slice_cmp}
-use Rattle.std.specs.FinMap.{FinMap, get, entries, values, get-entries, find}
+use Rattle.std.specs.FinMap.{entries, get-entries, find}
 use Rattle.std.proofs.lemmas.Bool.{eq-eqb}
 use Rattle.module_lock.specs.declared.locks.Lock.{Lock}
 use Rattle.module_lock.specs.Table.{Table, lock_of, owner_of, holds}

@@ -1,24 +1,19 @@
 -- Reloads and lazy modules keep what holds in every state.
-use Rattle.std.proofs.Common.{◌≡◌, ◌⊎◌, ℕ, ◌+◌, ◌<◌, ◌≤◌, arith, Bool, true, false, cond, ◌&&◌, List, [], ◌∷◌, ◌++◌, length, Option, Some, None, refl, sym, ap, subst, ◌∙◌, eqb, map}
-use Rattle.std.specs.Prelude.{slice_get, slice_set, nat_eq, is_some, ◌==◌}
-use Rattle.std.specs.Cmp.Lexicographic.{pointwise}
+use Rattle.std.proofs.Common.{◌≡◌, ℕ, ◌+◌, ◌≤◌, arith, Bool, true, false, cond, ◌&&◌, List, [], ◌∷◌, ◌++◌, length, Option, Some, None, refl, sym, ap, subst, ◌∙◌}
+use Rattle.std.specs.Prelude.{slice_get, is_some, ◌==◌}
 use Rattle.std.specs.FinMap.{get, insert, remove}
 use Rattle.std.proofs.lemmas.Bool.{and_parts, false≢true, eqb-true}
 use Rattle.std.proofs.lemmas.List.{map-append, length-map}
 use Rattle.std.proofs.lemmas.Slice.Eq.{bytes_eq-Decides}
 use Rattle.spec_core.specs.declared.spec.Spec.{Spec}
-use Rattle.machine_events.specs.declared.module.Slot.{Slot}
 use Rattle.machine_events.specs.Modules.{module_of}
-use Rattle.machine_events.specs.declared.event.Reply.{Reply}
 use Rattle.machine_events.specs.declared.event.Reply.TheVariants as replies
-use Rattle.module_lock.specs.Table.{Table, is_free, owns, got, given}
+use Rattle.module_lock.specs.Table.{is_free, owns, got, given}
 use Rattle.module_table.specs.Lists.{changed}
 use Rattle.module_table.specs.Tables.{reload_opened, restarted_object, with_phase, with_open}
-use Rattle.module_table.specs.declared.table.Table.{Table as Modules}
 use Rattle.module_table.specs.declared.module.Object.{Object}
 use Rattle.module_table.specs.declared.module.Load.{Load}
 use Rattle.module_table.specs.declared.module.Reload.{Reload}
-use Rattle.module_table.specs.declared.module.LoadKind.{LoadKind}
 use Rattle.module_table.specs.declared.module.LoadKind.TheVariants as load_kinds
 use Rattle.module_table.specs.declared.module.LoadStage.TheVariants as stages
 use Rattle.module_table.specs.declared.module.Phase.{Phase}
@@ -32,9 +27,8 @@ use Rattle.machine_state.specs.Lazies.{open_lazy, rouse_lazy, rouse_phase, rouse
 use Rattle.machine_state.specs.Allowed.{has_name, is_reload, is_number, reloads_object}
 use Rattle.import_machine.specs.Bones.{Bones, Module, Body, bones, module_bone, body_bone, counts_in, opens, held}
 use Rattle.import_machine.specs.Sound.{AreSound, IsSound, IsRunning, FitsPhase, HasBody}
-use Rattle.import_machine.proofs.Same.{either, changed_map, kept_map, map_at, unmap}
+use Rattle.import_machine.proofs.Same.{either, changed_map, kept_map, map_at}
 use Rattle.import_machine.proofs.Lists.{changed_is}
-use Rattle.import_machine.proofs.Holds.{same_text, held_got, held_more}
 use Rattle.import_machine.proofs.Counts.{bit, counts_own, counts_there}
 use Rattle.import_machine.proofs.Facts.{sound_got, sound_given, sound_entered, sound_left, bumped_by}
 use Rattle.import_machine.proofs.Stages.{staged, opens_staged, sound_staged}

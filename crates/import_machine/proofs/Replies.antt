@@ -1,23 +1,23 @@
 -- Who is answered a module that is initialising, and when an answer is Cycle.
-use Rattle.std.proofs.Common.{◌≡◌, ℕ, zero, suc, ◌+◌, ◌<◌, ◌≤◌, arith, Bool, true, false, cond, ◌&&◌, List, Option, Some, None, refl, sym, ap, subst, ◌∙◌, eqb}
-use Rattle.std.specs.Prelude.{slice_get, not, count_by}
+use Rattle.std.proofs.Common.{◌≡◌, ℕ, ◌<◌, arith, Bool, true, false, cond, ◌&&◌, List, Option, Some, None, refl, sym, ap, subst, ◌∙◌, eqb}
+use Rattle.std.specs.Prelude.{slice_get, not}
 use Rattle.std.specs.FinMap.{get}
-use Rattle.std.proofs.lemmas.Bool.{and_parts, false≢true, eqb-true}
+use Rattle.std.proofs.lemmas.Bool.{false≢true, eqb-true}
 use Rattle.py_value.specs.declared.value.ModRef.{ModRef}
 use Rattle.machine_events.specs.declared.module.Slot.{Slot}
 use Rattle.machine_events.specs.declared.module.Slot.TheVariants as slots
 use Rattle.machine_events.specs.declared.event.Reply.{Reply}
 use Rattle.machine_events.specs.declared.event.Reply.TheVariants as replies
 use Rattle.module_lock.specs.declared.locks.Lock.{Lock}
-use Rattle.module_lock.specs.Table.{Table, closes, is_free, owns, owns_by, lock_of, waiting, got}
+use Rattle.module_lock.specs.Table.{Table, closes, is_free, owns, owns_by, lock_of, got}
 use Rattle.module_lock.specs.Cycles.{Closes}
 use Rattle.module_lock.proofs.Follow.{closes-yes}
 use Rattle.module_table.specs.declared.module.Object.{Object}
 use Rattle.module_table.specs.declared.module.Load.{Load}
 use Rattle.machine_state.specs.declared.state.State.{State}
-use Rattle.machine_state.specs.Parts.{is_initialising, is_open, is_main, is_imported}
+use Rattle.machine_state.specs.Parts.{is_initialising, is_open, is_imported}
 use Rattle.machine_state.specs.Waits.{wait_reply, wait_on, ask_object, ask_none, ask_slot, ask, take_name}
-use Rattle.import_machine.specs.Bones.{Bones, Module, Body, bones, module_bone, body_bone, counts_in, opens, held_by, held}
+use Rattle.import_machine.specs.Bones.{bones, module_bone, body_bone, counts_in, opens, held_by, held}
 use Rattle.import_machine.specs.Sound.{IsSound}
 use Rattle.import_machine.specs.Answered.{IsOwn}
 use Rattle.import_machine.proofs.Same.{map_at}

@@ -1,26 +1,18 @@
 -- What holds in every state is kept where a load goes on with its module, where a reload begins or ends its load, and where a
 -- thread ends.
-use Rattle.std.proofs.Common.{◌≡◌, ◌≢◌, ◌⊎◌, ℕ, zero, suc, ◌+◌, ◌<◌, ◌≤◌, length, arith, Bool, true, false, cond, ◌&&◌, List, [], ◌∷◌, ◌++◌, Option, Some, None, refl, sym, ap, subst, ◌∙◌, eqb, inl, inr}
-use Rattle.std.specs.Prelude.{slice_get, slice_set, not, is_some, is_none}
-use Rattle.std.specs.Ordering.{nat_cmp, eq_by_cmp}
-use Rattle.std.specs.Cmp.{nat_cmp_total}
-use Rattle.std.specs.Cmp.Lexicographic.{slice_cmp, nat_list_cmp_total}
-use Rattle.std.specs.FinMap.{FinMap, get, insert, remove, get-insert, get-remove}
-use Rattle.std.proofs.lemmas.Bool.{false≢true, eqb-true, eqb-false, eq-eqb}
-use Rattle.module_lock.specs.Table.{Table, owner_of, is_free, got, given}
-use Rattle.module_lock.proofs.Kept.{acyclic-got, acyclic-given}
+use Rattle.std.proofs.Common.{◌≡◌, ℕ, ◌+◌, ◌≤◌, true, false, List, Some, refl, sym, ap, subst, ◌∙◌, eqb, inl, inr}
+use Rattle.std.specs.Prelude.{slice_get, slice_set, is_some}
+use Rattle.std.specs.FinMap.{get}
+use Rattle.std.proofs.lemmas.Bool.{false≢true, eqb-true, eqb-false}
 use Rattle.module_table.specs.declared.module.LoadKind.{LoadKind}
 use Rattle.module_table.specs.declared.module.LoadKind.TheVariants as load_kinds
 use Rattle.module_table.specs.declared.module.LoadStage.{LoadStage}
-use Rattle.module_table.specs.declared.module.LoadStage.TheVariants as stages
-use Rattle.module_table.specs.declared.module.Phase.{Phase}
-use Rattle.module_table.specs.declared.module.Phase.TheVariants as phases
 use Rattle.module_table.specs.declared.module.Reload.{Reload}
-use Rattle.machine_state.specs.Parts.{is_open, is_main, is_imported}
-use Rattle.import_machine.specs.Bones.{Bones, Module, Body, is_named, counts_in, opens, held}
-use Rattle.import_machine.specs.Sound.{AreSound, IsRunning, FitsModule, FitsKind, FitsPhase, FitsLoad, FitsReload, HasBody, IsMadeBy, Begins, phase_of}
-use Rattle.import_machine.proofs.Lists.{pushed_last, pushed_keeps, pushed_at, within, set_there, set_elsewhere, set_at}
-use Rattle.import_machine.proofs.Counts.{bit, counts_own, counts_there, renamed, opens_push, opens_set, changed_name}
+use Rattle.machine_state.specs.Parts.{is_open, is_imported}
+use Rattle.import_machine.specs.Bones.{Bones, Module, Body, counts_in, opens, held}
+use Rattle.import_machine.specs.Sound.{AreSound, FitsModule, FitsKind, FitsPhase, FitsReload, phase_of}
+use Rattle.import_machine.proofs.Lists.{set_there, set_elsewhere, set_at}
+use Rattle.import_machine.proofs.Counts.{bit, renamed, opens_set, changed_name}
 use Rattle.import_machine.proofs.Changes.{fits_made, made_fits, other_fits, more_phase, any_phase, more_load}
 
 not_reload : (kind : LoadKind) → is_imported kind ≡ true → kind ≡ load_kinds.Reload → ⊥

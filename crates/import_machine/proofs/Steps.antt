@@ -1,6 +1,6 @@
 -- Every allowed event keeps what holds in every state.
-use Rattle.std.proofs.Common.{◌≡◌, ℕ, Bool, true, false, cond, ◌&&◌, List, [], ◌∷◌, length, Option, Some, None, refl, sym, ap, subst, ◌∙◌, eqb}
-use Rattle.std.specs.Prelude.{is_some, IsTrue, slice_get, not, Result, OnOk, OnErr, Ok, Err}
+use Rattle.std.proofs.Common.{◌≡◌, ℕ, Bool, true, false, ◌&&◌, List, [], ◌∷◌, None, refl, sym, ap, subst, ◌∙◌, eqb}
+use Rattle.std.specs.Prelude.{IsTrue, slice_get, not, Result, OnOk, OnErr, Ok, Err}
 use Rattle.std.specs.List.{list_any}
 use Rattle.std.specs.FinMap.{get}
 use Rattle.std.proofs.lemmas.Bool.{and_parts, and_from, false≢true, eq-eqb}
@@ -8,9 +8,8 @@ use Rattle.machine_events.specs.declared.event.Event.{Event}
 use Rattle.machine_events.specs.declared.event.Event.TheVariants as events
 use Rattle.machine_events.specs.declared.event.Entry.{Entry}
 use Rattle.machine_events.specs.declared.event.Reply.{Reply}
-use Rattle.module_lock.specs.Table.{holds, owner_of}
+use Rattle.module_lock.specs.Table.{holds}
 use Rattle.module_lock.proofs.Kept.{acyclic-woken}
-use Rattle.module_table.specs.declared.module.Load.{Load}
 use Rattle.module_table.specs.Tables.{reloads}
 use Rattle.machine_state.specs.declared.state.State.{State}
 use Rattle.machine_state.specs.Parts.{is_open, is_main}
@@ -19,7 +18,7 @@ use Rattle.machine_state.specs.Bodies.{end}
 use Rattle.machine_state.specs.Allowed.{allowed, can_end, is_open_of, has_spare, has_text, has_body, is_reloading, has_name}
 use Rattle.machine_state.specs.Legal.{replay, IsLegal}
 use Rattle.import_machine.specs.Bones.{bones, Body, body_bone}
-use Rattle.import_machine.specs.Sound.{IsSound, IsRunning}
+use Rattle.import_machine.specs.Sound.{IsSound}
 use Rattle.import_machine.proofs.Same.{unmap}
 use Rattle.import_machine.proofs.Owning.{any_at, owner_holds}
 use Rattle.import_machine.proofs.Leave.{runs, idle, fitting, spare}

@@ -1,11 +1,10 @@
 -- Who is answered a module that is initialising, and who of a round can go on.
-use Rattle.std.specs.Prelude.{◌≡◌, ◌<◌, ◌≤◌, ℕ, true, false, is_some, List, Option, Some, None, slice_get}
+use Rattle.std.specs.Prelude.{◌≡◌, ◌<◌, ◌≤◌, ℕ, true, false, is_some, List, Some, None, slice_get}
 use Rattle.std.specs.FinMap.{get}
 use Rattle.module_lock.specs.Table.{owns, next}
 use Rattle.module_table.specs.declared.module.Load.{Load}
 use Rattle.module_table.specs.declared.module.LoadStage.{LoadStage}
 use Rattle.module_table.specs.declared.module.LoadStage.TheVariants as stages
-use Rattle.module_table.specs.declared.module.Object.{Object}
 use Rattle.machine_state.specs.declared.state.State.{State}
 use Rattle.machine_state.specs.Parts.{is_open, is_imported}
 

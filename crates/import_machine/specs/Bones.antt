@@ -1,9 +1,9 @@
 -- What the facts on all states speak of: who owns and awaits which lock, how far each module and each load is, and which
 -- threads have ended.
-use Rattle.std.specs.Prelude.{ℕ, ◌==◌, ◌&&◌, not, count_by, is_some, nat_eq, Bool, true, false, List, zero, suc, Option, Some, None, map, slice_get, if◌then◌else◌}
+use Rattle.std.specs.Prelude.{ℕ, ◌==◌, ◌&&◌, not, count_by, nat_eq, Bool, false, List, Option, Some, None, map, slice_get, if◌then◌else◌}
 use Rattle.std.specs.Ordering.{nat_cmp}
 use Rattle.std.specs.Cmp.Lexicographic.{slice_cmp, pointwise}
-use Rattle.std.specs.FinMap.{FinMap, get}
+use Rattle.std.specs.FinMap.{FinMap}
 use Rattle.module_lock.specs.Table.{Table}
 use Rattle.module_table.specs.declared.module.Object.{Object}
 use Rattle.module_table.specs.declared.module.Load.{Load}

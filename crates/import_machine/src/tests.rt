@@ -461,11 +461,24 @@ fn schedules_are_answered_as_their_tables_say(rt: HostRuntime) -> Result<(), Fai
         RELOAD,
         RELOAD_AGAINST_A_LOADER,
     ] {
-        assert_eq!(&rt; first_other(alloc, machine(alloc, 2)?, schedule)?, None, "{schedule}");
+        assert_eq!(&rt;
+            first_other(alloc, machine(alloc, 2)?, schedule)?,
+            None,
+            "{schedule}"
+        );
     }
-    assert_eq!(&rt; first_other(alloc, machine(alloc, 3)?, RING_OF_THREE)?, None);
-    assert_eq!(&rt; first_other(alloc, machine(alloc, 1)?, PARENTS_AND_FIXED_MODULES)?, None);
+    assert_eq!(&rt;
+        first_other(alloc, machine(alloc, 3)?, RING_OF_THREE)?,
+        None
+    );
+    assert_eq!(&rt;
+        first_other(alloc, machine(alloc, 1)?, PARENTS_AND_FIXED_MODULES)?,
+        None
+    );
     assert_eq!(&rt; first_other(alloc, two_rounds(alloc)?, SECOND_ROUND)?, None);
-    assert_eq!(&rt; first_other(alloc, machine(alloc, 16)?, RING_OF_SIXTEEN)?, None);
+    assert_eq!(&rt;
+        first_other(alloc, machine(alloc, 16)?, RING_OF_SIXTEEN)?,
+        None
+    );
     Ok(())
 }

@@ -1,5 +1,6 @@
 //! A machine with the history of its events.
 ghost use Rattle.std.specs.Prelude.{◌≡◌, ◌++◌, ◌∷◌, [], OnErr, IfOk};
+ghost use Rattle.machine_events.specs.Fitting.{Fits};
 ghost use Rattle.machine_state.specs.Legal.{Allowed, IsLegal, replay};
 ghost use Rattle.machine_book.specs.Bound.{opened};
 ghost use Rattle.machine_book.specs.Outgo.{Kept};
@@ -74,6 +75,7 @@ impl<O: Outlet> Book<O> {
         ensures opening { self.new.opening ≡ self.old.opening }
         ensures entry { IfOk result (λ reply. self.new.history ≡ self.old.history ++ record { thread = thread; event = event; reply = reply } ∷ []) }
         ensures put { IfOk result (λ reply. Kept O.piece (O.out self.old.outlet) (O.out self.new.outlet) (record { thread = thread; event = event; reply = reply } ∷ [])) }
+        ensures fits { IfOk result (Fits event) }
         ensures legal { IfOk result (λ reply. IsLegal self.new.opening self.new.history) }
         ensures err { OnErr result (self.new ≡ self.old) }
     {

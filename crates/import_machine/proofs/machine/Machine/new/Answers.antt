@@ -1,4 +1,4 @@
-use Rattle.std.proofs.Common.{◌≡◌, ◌≤◌, length, sym, subst, arith}
+use Rattle.std.proofs.Common.{sym, subst, arith}
 use Rattle.import_machine.specs.Sound.{IsSound}
 use Rattle.import_machine.proofs.First.{sound_opening, rounds_long}
 use Rattle.import_machine.proofs.machine.Machine.new.Goals as goal
