@@ -1,6 +1,6 @@
 //! What a machine is opened with.
 ghost use Rattle.std.specs.Prelude.{◌≡◌, ◌≤◌, length, IfOk};
-ghost use Rattle.machine_state.specs.Opening.{round_starts};
+ghost use Rattle.std.specs.List.{sum};
 
 use base_types::{NoMemory, Seq, Texts};
 use import_machine::Machine;
@@ -22,7 +22,7 @@ impl Opening {
     pub fn machine(&self) -> Result<Machine, NoMemory>
         requires few { length self.now.scripts ≤ 16 }
         requires texts { length self.now.texts ≡ length self.now.scripts }
-        requires rounds { length (round_starts 0 self.now.rounds) ≡ length self.now.scripts }
+        requires rounds { sum self.now.rounds ≡ length self.now.scripts }
         ensures { IfOk result (λ it. it ≡ opened self.now) }
     {
         Machine::new(
