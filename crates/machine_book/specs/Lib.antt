@@ -1,4 +1,0 @@
-pub mod Histories
-pub mod Outgo
-pub mod Sight
-pub mod Bound
