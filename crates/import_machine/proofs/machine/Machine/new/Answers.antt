@@ -1,0 +1,9 @@
+use Rattle.std.proofs.Common.{sym, subst, arith}
+use Rattle.import_machine.specs.Sound.{IsSound}
+use Rattle.import_machine.proofs.First.{sound_opening, rounds_long}
+use Rattle.import_machine.proofs.machine.Machine.new.Goals as goal
+
+pub invariant_of-result : goal.invariant_of-result
+invariant_of-result c =
+    let long = rounds_long 0 c.args.rounds.now in
+    subst IsSound (sym c.in_ok-open.ensures) (sound_opening c.args.scripts.now c.args.texts.now c.args.path.now c.args.rounds.now (omega (arith, c.requires.texts)) (omega (arith, long, c.requires.rounds, c.requires.few)))

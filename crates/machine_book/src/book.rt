@@ -1,0 +1,104 @@
+//! A machine with the history of its events.
+ghost use Rattle.std.specs.Prelude.{◌≡◌, ◌++◌, ◌∷◌, [], OnErr, IfOk};
+ghost use Rattle.machine_events.specs.Fitting.{Fits};
+ghost use Rattle.machine_state.specs.Legal.{Allowed, IsLegal, replay};
+ghost use Rattle.machine_book.specs.Bound.{opened};
+ghost use Rattle.machine_book.specs.Outgo.{Kept};
+
+use crate::opening::Opening;
+use crate::outlet::Outlet;
+use base_types::{Exact, NoMemory, Seq};
+use import_machine::Machine;
+use machine_events::{Entry, Event, Reply};
+use std::marker::Model;
+
+/// A machine, what it was opened with, the history of its events, and the outlet that each entry of
+/// the history goes to.
+#[derive(Drop)]
+pub struct Book<O: Outlet> {
+    opening: Opening,
+    machine: Machine,
+    history: Vec<Entry>,
+    outlet: O,
+}
+
+impl<O: Outlet> Model for Book<O> {
+    ghost use Rattle.std.specs.Prelude.{◌≡◌};
+    ghost use Rattle.machine_state.specs.Legal.{IsLegal, replay};
+    ghost use Rattle.machine_book.specs.Bound.{BoundTo, opened};
+    ghost use Rattle.std.specs.Coded.{codes};
+    ghost use Rattle.machine_state.specs.contracts.state.State as state;
+    ghost use Rattle.machine_events.specs.contracts.event.Entry as entry;
+
+    ghost Value = { BoundTo O };
+
+    ghost coded = { Prim.hlevel (codes, state.the_row.coded, entry.the_row.coded, O.code) };
+
+    ghost view = { λ b. record { opening = opened b.opening; history = b.history.items; outlet = b.outlet } };
+
+    ghost invariant = { λ b. (b.machine ≡ replay (opened b.opening) b.history.items) × IsLegal (opened b.opening) b.history.items };
+}
+
+impl<O: Outlet> Book<O> {
+    /// A book with an empty history. The machine is the one that the opening makes.
+    pub fn new(opening: Opening, machine: Machine, outlet: O) -> Book<O>
+        requires { machine ≡ opened opening }
+        ensures { result ≡ record { opening = opened opening; history = []; outlet = outlet } }
+    {
+        let alloc = opening.scripts.alloc();
+        Book {
+            opening,
+            machine,
+            history: Vec::new(alloc),
+            outlet,
+        }
+    }
+
+    /// The machine, whose state is the replay of the history.
+    pub fn machine(&self) -> &Machine
+        ensures { result.now ≡ replay self.now.opening self.now.history }
+    {
+        &self.machine
+    }
+
+    /// The history is legal.
+    pub fn check_legal(&self)
+        ensures { IsLegal self.now.opening self.now.history }
+    {
+        let _ = &self.history;
+    }
+
+    /// Makes an event of a thread, which is allowed, writes it down, and puts it out. An `Err`
+    /// changes nothing, and puts nothing out.
+    pub fn step(&mut self, thread: u32, event: Event) -> Result<Reply, NoMemory>
+        requires { Allowed (replay self.old.opening self.old.history) thread event }
+        ensures opening { self.new.opening ≡ self.old.opening }
+        ensures entry { IfOk result (λ reply. self.new.history ≡ self.old.history ++ record { thread = thread; event = event; reply = reply } ∷ []) }
+        ensures put { IfOk result (λ reply. Kept O.piece (O.out self.old.outlet) (O.out self.new.outlet) (record { thread = thread; event = event; reply = reply } ∷ [])) }
+        ensures fits { IfOk result (Fits event) }
+        ensures legal { IfOk result (λ reply. IsLegal self.new.opening self.new.history) }
+        ensures err { OnErr result (self.new ≡ self.old) }
+    {
+        let written = event.copy()?;
+        let answer = self.machine.reply(thread, &written)?;
+        self.history.reserve(1)?;
+        let reply = self.machine.step(thread, event)?;
+        let entry = Entry {
+            thread,
+            event: written,
+            reply: answer,
+        };
+        self.outlet.put(&entry);
+        self.history.push_reserved(entry);
+        Ok(reply)
+    }
+
+    /// The history and the outlet.
+    pub fn end(self) -> (Seq<Entry>, O)
+        ensures history { result.0 ≡ self.history }
+        ensures outlet { result.1 ≡ self.outlet }
+        ensures legal { IsLegal self.opening result.0 }
+    {
+        (Seq::from_vec(self.history), self.outlet)
+    }
+}

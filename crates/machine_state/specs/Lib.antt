@@ -1,0 +1,14 @@
+pub mod Parts
+pub mod Waits
+pub mod Bodies
+pub mod Variables
+pub mod Search
+pub mod Cache
+pub mod Reloads
+pub mod Lazies
+pub mod Step
+pub mod Known
+pub mod Allowed
+pub mod Opening
+pub mod Legal
+pub mod Gives

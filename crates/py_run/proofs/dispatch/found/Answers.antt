@@ -1,0 +1,18 @@
+use Rattle.std.proofs.Common.{◌∙◌, ◌++◌, List, ap, subst, arith}
+use Rattle.machine_events.specs.Knowing.{Holding}
+use Rattle.machine_book.proofs.Keeping.{continues_refl}
+use Rattle.meanings.specs.Runs.{Run, Stands}
+use Rattle.py_run.proofs.Passing.{passes_module}
+use Rattle.py_run.proofs.dispatch.found.Goals as goal
+
+pub returns-in_default : goal.returns-in_default
+returns-in_default g c =
+    let p = passes_module c.args.item c.args.module c.in_default.not-Bind c.in_default.not-Path c.in_default.not-Search c.in_default.not-Add c.in_default.not-GiveBack c.in_default.not-Finish in
+    record {
+      number = c.requires.number;
+      continues = continues_refl _;
+      moves = λ next files whole fuel s. subst (λ (run : Run). Stands files whole fuel (g.D.Desk.sight c.args.desk.now).mine c.args.budget.now run) (p.does next) s;
+      keeps = λ held h. h ∙ ap (λ (xs : List Holding). xs ++ held) p.holds;
+      falls = (omega arith, λ _. p.some);
+      err = tt;
+    }

@@ -1,0 +1,43 @@
+use Rattle.std.proofs.Common.{◌≡◌, ◌/◌, Bool, false, nat_lt, length, subst, arith, if◌then◌else◌}
+use Rattle.std.proofs.lemmas.Bool.{le-ltb}
+use Rattle.std.proofs.lemmas.Result.{IfOk-weaker}
+use Rattle.machine_book.proofs.Keeping.{continues_refl}
+use Rattle.meanings.specs.Runs.{Run, Pays, Stands}
+use Rattle.py_run.specs.Errors.{text_too_long}
+use Rattle.py_run.specs.Meaning.{fails, prints}
+use Rattle.py_run.proofs.steps.lines.argument.Goals as goal
+
+pub returns-then-not-paid-clause-continues : goal.returns-then-not-paid-clause-continues
+returns-then-not-paid-clause-continues g c = continues_refl _
+
+pub returns-then-not-paid-clause-moves : goal.returns-then-not-paid-clause-moves
+returns-then-not-paid-clause-moves g c = λ next files whole fuel s. c.if-not-paid.ensures.stands files whole fuel _ false _ s
+
+pub returns-in_err-name-clause-continues : goal.returns-in_err-name-clause-continues
+returns-in_err-name-clause-continues g c = continues_refl _
+
+pub returns-then-len-gt65536-clause-continues : goal.returns-then-len-gt65536-clause-continues
+returns-then-len-gt65536-clause-continues g c = continues_refl _
+
+pub returns-then-not-paid-2-clause-continues : goal.returns-then-not-paid-2-clause-continues
+returns-then-not-paid-2-clause-continues g c = continues_refl _
+
+pub returns-then-not-paid-2-clause-moves : goal.returns-then-not-paid-2-clause-moves
+returns-then-not-paid-2-clause-moves g c = λ next files whole fuel s.
+    let text = c.args.text in
+    let mine = (g.D.Desk.sight c.args.desk.now).mine in
+    let print : Run = prints text next in
+    let short : nat_lt 65536 (length text) ≡ false = le-ltb 65536 (length text) (omega (arith, c.if-len-gt65536.false, c.len.ensures)) in
+    let there : Stands files whole fuel mine c.paid.new.budget (if nat_lt 65536 (length text) then fails next text_too_long else Pays false (length text / 64) print) = c.if-not-paid.ensures.stands files whole fuel mine false _ s in
+    let here : Stands files whole fuel mine c.paid.new.budget (Pays false (length text / 64) print) = subst (λ (b : Bool). Stands files whole fuel mine c.paid.new.budget (if b then fails next text_too_long else Pays false (length text / 64) print)) short there in
+    c.if-not-paid-2.ensures.stands files whole fuel mine false print (rw c.len-2.ensures here)
+
+pub returns-clause-moves : goal.returns-clause-moves
+returns-clause-moves g c = IfOk-weaker c.prints.result _ _ (λ step moves. λ next files whole fuel s.
+    let text = c.args.text in
+    let mine = (g.D.Desk.sight c.args.desk.now).mine in
+    let print : Run = prints text next in
+    let short : nat_lt 65536 (length text) ≡ false = le-ltb 65536 (length text) (omega (arith, c.if-len-gt65536.false, c.len.ensures)) in
+    let there : Stands files whole fuel mine c.paid.new.budget (if nat_lt 65536 (length text) then fails next text_too_long else Pays false (length text / 64) print) = c.if-not-paid.ensures.stands files whole fuel mine false _ s in
+    let here : Stands files whole fuel mine c.paid.new.budget (Pays false (length text / 64) print) = subst (λ (b : Bool). Stands files whole fuel mine c.paid.new.budget (if b then fails next text_too_long else Pays false (length text / 64) print)) short there in
+    moves next files whole fuel (c.if-not-paid-2.ensures.stands files whole fuel mine false print (rw c.len-2.ensures here))) c.prints.ensures.moves
