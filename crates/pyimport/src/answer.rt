@@ -1,0 +1,191 @@
+//! A call of the program.
+ghost use Rattle.std.specs.Prelude.{◌≡◌, ◌≤◌, ◌∷◌, ◌++◌, [], ℕ, List, Option, None, Some, IfOk, length, map, IsTrue};
+ghost use Rattle.std.specs.String.{string_bytes};
+ghost use Rattle.import_words.specs.Plans.{plan_of};
+ghost use Rattle.import_words.specs.Words.{Word};
+ghost use Rattle.import_words.specs.Usage.{usage_of};
+ghost use Rattle.pyimport.specs.Answers.{Answers, is_built, is_one, is_root, built};
+ghost use Rattle.pyimport.specs.Scripts.{Opens, first_of};
+ghost use Rattle.pyimport.specs.Sinks.{At, Leaves};
+ghost use Rattle.pyimport.specs.declared.open.Opened.TheVariants as opened;
+
+use crate::line::joined;
+use crate::open::{Opened, open_script};
+use crate::solo::{Report, say_line, solo, status_by};
+use base_types::{NoMemory, Seq, Text};
+use import_words::{Plan, RunPlan, WordsError, read_words, usage_line};
+use machine_book::Flow;
+use std::alloc::Global;
+use tree_files::{Sink, Tree, TreeFault};
+
+/// Whether the plan is built so far: one script that lies in the root, which is searched alone.
+fn is_built(run: &RunPlan) -> bool
+    ensures { result ≡ is_built run.now }
+{
+    is_one(run.scripts.as_slice())
+        && (is_root(run.path.as_slice())
+            && (!run.trace && (!run.bundles && !run.rounds.is_some())))
+}
+
+fn is_one(scripts: &[Text]) -> bool
+    ensures { result ≡ is_one scripts.now }
+{
+    scripts.len() == 1
+}
+
+fn is_root(path: &[Text]) -> bool
+    ensures { result ≡ is_root path.now }
+{
+    match path {
+        [entry] => entry.len() == 0,
+        _ => false,
+    }
+}
+
+fn report(status: u8, plan: Option<Plan>) -> Report
+    ensures { result ≡ record { status = status; plan = plan; history = None } }
+{
+    Report {
+        status,
+        plan,
+        history: None,
+    }
+}
+
+/// Writes the line about a refusal. Standard output gets nothing.
+fn tell<K: Sink>(
+    err: &mut K,
+    line: Result<Vec<u8>, NoMemory>,
+    plan: Option<Plan>,
+    good: u8,
+    bad: u8,
+) -> Report
+    ensures leaves { (text : List ℕ) (out : At) → IfOk line (λ it. it.items ≡ text) → Leaves good bad [] text out out (record { written = K.written err.old; faults = K.faults err.old }) (record { written = K.written err.new; faults = K.faults err.new }) result.status }
+    ensures plan { result.plan ≡ plan }
+    ensures history { result.history ≡ None }
+    ensures faults_grow { K.faults err.old ≤ K.faults err.new }
+{
+    let said = say_line(err, line);
+    report(status_by(good, bad, Flow::Open, said), plan)
+}
+
+fn one_text(alloc: Global, text: Seq<u8>) -> Result<Seq<Seq<u8>>, NoMemory>
+    ensures { IfOk result (λ texts. texts ≡ text ∷ []) }
+{
+    let mut texts = Seq::new(alloc);
+    texts.push(text)?;
+    Ok(texts)
+}
+
+/// Runs the script that was opened.
+fn play<T: Tree, K: Sink>(
+    alloc: Global,
+    run: RunPlan,
+    text: Seq<u8>,
+    tree: &mut T,
+    out: &mut K,
+    err: &mut K,
+) -> Report
+    requires { length run.scripts ≡ 1 }
+    ensures answers { (words : List Word) (first : ℕ) → built (plan_of words) ≡ Some run → Opens (T.files tree.old) (first_of run.scripts) (opened.Text text) → first ≤ T.faults tree.old → Answers words (T.files tree.old) first (T.faults tree.new) (record { written = K.written out.old; faults = K.faults out.old }) (record { written = K.written out.new; faults = K.faults out.new }) (record { written = K.written err.old; faults = K.faults err.old }) (record { written = K.written err.new; faults = K.faults err.new }) result.status result.plan result.history }
+    ensures files { T.files tree.new ≡ T.files tree.old }
+    ensures faults_grow { T.faults tree.old ≤ T.faults tree.new }
+    ensures out_faults { K.faults out.old ≤ K.faults out.new }
+    ensures err_faults { K.faults err.old ≤ K.faults err.new }
+{
+    let Ok(texts) = one_text(alloc, text) else {
+        return report(6, Some(Plan::Run(run)));
+    };
+    let told = solo(alloc, &run, texts, tree, out, err);
+    Report {
+        status: told.status,
+        plan: Some(Plan::Run(run)),
+        history: told.history,
+    }
+}
+
+/// Opens the script of a plan, and runs it.
+fn run_plan<T: Tree, K: Sink>(
+    alloc: Global,
+    run: RunPlan,
+    tree: &mut T,
+    out: &mut K,
+    err: &mut K,
+) -> Report
+    requires { length run.scripts ≡ 1 }
+    ensures answers { (words : List Word) → built (plan_of words) ≡ Some run → Answers words (T.files tree.old) (T.faults tree.old) (T.faults tree.new) (record { written = K.written out.old; faults = K.faults out.old }) (record { written = K.written out.new; faults = K.faults out.new }) (record { written = K.written err.old; faults = K.faults err.old }) (record { written = K.written err.new; faults = K.faults err.new }) result.status result.plan result.history }
+    ensures files { T.files tree.new ≡ T.files tree.old }
+    ensures faults_grow { T.faults tree.old ≤ T.faults tree.new }
+    ensures out_faults { K.faults out.old ≤ K.faults out.new }
+    ensures err_faults { K.faults err.old ≤ K.faults err.new }
+{
+    let script = &run.scripts.as_slice()[0];
+    match open_script(alloc, tree, script) {
+        Ok(Opened::Text(text)) => play(alloc, run, text, tree, out, err),
+        Ok(Opened::Missing) => {
+            let line = joined(alloc, "pyimport: cannot open script '", script.as_str(), "'");
+            tell(err, line, Some(Plan::Run(run)), 2, 2)
+        }
+        Ok(Opened::TooLong) => {
+            let line = joined(alloc, "pyimport: script '", script.as_str(), "' is too long");
+            tell(err, line, Some(Plan::Run(run)), 2, 2)
+        }
+        Err(TreeFault::Failed) => {
+            let line = joined(alloc, "pyimport: file fault", "", "");
+            tell(err, line, Some(Plan::Run(run)), 4, 5)
+        }
+        Err(TreeFault::NoMemory) => report(6, Some(Plan::Run(run))),
+    }
+}
+
+/// Refuses the words with the usage line.
+fn refused<K: Sink>(alloc: Global, words: &[String], err: &mut K) -> Report
+    ensures leaves { (out : At) → Leaves 2 2 [] (usage_of (map string_bytes words.now) ++ 10 ∷ []) out out (record { written = K.written err.old; faults = K.faults err.old }) (record { written = K.written err.new; faults = K.faults err.new }) result.status }
+    ensures plan { result.plan ≡ None }
+    ensures history { result.history ≡ None }
+    ensures faults_grow { K.faults err.old ≤ K.faults err.new }
+{
+    tell(err, joined(alloc, usage_line(words), "", ""), None, 2, 2)
+}
+
+/// The plan, where it is built so far.
+fn built(plan: Plan) -> Option<RunPlan>
+    ensures { result ≡ built (Some plan) }
+{
+    match plan {
+        Plan::Run(run) if is_built(&run) => Some(run),
+        other => {
+            drop(other);
+            None
+        }
+    }
+}
+
+/// Runs what the words of the command line ask for, over a tree, and writes what is to be written to
+/// the two sinks.
+///
+/// What is built so far is `run SCRIPT` for one script that lies in the root of the tree; all other
+/// words are refused with the usage line.
+pub fn pyimport<T: Tree, K: Sink>(
+    alloc: Global,
+    words: &[String],
+    tree: &mut T,
+    out: &mut K,
+    err: &mut K,
+) -> Report
+    ensures answers { Answers (map string_bytes words.now) (T.files tree.old) (T.faults tree.old) (T.faults tree.new) (record { written = K.written out.old; faults = K.faults out.old }) (record { written = K.written out.new; faults = K.faults out.new }) (record { written = K.written err.old; faults = K.faults err.old }) (record { written = K.written err.new; faults = K.faults err.new }) result.status result.plan result.history }
+    ensures files { T.files tree.new ≡ T.files tree.old }
+    ensures faults_grow { T.faults tree.old ≤ T.faults tree.new }
+    ensures out_faults { K.faults out.old ≤ K.faults out.new }
+    ensures err_faults { K.faults err.old ≤ K.faults err.new }
+{
+    let plan = match read_words(alloc, words) {
+        Ok(plan) => built(plan),
+        Err(WordsError::Usage) => None,
+        Err(WordsError::NoMemory) => return report(6, None),
+    };
+    match plan {
+        Some(run) => run_plan(alloc, run, tree, out, err),
+        None => refused(alloc, words, err),
+    }
+}

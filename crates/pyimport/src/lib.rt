@@ -1,0 +1,15 @@
+//! The program: from the words of its command line to what is written, and to a status.
+#![tactic(auto)]
+
+mod answer;
+mod line;
+mod open;
+mod out;
+mod solo;
+mod start;
+#[cfg(test)]
+mod tests;
+
+pub use answer::pyimport;
+pub use out::Out;
+pub use solo::{Report, solo};
