@@ -128,6 +128,7 @@ fn finish<K: Sink>(
     ran: &Result<Ending, NoMemory>,
 ) -> u8
     ensures leaves { (line : List ℕ) (number : ℕ) → IfOk ran.now (λ ending. line ≡ line_of script.now (outcome ending)) → IfOk ran.now (λ ending. number ≡ number_of (outcome ending)) → (flow : Flow) × Gets (record { written = K.written err.old; faults = K.faults err.old }) line (record { written = K.written err.new; faults = K.faults err.new }) flow × (result ≡ status_by number 5 out flow) }
+    ensures short { OnErr ran.now (result ≡ 6) }
     ensures faults_grow { K.faults err.old ≤ K.faults err.new }
 {
     match ran {
@@ -160,7 +161,7 @@ pub fn solo<T: Tree, K: Sink>(
     ensures legal { IfSome result.history (IsLegal (opening_of plan.now texts)) }
     ensures run { IfSome (T.files tree.old) (λ files. IfSome result.history (λ history. IsRun files (opening_of plan.now texts) (meaning 0 (first_of texts)) plan.now.fuel (T.faults tree.old) (T.faults tree.new) history result.status)) }
     ensures leaves { IfSome result.history (λ history. Leaves (status_of 1 history) 5 (out_text plan.now.trace history) (err_text plan.now.scripts history) (record { written = K.written out.old; faults = K.faults out.old }) (record { written = K.written out.new; faults = K.faults out.new }) (record { written = K.written err.old; faults = K.faults err.old }) (record { written = K.written err.new; faults = K.faults err.new }) result.status) }
-    ensures read { IfSome result.history (λ history. end_of (own 0 history) ≡ Some o.Read → Rose (T.faults tree.old) (T.faults tree.new)) }
+    ensures read { IfSome result.history (λ history. (result.status ≡ 6 → ⊥) → end_of (own 0 history) ≡ Some o.Read → Rose (T.faults tree.old) (T.faults tree.new)) }
 {
     let Ok(it) = start(alloc, plan, texts) else {
         return Report {

@@ -1,0 +1,73 @@
+-- How one script ended, by its pairs, and what is said of it.
+use Rattle.std.proofs.Common.{◌≡◌, ℕ, max, List, [], ◌∷◌, ◌++◌, length, Option, Some, None, Result, Ok, Err, IfOk, OnErr, refl, sym, ◌∙◌, ap, arith}
+use Rattle.std.proofs.lemmas.List.{append-nil}
+use Rattle.std.specs.Option.{option_or}
+use Rattle.base_types.specs.declared.no_memory.NoMemory.{NoMemory}
+use Rattle.tree_files.specs.Files.{Files}
+use Rattle.tree_files.specs.Count.{Rose}
+use Rattle.machine_events.specs.declared.event.Event.{Event}
+use Rattle.machine_events.specs.declared.event.Event.TheVariants.{End}
+use Rattle.machine_events.specs.declared.event.Reply.{Reply}
+use Rattle.machine_events.specs.declared.event.Reply.TheVariants.{Done}
+use Rattle.machine_events.specs.declared.event.Entry.{Entry}
+use Rattle.machine_events.specs.declared.event.Outcome.{Outcome}
+use Rattle.machine_events.specs.declared.event.Outcome.TheVariants as o
+use Rattle.machine_state.specs.declared.state.State.{State}
+use Rattle.machine_state.specs.Legal.{IsLegal}
+use Rattle.machine_book.specs.Histories.{own}
+use Rattle.meanings.specs.Runs.{Run}
+use Rattle.meanings.specs.Follows.{Follows}
+use Rattle.solo_history.specs.Solo.{IsSolo}
+use Rattle.py_run.specs.declared.script.Ending.{Ending}
+use Rattle.py_run.specs.declared.script.Ending.TheVariants as ending
+use Rattle.py_run.specs.Ending.{Ended, Broken, IsRead, outcome}
+use Rattle.pyimport.specs.Ends.{end_of, line_of, line_at, err_text, number_of, number_at, status_of}
+use Rattle.pyimport.specs.Alone.{IsRun, HasCause}
+
+end_last : (before : List (Event × Reply)) (how : Outcome) (k : ℕ) → end_of (before ++ (End how k, Done) ∷ []) ≡ Some how
+end_last [] how k = refl
+end_last (pair ∷ before) how k = rw (end_last before how k) refl
+
+-- the End is the one that the ending tells
+pub end_is : (mine : List (Event × Reply)) (how : Outcome) → Ended mine how → end_of mine ≡ Some how
+end_is mine how ended = ap end_of ended.whole ∙ end_last ended.before how ended.paid
+
+max_zero : (n : ℕ) → max 0 n ≡ n
+max_zero n = omega arith
+
+-- the line and the number of one script
+pub line_is : (script : List ℕ) (scripts : List (List ℕ)) (history : List Entry) (how : Outcome) → scripts ≡ script ∷ [] → Ended (own 0 history) how → err_text scripts history ≡ line_of script how
+line_is script scripts history how is ended = ap (λ names. err_text names history) is ∙ (append-nil (line_at script (end_of (own 0 history))) ∙ ap (line_at script) (end_is (own 0 history) how ended))
+
+pub number_is : (history : List Entry) (how : Outcome) → Ended (own 0 history) how → status_of 1 history ≡ number_of how
+number_is history how ended = max_zero (number_at (end_of (own 0 history))) ∙ ap number_at (end_is (own 0 history) how ended)
+
+-- a list of one item is that item
+pub one_item : (scripts : List (List ℕ)) (script : List ℕ) (more : List (List ℕ)) → length scripts ≡ 1 → scripts ≡ script ∷ more → scripts ≡ script ∷ []
+one_item scripts script [] one is = is
+one_item scripts script (next ∷ more) one is = absurd (omega (arith, one, ap length is))
+
+run_by : (files : Files) (opened : State) (run : Run) (fuel old new status : ℕ) (h : List Entry) (it : Ending) → IsLegal opened h → Follows files 0 run fuel (own 0 h) (outcome it) → (IsRead it → Rose old new) → IsRun files opened run fuel old new h status
+run_by files opened run fuel old new status h ending.Normal l f r = IsRun.whole None (record { legal = l; outcome = o.Normal; follows = f; stops = tt }) tt
+run_by files opened run fuel old new status h (ending.Raised e) l f r = IsRun.whole None (record { legal = l; outcome = o.Raised e; follows = f; stops = tt }) tt
+run_by files opened run fuel old new status h ending.Fuel l f r = IsRun.whole None (record { legal = l; outcome = o.Fuel; follows = f; stops = tt }) tt
+run_by files opened run fuel old new status h ending.Read l f r = IsRun.whole (Some f.paid) (record { legal = l; outcome = o.Read; follows = f; stops = refl }) (r tt)
+
+-- the history is the run of the script, or a beginning of it
+pub run_is : (files : Files) (opened : State) (run : Run) (fuel old new status : ℕ) (h : List Entry) (ran : Result Ending NoMemory) → IsLegal opened h
+    → IfOk ran (λ it. Follows files 0 run fuel (own 0 h) (outcome it)) → OnErr ran (Broken files 0 run fuel (own 0 h) old new) → IfOk ran (λ it. IsRead it → Rose old new) → OnErr ran (status ≡ 6)
+    → IsRun files opened run fuel old new h status
+run_is files opened run fuel old new status h (Ok it) l f b r s = run_by files opened run fuel old new status h it l f r
+run_is files opened run fuel old new status h (Err e) l f b r s = IsRun.part s l b
+
+read_ending : (it : Ending) → outcome it ≡ o.Read → IsRead it
+read_ending ending.Read is = tt
+read_ending ending.Normal is = absurd (cc is)
+read_ending (ending.Raised e) is = absurd (cc is)
+read_ending ending.Fuel is = absurd (cc is)
+
+-- a script ends by Read only where its ending tells that
+pub read_is : (h : List Entry) (ran : Result Ending NoMemory) (old new status : ℕ) → IfOk ran (λ it. Ended (own 0 h) (outcome it)) → IfOk ran (λ it. IsRead it → Rose old new) → OnErr ran (status ≡ 6)
+    → (status ≡ 6 → ⊥) → end_of (own 0 h) ≡ Some o.Read → Rose old new
+read_is h (Ok it) old new status ended r s good is = r (read_ending it (cc (end_is (own 0 h) (outcome it) ended, is)))
+read_is h (Err e) old new status ended r s good is = absurd (good s)

@@ -1,0 +1,43 @@
+-- What is left in the sinks.
+use Rattle.std.proofs.Common.{◌≡◌, ◌≤◌, ℕ, List, [], ◌∷◌, ◌++◌, Option, Some, None, Result, Ok, Err, IfOk, IfSome, refl, sym, ◌∙◌, ap, arith}
+use Rattle.std.proofs.lemmas.List.{append-nil}
+use Rattle.base_types.specs.declared.no_memory.NoMemory.{NoMemory}
+use Rattle.tree_files.specs.Files.{Files}
+use Rattle.tree_files.specs.Count.{Rose}
+use Rattle.machine_events.specs.declared.event.Entry.{Entry}
+use Rattle.machine_book.specs.declared.outlet.Flow.{Flow}
+use Rattle.machine_book.specs.declared.outlet.Flow.TheVariants.{Open, Failed, Short}
+use Rattle.machine_book.specs.Outgo.{Outgo, Kept, Flows, Appends}
+use Rattle.machine_book.specs.Histories.{own}
+use Rattle.py_run.specs.declared.script.Ending.{Ending}
+use Rattle.py_run.specs.Ending.{Ended, outcome}
+use Rattle.pyimport.specs.Prints.{piece, out_text}
+use Rattle.pyimport.specs.Ends.{line_of, err_text, number_of, status_of}
+use Rattle.pyimport.specs.Sinks.{At, Gets, Leaves, status_by}
+use Rattle.pyimport.proofs.Endings.{line_is, number_is}
+
+-- nothing was to be written
+pub appends_none : (a : Option (List ℕ)) → Appends a a []
+appends_none None = tt
+appends_none (Some a) = sym (append-nil a)
+
+pub gets_none : (a : At) → Gets a [] a Open
+gets_none a = appends_none a.written
+
+gets_by : (old new : Outgo) (text : List ℕ) (flow : Flow) → Flows old text new flow → Gets (record { written = old.written; faults = old.faults }) text (record { written = new.written; faults = new.faults }) flow
+gets_by old new text Open g = g
+gets_by old new text Failed g = g
+gets_by old new text Short g = g
+
+-- an outlet that was open has got the whole text of a history, or a beginning of it
+pub gets_kept : (old new : Outgo) (history : List Entry) → old.flow ≡ Open → Kept piece old new history → Gets (record { written = old.written; faults = old.faults }) (out_text old.trace history) (record { written = new.written; faults = new.faults }) new.flow
+gets_kept old new history open kept = gets_by old new (out_text old.trace history) new.flow (rw open at kept.text)
+
+-- the line about the end of the one script, and its number
+pub line_for : (script : List ℕ) (scripts : List (List ℕ)) (h : List Entry) (ran : Result Ending NoMemory) → scripts ≡ script ∷ [] → IfOk ran (λ it. Ended (own 0 h) (outcome it)) → IfOk ran (λ it. err_text scripts h ≡ line_of script (outcome it))
+line_for script scripts h (Ok it) is ended = line_is script scripts h (outcome it) is ended
+line_for script scripts h (Err e) is ended = tt
+
+pub number_for : (h : List Entry) (ran : Result Ending NoMemory) → IfOk ran (λ it. Ended (own 0 h) (outcome it)) → IfOk ran (λ it. status_of 1 h ≡ number_of (outcome it))
+number_for h (Ok it) ended = number_is h (outcome it) ended
+number_for h (Err e) ended = tt
