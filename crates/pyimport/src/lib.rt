@@ -6,7 +6,7 @@ mod line;
 mod open;
 mod out;
 mod solo;
-mod start;
+mod begin;
 #[cfg(test)]
 mod tests;
 

@@ -18,7 +18,7 @@ ghost use Rattle.pyimport.specs.Sinks.{Gets, Leaves, status_by};
 
 use crate::line::line_of;
 use crate::out::{Out, say};
-use crate::start::{Start, start};
+use crate::begin::{Begun, begin};
 use base_types::{NoMemory, Seq, Text};
 use import_machine::Machine;
 use import_words::{Plan, RunPlan};
@@ -53,7 +53,7 @@ struct Alone<O: Outlet> {
 fn run_alone<T: Tree, O: Outlet>(
     alloc: Global,
     tree: &mut T,
-    it: Start,
+    it: Begun,
     fuel: u64,
     outlet: O,
 ) -> Alone<O>
@@ -67,7 +67,7 @@ fn run_alone<T: Tree, O: Outlet>(
     ensures part { (files : Files) → T.files tree.old ≡ Some files → OnErr result.ran (Broken files 0 (meaning 0 it.text) fuel (own 0 result.history) (T.faults tree.old) (T.faults tree.new)) }
     ensures read { IfOk result.ran (λ ending. IsRead ending → Rose (T.faults tree.old) (T.faults tree.new)) }
 {
-    let Start {
+    let Begun {
         opening,
         machine,
         text,
@@ -163,7 +163,7 @@ pub fn solo<T: Tree, K: Sink>(
     ensures leaves { IfSome result.history (λ history. Leaves (status_of 1 history) 5 (out_text plan.now.trace history) (err_text plan.now.scripts history) (record { written = K.written out.old; faults = K.faults out.old }) (record { written = K.written out.new; faults = K.faults out.new }) (record { written = K.written err.old; faults = K.faults err.old }) (record { written = K.written err.new; faults = K.faults err.new }) result.status) }
     ensures read { IfSome result.history (λ history. (result.status ≡ 6 → ⊥) → end_of (own 0 history) ≡ Some o.Read → Rose (T.faults tree.old) (T.faults tree.new)) }
 {
-    let Ok(it) = start(alloc, plan, texts) else {
+    let Ok(it) = begin(alloc, plan, texts) else {
         return Report {
             status: 6,
             plan: None,

@@ -93,6 +93,13 @@ fn runs_write_what_they_print_and_how_they_end(rt: HostRuntime) -> Result<(), Fa
         ),
         (
             "run main.py",
+            "main.py import b;\nb.py import nope;",
+            1,
+            "",
+            "main.py: ModuleNotFoundError: No module named 'nope'\n",
+        ),
+        (
+            "run main.py",
             "main.py x = 1;",
             1,
             "",
@@ -117,5 +124,89 @@ fn a_full_sink_keeps_a_prefix(rt: HostRuntime) -> Result<(), Fail> {
     assert_eq!(&rt; status_of(alloc, "run main.py", files, &mut out, &mut err)?, 5);
     assert_eq!(&rt; out.bytes(), b"hel".as_slice());
     assert_eq!(&rt; err.bytes(), b"".as_slice());
+    Ok(())
+}
+
+#[test]
+fn a_full_error_output_keeps_a_prefix(rt: HostRuntime) -> Result<(), Fail> {
+    let alloc = rt.alloc();
+    let line = b"main.py: ModuleNotFoundError: No module named 'nope'\n";
+    for n in 0..line.len() {
+        let mut out = MemSink::new(alloc);
+        let mut err = MemSink::failing_after(alloc, n as u64);
+        let files = "main.py import nope;";
+        assert_eq!(&rt; status_of(alloc, "run main.py", files, &mut out, &mut err)?, 5);
+        assert_eq!(&rt; err.bytes(), &line[..n]);
+    }
+    Ok(())
+}
+
+/// What a run of two files writes where the k-th call of the tree fails: its status and both texts.
+fn failing_at(alloc: Global, k: u64) -> Result<String, Fail> {
+    let mut tree = tree_of(alloc, "main.py import a;print(\"main\");\na.py print(\"a\");")?;
+    tree.fail(None, k)?;
+    let words = words_of(alloc, "run main.py")?;
+    let mut out = MemSink::new(alloc);
+    let mut err = MemSink::new(alloc);
+    let report = pyimport(alloc, words.as_slice(), &mut tree, &mut out, &mut err);
+    let printed = out.bytes().len();
+    let mut told = format!(in alloc; "{} {printed} ", report.status)?;
+    if let Ok(line) = str::from_utf8(err.bytes()) {
+        told.push_str(line)?;
+    }
+    Ok(told)
+}
+
+#[test]
+fn each_failed_call_of_the_tree_is_told(rt: HostRuntime) -> Result<(), Fail> {
+    let alloc = rt.alloc();
+    for k in 1..9 {
+        let wanted = if k <= 3 {
+            "4 0 pyimport: file fault\n"
+        } else if k <= 7 {
+            "4 0 main.py: file fault\n"
+        } else {
+            "0 7 "
+        };
+        assert_eq!(&rt; failing_at(alloc, k)?.as_str(), wanted, "{k}");
+    }
+    Ok(())
+}
+
+/// A tree with an import of `a` in main.py, and a file with one byte more than a source may have.
+fn long_tree(alloc: Global, name: &str) -> Result<MemTree, Fail> {
+    let mut tree = tree_of(alloc, "main.py import a;")?;
+    let Some(path) = TreePath::read(&Text::from_str(alloc, name)?)? else {
+        return Err("no tree path".into());
+    };
+    if !tree.takes_file(&path)? {
+        return Err("no file can be put there".into());
+    }
+    let mut bytes = Vec::new(alloc);
+    bytes.resize(1_048_577, b'\n')?;
+    tree.put_file(&path, bytes.as_slice())?;
+    Ok(tree)
+}
+
+#[test]
+fn a_long_source_is_refused(rt: HostRuntime) -> Result<(), Fail> {
+    let alloc = rt.alloc();
+    for (script, status, line) in [
+        ("run long.py", 2, "pyimport: script 'long.py' is too long\n"),
+        (
+            "run main.py",
+            1,
+            "main.py: SyntaxError: source is longer than 1048576 bytes\n",
+        ),
+    ] {
+        let long = if status == 2 { "long.py" } else { "a.py" };
+        let mut tree = long_tree(alloc, long)?;
+        let words = words_of(alloc, script)?;
+        let mut out = MemSink::new(alloc);
+        let mut err = MemSink::new(alloc);
+        let report = pyimport(alloc, words.as_slice(), &mut tree, &mut out, &mut err);
+        assert_eq!(&rt; report.status, status);
+        assert_eq!(&rt; err.bytes(), line.as_bytes());
+    }
     Ok(())
 }

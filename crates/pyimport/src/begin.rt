@@ -12,7 +12,7 @@ use std::alloc::Global;
 
 /// What one script runs on: the machine, what it was opened with, and the script's text.
 #[derive(Drop)]
-pub struct Start {
+pub struct Begun {
     pub opening: Opening,
     pub machine: Machine,
     pub text: Seq<u8>,
@@ -27,7 +27,7 @@ fn one_round(alloc: Global) -> Result<Seq<u32>, NoMemory>
 }
 
 /// The machine for one script.
-pub fn start(alloc: Global, plan: &RunPlan, texts: Seq<Seq<u8>>) -> Result<Start, NoMemory>
+pub fn begin(alloc: Global, plan: &RunPlan, texts: Seq<Seq<u8>>) -> Result<Begun, NoMemory>
     requires script { length plan.now.scripts ≡ 1 }
     requires text { length texts ≡ 1 }
     ensures opening { IfOk result (λ it. opened it.opening ≡ opening_of plan.now texts) }
@@ -42,7 +42,7 @@ pub fn start(alloc: Global, plan: &RunPlan, texts: Seq<Seq<u8>>) -> Result<Start
         rounds: one_round(alloc)?,
     };
     let machine = opening.machine()?;
-    Ok(Start {
+    Ok(Begun {
         opening,
         machine,
         text,

@@ -1,0 +1,162 @@
+#!/usr/bin/env python3
+"""Events per second of the import machine, and its peak memory, for one thread that imports many modules.
+
+Copies the crates into a scratch repository with a small program beside them, builds it there with `rt run` (which proves
+the crates, some twenty minutes on a new machine), and runs it for 10,000 and 20,000 modules, each of which takes ten
+events. A step's work goes by the size of the event and the logarithm of the number of names, so twice the modules take
+twice the time, within a factor of 1.2. Exit status 1 where they do not.
+"""
+import os
+import pathlib
+import shutil
+import subprocess
+import sys
+import tempfile
+
+CRATES = ["base_types", "spec_core", "py_value", "machine_events", "module_lock", "module_table", "machine_state", "import_machine"]
+
+PROGRAM = r"""//! Measures the machine.
+#![tactic(auto)]
+
+ghost use Rattle.std.specs.Prelude.{◌≡◌, ◌≤◌, ◌∷◌, [], length};
+
+use base_types::{NoMemory, Seq, Text, Texts};
+use import_machine::Machine;
+use machine_events::Event;
+use py_value::Value;
+use spec_core::{Dotted, Spec, SpecKind};
+use std::alloc::Global;
+use std::env;
+use std::io;
+use std::time::Instant;
+
+fn dotted(alloc: Global, name: &str) -> Result<Dotted, NoMemory> {
+    match Dotted::read(&Text::from_str(alloc, name)?)? {
+        Some(name) => Ok(name),
+        None => Err(NoMemory),
+    }
+}
+
+fn source(alloc: Global, name: &str) -> Result<Spec, NoMemory> {
+    let name = dotted(alloc, name)?;
+    let file = Text::from_str(alloc, "m.py")?;
+    Ok(Spec {
+        name,
+        kind: SpecKind::Source { file },
+    })
+}
+
+fn open(alloc: Global) -> Result<Machine, NoMemory> {
+    let mut scripts = Texts::new(alloc);
+    scripts.push(Text::from_str(alloc, "main.py")?)?;
+    let mut texts: Seq<Seq<u8>> = Seq::new(alloc);
+    texts.push(Seq::new(alloc))?;
+    let mut path = Texts::new(alloc);
+    path.push(Text::new(alloc))?;
+    Machine::new(&scripts, &texts, &path, &[1])
+}
+
+/// The k-th of the ten events of one module.
+fn event(alloc: Global, name: &str, k: u32, load: u32, mid: u32) -> Result<Event, NoMemory> {
+    match k {
+        0 => Ok(Event::Ask(dotted(alloc, name)?)),
+        1 => Ok(Event::Take(dotted(alloc, name)?)),
+        2 => Ok(Event::PathGet),
+        3 => Ok(Event::Add {
+            spec: source(alloc, name)?,
+            text: Seq::new(alloc),
+        }),
+        4 => Ok(Event::GetVar {
+            mid,
+            name: Text::from_str(alloc, "x")?,
+            raw: true,
+        }),
+        5 => Ok(Event::SetVar {
+            mid,
+            name: Text::from_str(alloc, "x")?,
+            value: Value::Int(1),
+            raw: true,
+        }),
+        6 => Ok(Event::Print(Text::from_str(alloc, "x\n")?)),
+        7 => Ok(Event::Finish { load, good: true }),
+        8 => Ok(Event::Ask(dotted(alloc, name)?)),
+        _ => Ok(Event::TabGet(dotted(alloc, name)?)),
+    }
+}
+
+/// How many of the ten events of each of these modules the machine made.
+fn drive(alloc: Global, machine: &mut Machine, modules: u32) -> Result<u64, NoMemory> {
+    let mut made = 0_u64;
+    for i in 0..modules {
+        let name = format!(in alloc; "m{i}")?;
+        for k in 0..10 {
+            let event = event(alloc, name.as_str(), k, i.wrapping_add(1), i.wrapping_add(4))?;
+            if machine.allowed(0, &event) {
+                drop(machine.step(0, event)?);
+                made = made.wrapping_add(1);
+            } else {
+                drop(event);
+            }
+        }
+    }
+    Ok(made)
+}
+
+fn main(rt: HostRuntime) -> io::Result<()> {
+    let mut modules = 10_000;
+    for word in env::args(&rt)?.skip(1) {
+        if let Ok(n) = word.parse::<u32>() {
+            modules = n;
+        }
+    }
+    let start = Instant::now(&rt)?;
+    if let Ok(mut machine) = open(rt.alloc()) {
+        if let Ok(made) = drive(rt.alloc(), &mut machine, modules) {
+            println!(rt; "{made} {}", start.elapsed(&rt)?.as_nanos())?;
+        }
+    }
+    Ok(())
+}
+"""
+
+
+def measure(program, modules):
+    """The events, the nanoseconds and the peak memory in KiB of one run."""
+    reader, writer = os.pipe()
+    pid = os.posix_spawn(program, [str(program), str(modules)], os.environ, file_actions=[(os.POSIX_SPAWN_DUP2, writer, 1)])
+    os.close(writer)
+    with os.fdopen(reader) as pipe:
+        words = pipe.read().split()
+    _, _, usage = os.wait4(pid, 0)
+    return int(words[0]), int(words[1]), usage.ru_maxrss
+
+
+def main():
+    root = pathlib.Path(__file__).resolve().parent.parent
+    with tempfile.TemporaryDirectory() as scratch:
+        scratch = pathlib.Path(scratch)
+        for name in CRATES:
+            shutil.copytree(root / "crates" / name, scratch / "crates" / name, ignore=shutil.ignore_patterns("out"))
+        lines = (root / "crates.txt").read_text().splitlines()
+        kept = [line for line in lines if line.split(":")[0].split(" ")[0] in CRATES]
+        (scratch / "crates.txt").write_text("\n".join(kept + ["machine_rate: " + " ".join(CRATES)]) + "\n")
+        source = scratch / "crates" / "machine_rate" / "src"
+        source.mkdir(parents=True)
+        (source / "main.rt").write_text(PROGRAM)
+        run = subprocess.run(["rt", "run"], cwd=source.parent, capture_output=True, text=True)
+        if run.returncode != 0:
+            sys.exit(run.stdout + run.stderr)
+        program = source.parent / "out" / "machine_rate"
+        times = []
+        for modules in (10_000, 20_000):
+            runs = [measure(program, modules) for _ in range(5)]
+            events, _, _ = runs[0]
+            times.append(min(spent for _, spent, _ in runs))
+            peak = max(memory for _, _, memory in runs)
+            print(f"{modules} modules, {events} events: {events / (times[-1] / 1e9):.0f} events/s, peak {peak / 1024:.0f} MiB")
+    if times[1] > 2.4 * times[0]:
+        sys.exit("twice the modules take more than 2.4 times the time")
+
+
+if __name__ == "__main__":
+    main()
