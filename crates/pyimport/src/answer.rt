@@ -4,14 +4,14 @@ ghost use Rattle.std.specs.String.{string_bytes};
 ghost use Rattle.import_words.specs.Plans.{plan_of};
 ghost use Rattle.import_words.specs.Words.{Word};
 ghost use Rattle.import_words.specs.Usage.{usage_of};
-ghost use Rattle.pyimport.specs.Answers.{Answers, is_built, is_one, is_root, built};
+ghost use Rattle.pyimport.specs.Answers.{Answers, is_built, is_one, is_root, run_if, built};
 ghost use Rattle.pyimport.specs.Scripts.{Opens, first_of};
 ghost use Rattle.pyimport.specs.Sinks.{At, Leaves};
 ghost use Rattle.pyimport.specs.declared.open.Opened.TheVariants as opened;
 
 use crate::line::joined;
 use crate::open::{Opened, open_script};
-use crate::solo::{Report, say_line, solo, status_by};
+use crate::alone::{Report, say_line, solo, status_by};
 use base_types::{NoMemory, Seq, Text};
 use import_words::{Plan, RunPlan, WordsError, read_words, usage_line};
 use machine_book::Flow;
@@ -148,12 +148,22 @@ fn refused<K: Sink>(alloc: Global, words: &[String], err: &mut K) -> Report
     tell(err, joined(alloc, usage_line(words), "", ""), None, 2, 2)
 }
 
+fn built_run(run: RunPlan) -> Option<RunPlan>
+    ensures { result ≡ run_if (is_built run) run }
+{
+    if is_built(&run) {
+        return Some(run);
+    }
+    drop(run);
+    None
+}
+
 /// The plan, where it is built so far.
 fn built(plan: Plan) -> Option<RunPlan>
     ensures { result ≡ built (Some plan) }
 {
     match plan {
-        Plan::Run(run) if is_built(&run) => Some(run),
+        Plan::Run(run) => built_run(run),
         other => {
             drop(other);
             None

@@ -4,12 +4,12 @@
 mod answer;
 mod line;
 mod open;
-mod out;
-mod solo;
+mod outlet;
+mod alone;
 mod begin;
 #[cfg(test)]
 mod tests;
 
 pub use answer::pyimport;
-pub use out::Out;
-pub use solo::{Report, solo};
+pub use outlet::Out;
+pub use alone::{Report, solo};

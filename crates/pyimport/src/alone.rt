@@ -17,7 +17,7 @@ ghost use Rattle.pyimport.specs.Scripts.{first_of};
 ghost use Rattle.pyimport.specs.Sinks.{Gets, Leaves, status_by};
 
 use crate::line::line_of;
-use crate::out::{Out, say};
+use crate::outlet::{Out, say};
 use crate::begin::{Begun, begin};
 use base_types::{NoMemory, Seq, Text};
 use import_machine::Machine;
