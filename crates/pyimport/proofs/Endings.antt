@@ -1,5 +1,6 @@
 -- How one script ended, by its pairs, and what is said of it.
-use Rattle.std.proofs.Common.{◌≡◌, ℕ, max, List, [], ◌∷◌, ◌++◌, length, Option, Some, None, Result, Ok, Err, IfOk, OnErr, refl, sym, ◌∙◌, ap, arith}
+use Rattle.std.proofs.Common.{◌≡◌, ℕ, max, List, [], ◌∷◌, ◌++◌, length, Option, Some, None, Result, Ok, Err, IfOk, IfSome, OnErr, refl, sym, subst, ◌∙◌, ap, arith}
+use Rattle.std.proofs.Math.ListN.{get_or}
 use Rattle.std.proofs.lemmas.List.{append-nil}
 use Rattle.std.specs.Option.{option_or}
 use Rattle.base_types.specs.declared.no_memory.NoMemory.{NoMemory}
@@ -22,6 +23,8 @@ use Rattle.py_run.specs.declared.script.Ending.{Ending}
 use Rattle.py_run.specs.declared.script.Ending.TheVariants as ending
 use Rattle.py_run.specs.Ending.{Ended, Broken, IsRead, outcome}
 use Rattle.pyimport.specs.Ends.{end_of, line_of, line_at, err_text, number_of, number_at, status_of}
+use Rattle.py_run.specs.Meaning.{meaning}
+use Rattle.pyimport.specs.Scripts.{first_of}
 use Rattle.pyimport.specs.Alone.{IsRun, HasCause}
 
 end_last : (before : List (Event × Reply)) (how : Outcome) (k : ℕ) → end_of (before ++ (End how k, Done) ∷ []) ≡ Some how
@@ -41,11 +44,6 @@ line_is script scripts history how is ended = ap (λ names. err_text names histo
 
 pub number_is : (history : List Entry) (how : Outcome) → Ended (own 0 history) how → status_of 1 history ≡ number_of how
 number_is history how ended = max_zero (number_at (end_of (own 0 history))) ∙ ap number_at (end_is (own 0 history) how ended)
-
--- a list of one item is that item
-pub one_item : (scripts : List (List ℕ)) (script : List ℕ) (more : List (List ℕ)) → length scripts ≡ 1 → scripts ≡ script ∷ more → scripts ≡ script ∷ []
-one_item scripts script [] one is = is
-one_item scripts script (next ∷ more) one is = absurd (omega (arith, one, ap length is))
 
 run_by : (files : Files) (opened : State) (run : Run) (fuel old new status : ℕ) (h : List Entry) (it : Ending) → IsLegal opened h → Follows files 0 run fuel (own 0 h) (outcome it) → (IsRead it → Rose old new) → IsRun files opened run fuel old new h status
 run_by files opened run fuel old new status h ending.Normal l f r = IsRun.whole None (record { legal = l; outcome = o.Normal; follows = f; stops = tt }) tt
@@ -71,3 +69,28 @@ pub read_is : (h : List Entry) (ran : Result Ending NoMemory) (old new status : 
     → (status ≡ 6 → ⊥) → end_of (own 0 h) ≡ Some o.Read → Rose old new
 read_is h (Ok it) old new status ended r s good is = r (read_ending it (cc (end_is (own 0 h) (outcome it) ended, is)))
 read_is h (Err e) old new status ended r s good is = absurd (good s)
+
+-- what the same script does, under other names
+pub follows_by : (files : Files) (run run' : Run) (fuel : ℕ) (mine mine' : List (Event × Reply)) (r : Result Ending NoMemory) → run ≡ run' → mine ≡ mine' → IfOk r (λ it. Follows files 0 run fuel mine (outcome it)) → IfOk r (λ it. Follows files 0 run' fuel mine' (outcome it))
+follows_by files run run' fuel mine mine' r p q f = subst (λ (m : List (Event × Reply)). IfOk r (λ it. Follows files 0 run' fuel m (outcome it))) q (subst (λ (x : Run). IfOk r (λ it. Follows files 0 x fuel mine (outcome it))) p f)
+
+pub run_told : (files : Files) (opened opened' : State) (text text' : List ℕ) (fuel old new status : ℕ) (h : List Entry) (ran : Result Ending NoMemory) → opened ≡ opened' → text ≡ text' → IsLegal opened h
+    → IfOk ran (λ it. Follows files 0 (meaning 0 text) fuel (own 0 h) (outcome it)) → OnErr ran (Broken files 0 (meaning 0 text) fuel (own 0 h) old new) → IfOk ran (λ it. IsRead it → Rose old new) → OnErr ran (status ≡ 6)
+    → IsRun files opened' (meaning 0 text') fuel old new h status
+run_told files opened opened' text text' fuel old new status h ran p q l f b r s =
+    subst (λ (t : List ℕ). IsRun files opened' (meaning 0 t) fuel old new h status) q
+    (subst (λ (x : State). IsRun files x (meaning 0 text) fuel old new h status) p (run_is files opened (meaning 0 text) fuel old new status h ran l f b r s))
+
+-- over files that are told, or not
+pub told_by : (o : Option Files) (P : Files → Type 0) → ((files : Files) → o ≡ Some files → P files) → IfSome o P
+told_by None P f = tt
+told_by (Some files) P f = f files refl
+
+-- a list of one item
+pub one_of : (xs : List (List ℕ)) → length xs ≡ 1 → xs ≡ first_of xs ∷ []
+one_of [] one = absurd (omega (arith, one))
+one_of (x ∷ []) one = refl
+one_of (x ∷ y ∷ xs) one = absurd (omega (arith, one))
+
+pub first_by : (xs ys : List (List ℕ)) (x : List ℕ) → ys ≡ xs → length xs ≡ 1 → x ≡ get_or ys 0 x → x ≡ first_of xs
+first_by xs ys x e one is = is ∙ (ap (λ (zs : List (List ℕ)). get_or zs 0 x) (e ∙ one_of xs one))

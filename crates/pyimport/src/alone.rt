@@ -16,9 +16,9 @@ ghost use Rattle.pyimport.specs.Prints.{out_text};
 ghost use Rattle.pyimport.specs.Scripts.{first_of};
 ghost use Rattle.pyimport.specs.Sinks.{Gets, Leaves, status_by};
 
+use crate::begin::{Begun, begin};
 use crate::line::line_of;
 use crate::outlet::{Out, say};
-use crate::begin::{Begun, begin};
 use base_types::{NoMemory, Seq, Text};
 use import_machine::Machine;
 use import_words::{Plan, RunPlan};
@@ -38,6 +38,13 @@ pub struct Report {
     /// What the words asked for, where they were accepted.
     pub plan: Option<Plan>,
     /// The history of the run, where there was one.
+    pub history: Option<Seq<Entry>>,
+}
+
+/// The status of a run and its history, where there was memory to begin one.
+#[derive(Drop)]
+pub struct Ran {
+    pub status: u8,
     pub history: Option<Seq<Entry>>,
 }
 
@@ -83,6 +90,14 @@ fn run_alone<T: Tree, O: Outlet>(
         outlet,
         ran,
     }
+}
+
+/// The one script of a plan.
+pub fn script_of(plan: &RunPlan) -> &Text
+    requires { length plan.now.scripts ≡ 1 }
+    ensures { result.now ≡ first_of plan.now.scripts }
+{
+    &plan.scripts.as_slice()[0]
 }
 
 /// The number of an ending.
@@ -140,6 +155,66 @@ fn finish<K: Sink>(
     }
 }
 
+/// A run with a history.
+fn of_run(status: u8, history: Seq<Entry>) -> Ran
+    ensures { result ≡ record { status = status; history = Some history } }
+{
+    Ran {
+        status,
+        history: Some(history),
+    }
+}
+
+/// The report of a run.
+pub fn with_plan(ran: Ran, plan: Option<Plan>) -> Report
+    ensures { result ≡ record { status = ran.status; plan = plan; history = ran.history } }
+{
+    Report {
+        status: ran.status,
+        plan,
+        history: ran.history,
+    }
+}
+
+/// Runs one script over a tree, as `solo` says.
+pub fn run_one<T: Tree, K: Sink>(
+    alloc: Global,
+    plan: &RunPlan,
+    texts: Seq<Seq<u8>>,
+    tree: &mut T,
+    out: &mut K,
+    err: &mut K,
+) -> Ran
+    requires script { length plan.now.scripts ≡ 1 }
+    requires text { length texts ≡ 1 }
+    ensures files { T.files tree.new ≡ T.files tree.old }
+    ensures faults_grow { T.faults tree.old ≤ T.faults tree.new }
+    ensures out_faults { K.faults out.old ≤ K.faults out.new }
+    ensures err_faults { K.faults err.old ≤ K.faults err.new }
+    ensures short { result.history ≡ None → (result.status ≡ 6) × (K.written out.new ≡ K.written out.old) × (K.faults out.new ≡ K.faults out.old) × (K.written err.new ≡ K.written err.old) × (K.faults err.new ≡ K.faults err.old) }
+    ensures legal { IfSome result.history (IsLegal (opening_of plan.now texts)) }
+    ensures run { IfSome (T.files tree.old) (λ files. IfSome result.history (λ history. IsRun files (opening_of plan.now texts) (meaning 0 (first_of texts)) plan.now.fuel (T.faults tree.old) (T.faults tree.new) history result.status)) }
+    ensures leaves { IfSome result.history (λ history. Leaves (status_of 1 history) 5 (out_text plan.now.trace history) (err_text plan.now.scripts history) (record { written = K.written out.old; faults = K.faults out.old }) (record { written = K.written out.new; faults = K.faults out.new }) (record { written = K.written err.old; faults = K.faults err.old }) (record { written = K.written err.new; faults = K.faults err.new }) result.status) }
+    ensures read { IfSome result.history (λ history. (result.status ≡ 6 → ⊥) → end_of (own 0 history) ≡ Some o.Read → Rose (T.faults tree.old) (T.faults tree.new)) }
+{
+    let Ok(it) = begin(alloc, plan, texts) else {
+        return Ran {
+            status: 6,
+            history: None,
+        };
+    };
+    let outlet = Out::open(out, plan.trace);
+    let alone = run_alone(alloc, tree, it, plan.fuel, outlet);
+    let Alone {
+        history,
+        outlet,
+        ran,
+    } = alone;
+    let flow = outlet.close(out);
+    let status = finish(alloc, err, script_of(plan), flow, &ran);
+    of_run(status, history)
+}
+
 /// Runs one script over a tree. What it prints goes to `out` as it is printed, and a line where its
 /// end is not normal to `err`. It always returns. The report has no plan: that is the caller's.
 pub fn solo<T: Tree, K: Sink>(
@@ -163,25 +238,5 @@ pub fn solo<T: Tree, K: Sink>(
     ensures leaves { IfSome result.history (λ history. Leaves (status_of 1 history) 5 (out_text plan.now.trace history) (err_text plan.now.scripts history) (record { written = K.written out.old; faults = K.faults out.old }) (record { written = K.written out.new; faults = K.faults out.new }) (record { written = K.written err.old; faults = K.faults err.old }) (record { written = K.written err.new; faults = K.faults err.new }) result.status) }
     ensures read { IfSome result.history (λ history. (result.status ≡ 6 → ⊥) → end_of (own 0 history) ≡ Some o.Read → Rose (T.faults tree.old) (T.faults tree.new)) }
 {
-    let Ok(it) = begin(alloc, plan, texts) else {
-        return Report {
-            status: 6,
-            plan: None,
-            history: None,
-        };
-    };
-    let outlet = Out::open(out, plan.trace);
-    let alone = run_alone(alloc, tree, it, plan.fuel, outlet);
-    let Alone {
-        history,
-        outlet,
-        ran,
-    } = alone;
-    let flow = outlet.close(out);
-    let status = finish(alloc, err, &plan.scripts.as_slice()[0], flow, &ran);
-    Report {
-        status,
-        plan: None,
-        history: Some(history),
-    }
+    with_plan(run_one(alloc, plan, texts, tree, out, err), None)
 }

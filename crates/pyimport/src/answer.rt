@@ -1,7 +1,8 @@
 //! A call of the program.
-ghost use Rattle.std.specs.Prelude.{◌≡◌, ◌≤◌, ◌∷◌, ◌++◌, [], ℕ, List, Option, None, Some, IfOk, length, map, IsTrue};
+ghost use Rattle.std.specs.Prelude.{◌≡◌, ◌≤◌, ◌∷◌, ◌++◌, [], ℕ, List, Option, None, Some, IfOk, length, map, codes};
 ghost use Rattle.std.specs.String.{string_bytes};
 ghost use Rattle.import_words.specs.Plans.{plan_of};
+ghost use Rattle.import_words.specs.declared.plan.Plan.TheVariants as plans;
 ghost use Rattle.import_words.specs.Words.{Word};
 ghost use Rattle.import_words.specs.Usage.{usage_of};
 ghost use Rattle.pyimport.specs.Answers.{Answers, is_built, is_one, is_root, run_if, built};
@@ -9,9 +10,9 @@ ghost use Rattle.pyimport.specs.Scripts.{Opens, first_of};
 ghost use Rattle.pyimport.specs.Sinks.{At, Leaves};
 ghost use Rattle.pyimport.specs.declared.open.Opened.TheVariants as opened;
 
+use crate::alone::{Report, run_one, say_line, script_of, status_by, with_plan};
 use crate::line::joined;
 use crate::open::{Opened, open_script};
-use crate::alone::{Report, say_line, solo, status_by};
 use base_types::{NoMemory, Seq, Text};
 use import_words::{Plan, RunPlan, WordsError, read_words, usage_line};
 use machine_book::Flow;
@@ -23,8 +24,7 @@ fn is_built(run: &RunPlan) -> bool
     ensures { result ≡ is_built run.now }
 {
     is_one(run.scripts.as_slice())
-        && (is_root(run.path.as_slice())
-            && (!run.trace && (!run.bundles && !run.rounds.is_some())))
+        && (is_root(run.path.as_slice()) && (!run.trace && (!run.bundles && !run.rounds.is_some())))
 }
 
 fn is_one(scripts: &[Text]) -> bool
@@ -96,12 +96,55 @@ fn play<T: Tree, K: Sink>(
     let Ok(texts) = one_text(alloc, text) else {
         return report(6, Some(Plan::Run(run)));
     };
-    let told = solo(alloc, &run, texts, tree, out, err);
-    Report {
-        status: told.status,
-        plan: Some(Plan::Run(run)),
-        history: told.history,
-    }
+    let ran = run_one(alloc, &run, texts, tree, out, err);
+    with_plan(ran, Some(Plan::Run(run)))
+}
+
+/// The script is no file at a tree path.
+fn missing<K: Sink>(alloc: Global, run: RunPlan, err: &mut K) -> Report
+    requires { length run.scripts ≡ 1 }
+    ensures leaves { (out : At) → Leaves 2 2 [] (codes "pyimport: cannot open script '" ++ first_of run.scripts ++ codes "'" ++ 10 ∷ []) out out (record { written = K.written err.old; faults = K.faults err.old }) (record { written = K.written err.new; faults = K.faults err.new }) result.status }
+    ensures plan { result.plan ≡ Some (plans.Run run) }
+    ensures history { result.history ≡ None }
+    ensures faults_grow { K.faults err.old ≤ K.faults err.new }
+{
+    let script = script_of(&run);
+    let line = joined(
+        alloc,
+        "pyimport: cannot open script '",
+        script.as_str(),
+        "'",
+    );
+    tell(err, line, Some(Plan::Run(run)), 2, 2)
+}
+
+/// The script has more than 1,048,576 bytes.
+fn too_long<K: Sink>(alloc: Global, run: RunPlan, err: &mut K) -> Report
+    requires { length run.scripts ≡ 1 }
+    ensures leaves { (out : At) → Leaves 2 2 [] (codes "pyimport: script '" ++ first_of run.scripts ++ codes "' is too long" ++ 10 ∷ []) out out (record { written = K.written err.old; faults = K.faults err.old }) (record { written = K.written err.new; faults = K.faults err.new }) result.status }
+    ensures plan { result.plan ≡ Some (plans.Run run) }
+    ensures history { result.history ≡ None }
+    ensures faults_grow { K.faults err.old ≤ K.faults err.new }
+{
+    let script = script_of(&run);
+    let line = joined(
+        alloc,
+        "pyimport: script '",
+        script.as_str(),
+        "' is too long",
+    );
+    tell(err, line, Some(Plan::Run(run)), 2, 2)
+}
+
+/// A call of the tree failed before the script was read.
+fn unread<K: Sink>(alloc: Global, run: RunPlan, err: &mut K) -> Report
+    ensures leaves { (out : At) → Leaves 4 5 [] (codes "pyimport: file fault" ++ 10 ∷ []) out out (record { written = K.written err.old; faults = K.faults err.old }) (record { written = K.written err.new; faults = K.faults err.new }) result.status }
+    ensures plan { result.plan ≡ Some (plans.Run run) }
+    ensures history { result.history ≡ None }
+    ensures faults_grow { K.faults err.old ≤ K.faults err.new }
+{
+    let line = joined(alloc, "pyimport: file fault", "", "");
+    tell(err, line, Some(Plan::Run(run)), 4, 5)
 }
 
 /// Opens the script of a plan, and runs it.
@@ -119,21 +162,11 @@ fn run_plan<T: Tree, K: Sink>(
     ensures out_faults { K.faults out.old ≤ K.faults out.new }
     ensures err_faults { K.faults err.old ≤ K.faults err.new }
 {
-    let script = &run.scripts.as_slice()[0];
-    match open_script(alloc, tree, script) {
+    match open_script(alloc, tree, script_of(&run)) {
         Ok(Opened::Text(text)) => play(alloc, run, text, tree, out, err),
-        Ok(Opened::Missing) => {
-            let line = joined(alloc, "pyimport: cannot open script '", script.as_str(), "'");
-            tell(err, line, Some(Plan::Run(run)), 2, 2)
-        }
-        Ok(Opened::TooLong) => {
-            let line = joined(alloc, "pyimport: script '", script.as_str(), "' is too long");
-            tell(err, line, Some(Plan::Run(run)), 2, 2)
-        }
-        Err(TreeFault::Failed) => {
-            let line = joined(alloc, "pyimport: file fault", "", "");
-            tell(err, line, Some(Plan::Run(run)), 4, 5)
-        }
+        Ok(Opened::Missing) => missing(alloc, run, err),
+        Ok(Opened::TooLong) => too_long(alloc, run, err),
+        Err(TreeFault::Failed) => unread(alloc, run, err),
         Err(TreeFault::NoMemory) => report(6, Some(Plan::Run(run))),
     }
 }
@@ -171,6 +204,17 @@ fn built(plan: Plan) -> Option<RunPlan>
     }
 }
 
+/// What is built of what the words ask for; None where they are refused.
+fn plan_for(alloc: Global, words: &[String]) -> Result<Option<RunPlan>, NoMemory>
+    ensures { IfOk result (λ o. o ≡ built (plan_of (map string_bytes words.now))) }
+{
+    match read_words(alloc, words) {
+        Ok(plan) => Ok(built(plan)),
+        Err(WordsError::Usage) => Ok(None),
+        Err(WordsError::NoMemory) => Err(NoMemory),
+    }
+}
+
 /// Runs what the words of the command line ask for, over a tree, and writes what is to be written to
 /// the two sinks.
 ///
@@ -189,13 +233,9 @@ pub fn pyimport<T: Tree, K: Sink>(
     ensures out_faults { K.faults out.old ≤ K.faults out.new }
     ensures err_faults { K.faults err.old ≤ K.faults err.new }
 {
-    let plan = match read_words(alloc, words) {
-        Ok(plan) => built(plan),
-        Err(WordsError::Usage) => None,
-        Err(WordsError::NoMemory) => return report(6, None),
-    };
-    match plan {
-        Some(run) => run_plan(alloc, run, tree, out, err),
-        None => refused(alloc, words, err),
+    match plan_for(alloc, words) {
+        Ok(Some(run)) => run_plan(alloc, run, tree, out, err),
+        Ok(None) => refused(alloc, words, err),
+        Err(_) => report(6, None),
     }
 }

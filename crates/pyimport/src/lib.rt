@@ -1,15 +1,15 @@
 //! The program: from the words of its command line to what is written, and to a status.
 #![tactic(auto)]
 
+mod alone;
 mod answer;
+mod begin;
 mod line;
 mod open;
 mod outlet;
-mod alone;
-mod begin;
 #[cfg(test)]
 mod tests;
 
+pub use alone::{Report, solo};
 pub use answer::pyimport;
 pub use outlet::Out;
-pub use alone::{Report, solo};

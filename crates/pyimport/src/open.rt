@@ -37,11 +37,7 @@ fn open_path<T: Tree>(alloc: Global, tree: &mut T, path: &TreePath) -> Result<Op
 }
 
 /// Opens the script that a word names. Failed comes only where a call of the tree failed.
-pub fn open_script<T: Tree>(
-    alloc: Global,
-    tree: &mut T,
-    word: &Text,
-) -> Result<Opened, TreeFault>
+pub fn open_script<T: Tree>(alloc: Global, tree: &mut T, word: &Text) -> Result<Opened, TreeFault>
     ensures told { IfSome (T.files tree.old) (λ f. IfOk result (IsScript f word.now)) }
     ensures failed { IsErrOf result TreeFault.Failed → Rose (T.faults tree.old) (T.faults tree.new) }
     ensures files_stay { T.files tree.new ≡ T.files tree.old }

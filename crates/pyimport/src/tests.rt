@@ -54,7 +54,8 @@ fn status_of(
     Ok(report.status)
 }
 
-const USAGE: &str = "pyimport: usage: pyimport run [--path LIST] [--fuel N] [--trace] [--bundles] (SCRIPT.. | --rounds FILE) | pyimport gen SEED MODULES SCRIPTS\n";
+const USAGE: &str =
+    "pyimport: usage: pyimport run [--path LIST] [--fuel N] [--trace] [--bundles] (SCRIPT.. | --rounds FILE) | pyimport gen SEED MODULES SCRIPTS\n";
 
 #[test]
 fn runs_write_what_they_print_and_how_they_end(rt: HostRuntime) -> Result<(), Fail> {
@@ -108,7 +109,11 @@ fn runs_write_what_they_print_and_how_they_end(rt: HostRuntime) -> Result<(), Fa
     ] {
         let mut said = MemSink::new(alloc);
         let mut told = MemSink::new(alloc);
-        assert_eq!(&rt; status_of(alloc, words, files, &mut said, &mut told)?, status, "{words}");
+        assert_eq!(&rt;
+            status_of(alloc, words, files, &mut said, &mut told)?,
+            status,
+            "{words}"
+        );
         assert_eq!(&rt; said.bytes(), out.as_bytes(), "{words}");
         assert_eq!(&rt; told.bytes(), err.as_bytes(), "{words}");
     }
@@ -121,7 +126,10 @@ fn a_full_sink_keeps_a_prefix(rt: HostRuntime) -> Result<(), Fail> {
     let mut out = MemSink::failing_after(alloc, 3);
     let mut err = MemSink::new(alloc);
     let files = "main.py print(\"hello\");";
-    assert_eq!(&rt; status_of(alloc, "run main.py", files, &mut out, &mut err)?, 5);
+    assert_eq!(&rt;
+        status_of(alloc, "run main.py", files, &mut out, &mut err)?,
+        5
+    );
     assert_eq!(&rt; out.bytes(), b"hel".as_slice());
     assert_eq!(&rt; err.bytes(), b"".as_slice());
     Ok(())
@@ -135,7 +143,10 @@ fn a_full_error_output_keeps_a_prefix(rt: HostRuntime) -> Result<(), Fail> {
         let mut out = MemSink::new(alloc);
         let mut err = MemSink::failing_after(alloc, n as u64);
         let files = "main.py import nope;";
-        assert_eq!(&rt; status_of(alloc, "run main.py", files, &mut out, &mut err)?, 5);
+        assert_eq!(&rt;
+            status_of(alloc, "run main.py", files, &mut out, &mut err)?,
+            5
+        );
         assert_eq!(&rt; err.bytes(), &line[..n]);
     }
     Ok(())
@@ -143,7 +154,10 @@ fn a_full_error_output_keeps_a_prefix(rt: HostRuntime) -> Result<(), Fail> {
 
 /// What a run of two files writes where the k-th call of the tree fails: its status and both texts.
 fn failing_at(alloc: Global, k: u64) -> Result<String, Fail> {
-    let mut tree = tree_of(alloc, "main.py import a;print(\"main\");\na.py print(\"a\");")?;
+    let mut tree = tree_of(
+        alloc,
+        "main.py import a;print(\"main\");\na.py print(\"a\");",
+    )?;
     tree.fail(None, k)?;
     let words = words_of(alloc, "run main.py")?;
     let mut out = MemSink::new(alloc);

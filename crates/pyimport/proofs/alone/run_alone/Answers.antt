@@ -1,0 +1,12 @@
+use Rattle.std.proofs.Common.{rules, ◌≡◌, List, ap}
+use Rattle.machine_events.specs.declared.event.Event.{Event}
+use Rattle.machine_events.specs.declared.event.Reply.{Reply}
+use Rattle.machine_book.specs.Histories.{own}
+use Rattle.py_run.specs.Meaning.{meaning}
+use Rattle.pyimport.proofs.Endings.{follows_by}
+use Rattle.pyimport.proofs.alone.run_alone.Goals as goal
+
+pub returns-clause-follows : goal.returns-clause-follows
+returns-clause-follows g c = λ files e.
+    let same : c.as_slice.result.now ≡ c.args.it.text = search rules in
+    follows_by files (meaning 0 c.as_slice.result.now) (meaning 0 c.args.it.text) c.args.fuel _ (own 0 c.end-history.result.0) c.run_script-ran.result (ap (meaning 0) same) (search rules) (c.run_script-ran.ensures.follows files e)

@@ -1,0 +1,11 @@
+use Rattle.std.proofs.Common.{◌≡◌, [], None, refl}
+use Rattle.pyimport.specs.Answers.{Answers}
+use Rattle.pyimport.proofs.Answering.{answers_with, short_by}
+use Rattle.pyimport.proofs.answer.pyimport.Goals as goal
+
+pub returns-in-Err-clause-answers : goal.returns-in-Err-clause-answers
+returns-in-Err-clause-answers g c = short_by _ _ _ _ _ _ _ _ c.report.result None c.report.ensures refl refl
+
+pub returns-in-Ok-None-clause-answers : goal.returns-in-Ok-None-clause-answers
+returns-in-Ok-None-clause-answers g c =
+    answers_with _ _ _ _ _ _ _ _ _ _ _ _ _ c.refused.ensures.plan c.refused.ensures.history (Answers.refused _ ? (c.refused.ensures.leaves _))
