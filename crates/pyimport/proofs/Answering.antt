@@ -27,9 +27,9 @@ use Rattle.pyimport.specs.declared.open.Opened.TheVariants as opened
 use Rattle.pyimport.specs.declared.alone.Report.{Report}
 use Rattle.pyimport.specs.declared.alone.Ran.{Ran}
 
-pub opens_by : (tree : Option Files) (word word' : List ℕ) (it : Opened) → word ≡ word' → IfSome tree (λ f. IsScript f word it) → Opens tree word' it
-opens_by None word word' it e h = tt
-opens_by (Some f) word word' it e h = subst (λ (w : List ℕ). IsScript f w it) e h
+pub opens_by : (tree : Option Files) (word word' : List ℕ) (it it' : Opened) → word ≡ word' → it ≡ it' → IfSome tree (λ f. IsScript f word it) → Opens tree word' it'
+opens_by None word word' it it' e o h = tt
+opens_by (Some f) word word' it it' e o h = subst (λ (x : Opened). IsScript f word' x) o (subst (λ (w : List ℕ). IsScript f w it) e h)
 
 module _ (words : List Word) (tree : Option Files) (old new : ℕ) (out_old out_new err_old err_new : At) where
   pub answers_with : (status : ℕ) (p p' : Option Plan) (h h' : Option (List Entry)) → p' ≡ p → h' ≡ h → Answers words tree old new out_old out_new err_old err_new status p h → Answers words tree old new out_old out_new err_old err_new status p' h'
@@ -62,8 +62,11 @@ runs_by : (tree : Option Files) (run : RunPlan) (text : List ℕ) (first old new
 runs_by None run text first old new status h f r = tt
 runs_by (Some files) run text first old new status h f r = run_since files (opening_of run (text ∷ [])) (meaning 0 text) run.fuel first old new status h f r
 
+abbrev at_of : Option (List ℕ) → ℕ → At
+at_of written faults = record { written = written; faults = faults }
+
 at_is : (a b : At) → a.written ≡ b.written → a.faults ≡ b.faults → a ≡ b
-at_is a b w f = cc (w, f)
+at_is a b w f = ap (λ (x : Option (List ℕ)). at_of x a.faults) w ∙ ap (at_of b.written) f
 
 -- the parts of a run of one script, and how its call ends
 module _ (words : List Word) (tree : Option Files) (first old new : ℕ) (out_old out_new err_old err_new : At) (run : RunPlan) (text : List ℕ) (later : first ≤ old) (is : built (plan_of words) ≡ Some run) (opens : Opens tree (first_of run.scripts) (opened.Text text)) where
@@ -100,5 +103,5 @@ script_at (Some f) word path (Ok it) s h = subst (λ (x : Opened). IsScript f wo
 script_at (Some f) word path (Err e) s h = tt
 
 pub script_not : (tree : Option Files) (word : List ℕ) → ((path : Path) → Spells word path → ⊥) → IfSome tree (λ f. IsScript f word opened.Missing)
-script_not None word no = tt
-script_not (Some f) word no = IsScript.no_path no
+script_not None word never = tt
+script_not (Some f) word never = IsScript.no_path never

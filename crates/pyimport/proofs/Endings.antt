@@ -26,6 +26,7 @@ use Rattle.pyimport.specs.Ends.{end_of, line_of, line_at, err_text, number_of, n
 use Rattle.py_run.specs.Meaning.{meaning}
 use Rattle.pyimport.specs.Scripts.{first_of}
 use Rattle.pyimport.specs.Alone.{IsRun, HasCause}
+use Rattle.pyimport.specs.declared.alone.Ran.{Ran}
 
 end_last : (before : List (Event × Reply)) (how : Outcome) (k : ℕ) → end_of (before ++ (End how k, Done) ∷ []) ≡ Some how
 end_last [] how k = refl
@@ -94,3 +95,7 @@ one_of (x ∷ y ∷ xs) one = absurd (omega (arith, one))
 
 pub first_by : (xs ys : List (List ℕ)) (x : List ℕ) → ys ≡ xs → length xs ≡ 1 → x ≡ get_or ys 0 x → x ≡ first_of xs
 first_by xs ys x e one is = is ∙ (ap (λ (zs : List (List ℕ)). get_or zs 0 x) (e ∙ one_of xs one))
+
+-- what holds of a history and a status holds of the run that has both
+pub ran_has : (r : Ran) (status : ℕ) (h : List Entry) (P : List Entry → ℕ → Type 0) → r ≡ record { status = status; history = Some h } → P h status → IfSome r.history (λ x. P x r.status)
+ran_has r status h P e p = subst (λ (x : Ran). IfSome x.history (λ y. P y x.status)) (sym e) p

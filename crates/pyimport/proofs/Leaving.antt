@@ -1,6 +1,6 @@
 -- What is left in the sinks.
 use Rattle.std.proofs.Common.{◌≡◌, ◌≤◌, ℕ, List, [], ◌∷◌, ◌++◌, Option, Some, None, Result, Ok, Err, IfOk, refl, sym, subst, ◌∙◌, ap, take, drop, length}
-use Rattle.std.proofs.lemmas.List.{append-nil, take_drop}
+use Rattle.std.proofs.lemmas.List.{append-nil, take-append-drop}
 use Rattle.base_types.specs.declared.no_memory.NoMemory.{NoMemory}
 use Rattle.tree_files.specs.Writing.{appended, HasPrefixOf}
 use Rattle.machine_events.specs.declared.event.Entry.{Entry}
@@ -59,4 +59,4 @@ appends_by (Some a) None text e = absurd (cc e)
 
 -- a prefix that was written is a beginning
 pub part_by : (bytes : List ℕ) (old new : Option (List ℕ)) → HasPrefixOf bytes old new → AppendsPart old new bytes
-part_by bytes old new h = record { part = take h.0 bytes; rest = drop h.0 bytes; whole = take_drop h.0 bytes; gained = appends_by old new (take h.0 bytes) h.2 }
+part_by bytes old new h = record { part = take h.0 bytes; rest = drop h.0 bytes; whole = take-append-drop h.0 bytes; gained = appends_by old new (take h.0 bytes) h.2 }

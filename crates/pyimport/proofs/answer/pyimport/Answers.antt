@@ -1,4 +1,4 @@
-use Rattle.std.proofs.Common.{◌≡◌, [], None, refl}
+use Rattle.std.proofs.Common.{◌≡◌, ◌∙◌, [], None, refl, sym}
 use Rattle.pyimport.specs.Answers.{Answers}
 use Rattle.pyimport.proofs.Answering.{answers_with, short_by}
 use Rattle.pyimport.proofs.answer.pyimport.Goals as goal
@@ -8,4 +8,4 @@ returns-in-Err-clause-answers g c = short_by _ _ _ _ _ _ _ _ c.report.result Non
 
 pub returns-in-Ok-None-clause-answers : goal.returns-in-Ok-None-clause-answers
 returns-in-Ok-None-clause-answers g c =
-    answers_with _ _ _ _ _ _ _ _ _ _ _ _ _ c.refused.ensures.plan c.refused.ensures.history (Answers.refused _ ? (c.refused.ensures.leaves _))
+    answers_with _ _ _ _ _ _ _ _ _ _ _ _ _ c.refused.ensures.plan c.refused.ensures.history (Answers.refused _ (sym c.in-Ok-None.ensures ∙ c.in-Ok-None.field-0-is) (c.refused.ensures.leaves _))

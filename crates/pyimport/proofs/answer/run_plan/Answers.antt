@@ -1,4 +1,4 @@
-use Rattle.std.proofs.Common.{◌≡◌, ◌∷◌, [], ◌++◌, codes, Some, None, refl}
+use Rattle.std.proofs.Common.{◌≡◌, ◌∷◌, [], ◌++◌, codes, Some, None, Err, ap, refl}
 use Rattle.import_words.specs.declared.plan.Plan.TheVariants as plans
 use Rattle.pyimport.specs.Answers.{Answers}
 use Rattle.pyimport.specs.Scripts.{first_of}
@@ -9,17 +9,17 @@ use Rattle.pyimport.proofs.answer.run_plan.Goals as goal
 pub returns-in-Ok-Missing-clause-answers : goal.returns-in-Ok-Missing-clause-answers
 returns-in-Ok-Missing-clause-answers g c = λ words is.
     answers_with words _ _ _ _ _ _ _ _ _ _ _ _ c.missing.ensures.plan c.missing.ensures.history
-    (Answers.unopened _ c.args.run opened.Missing _ is (opens_by _ _ _ opened.Missing c.script_of.ensures c.in-Ok-Missing.ensures.told) refl (c.missing.ensures.leaves _))
+    (Answers.unopened _ c.args.run opened.Missing _ is (opens_by _ _ _ c.in-Ok-Missing.field-0 opened.Missing c.script_of.ensures c.in-Ok-Missing.field-0-is c.in-Ok-Missing.ensures.told) refl (c.missing.ensures.leaves _))
 
 pub returns-in-Ok-TooLong-clause-answers : goal.returns-in-Ok-TooLong-clause-answers
 returns-in-Ok-TooLong-clause-answers g c = λ words is.
     answers_with words _ _ _ _ _ _ _ _ _ _ _ _ c.too_long.ensures.plan c.too_long.ensures.history
-    (Answers.unopened _ c.args.run opened.TooLong _ is (opens_by _ _ _ opened.TooLong c.script_of.ensures c.in-Ok-TooLong.ensures.told) refl (c.too_long.ensures.leaves _))
+    (Answers.unopened _ c.args.run opened.TooLong _ is (opens_by _ _ _ c.in-Ok-TooLong.field-0 opened.TooLong c.script_of.ensures c.in-Ok-TooLong.field-0-is c.in-Ok-TooLong.ensures.told) refl (c.too_long.ensures.leaves _))
 
 pub returns-in-Err-Failed-clause-answers : goal.returns-in-Err-Failed-clause-answers
 returns-in-Err-Failed-clause-answers g c = λ words is.
     answers_with words _ _ _ _ _ _ _ _ _ _ _ _ c.unread.ensures.plan c.unread.ensures.history
-    (Answers.unread _ c.args.run is (c.in-Err-Failed.ensures.failed ?) (c.unread.ensures.leaves _))
+    (Answers.unread _ c.args.run is (c.in-Err-Failed.ensures.failed (ap Err c.in-Err-Failed.field-0-is)) (c.unread.ensures.leaves _))
 
 pub returns-in-Err-NoMemory-clause-answers : goal.returns-in-Err-NoMemory-clause-answers
 returns-in-Err-NoMemory-clause-answers g c = λ words is. short_by words _ _ _ _ _ _ _ c.report.result (Some (plans.Run c.args.run)) c.report.ensures refl refl
