@@ -49,12 +49,7 @@ fn closes(locks: &Locks, thread: u32, name: &Dotted) -> &'static str {
     closes_by::<Brand>(locks, thread, name, Blank::new(1))
 }
 
-fn closes_by<L: Ledger>(
-    locks: &Locks,
-    thread: u32,
-    name: &Dotted,
-    blank: Blank,
-) -> &'static str
+fn closes_by<L: Ledger>(locks: &Locks, thread: u32, name: &Dotted, blank: Blank) -> &'static str
     requires name { blank.name ≡ L.name }
     requires parts { blank.parts ≡ L.parts }
     requires some { 0 < L.parts }
@@ -84,7 +79,13 @@ fn give(locks: &mut Locks, thread: u32, name: &Dotted) -> &'static str {
 }
 
 /// What a call answers: its word, the thread and the name.
-fn answer(alloc: Global, locks: &mut Locks, call: &str, thread: u32, name: &str) -> Result<String, Fail> {
+fn answer(
+    alloc: Global,
+    locks: &mut Locks,
+    call: &str,
+    thread: u32,
+    name: &str,
+) -> Result<String, Fail> {
     let name = dotted(alloc, name)?;
     let told = match call {
         "take" => take(locks, thread, &name)?,
@@ -141,7 +142,11 @@ fn locks_answer_as_their_table_says(rt: HostRuntime) -> Result<(), Fail> {
         let Ok(thread) = thread.parse::<u32>() else {
             return Err("no number".into());
         };
-        assert_eq!(&rt; answer(alloc, &mut locks, word, thread, name)?.as_str(), wanted, "{line}");
+        assert_eq!(&rt;
+            answer(alloc, &mut locks, word, thread, name)?.as_str(),
+            wanted,
+            "{line}"
+        );
     }
     Ok(())
 }

@@ -62,10 +62,16 @@ fn modules_have_their_first_variables_and_keep_the_order(rt: HostRuntime) -> Res
     let mut table = table(alloc);
     let mid = table.add_module(source(alloc, "a")?, Phase::Lazy)?;
     assert_eq!(&rt; mid, 0);
-    assert_eq!(&rt; names(alloc, &table, mid)?.as_str(), "__name__,__package__,__file__,");
+    assert_eq!(&rt;
+        names(alloc, &table, mid)?.as_str(),
+        "__name__,__package__,__file__,"
+    );
     table.set(mid, text(alloc, "x")?, Value::Bool(true))?;
     table.set(mid, text(alloc, "__package__")?, Value::Nothing)?;
-    assert_eq!(&rt; names(alloc, &table, mid)?.as_str(), "__name__,__package__,__file__,x,");
+    assert_eq!(&rt;
+        names(alloc, &table, mid)?.as_str(),
+        "__name__,__package__,__file__,x,"
+    );
     assert!(&rt; matches!(table.get(mid, &text(alloc, "x")?), Some(Value::Bool(true))));
     assert!(&rt; matches!(table.del(mid, &text(alloc, "x")?), Some(Value::Bool(true))));
     assert!(&rt; table.del(mid, &text(alloc, "x")?).is_none());
@@ -122,14 +128,23 @@ fn a_unit_is_a_module_with_its_load_and_entry(rt: HostRuntime) -> Result<(), Fai
     let alloc = rt.alloc();
     let mut table = table(alloc);
     let spec = source(alloc, "a")?;
-    let unit = table.add_unit(spec, Phase::Initialising, LoadKind::Plain, 3, Seq::new(alloc), LoadStage::Open)?;
+    let unit = table.add_unit(
+        spec,
+        Phase::Initialising,
+        LoadKind::Plain,
+        3,
+        Seq::new(alloc),
+        LoadStage::Open,
+    )?;
     assert_eq!(&rt; unit, (0, 0));
     assert_eq!(&rt; told_of(alloc, &table, 0)?.as_str(), "3 open 0");
     assert!(&rt; matches!(table.entry(&dotted(alloc, "a")?), Some(Slot::Module(_))));
     let again = table.restart_of(0, &source(alloc, "a")?)?;
     table.reload_enter(&dotted(alloc, "a")?, 3, 0)?;
     table.restart(0, again, &dotted(alloc, "a")?, 0);
-    let load = table.reloading(&dotted(alloc, "a")?).and_then(|reload| reload.load);
+    let load = table
+        .reloading(&dotted(alloc, "a")?)
+        .and_then(|reload| reload.load);
     assert_eq!(&rt; load, Some(0));
     let mut main = Seq::new(alloc);
     main.push(10)?;
@@ -191,11 +206,14 @@ fn reloads_ends_epochs_and_namespaces_are_kept(rt: HostRuntime) -> Result<(), Fa
     assert_eq!(&rt; table.epoch(), 1);
     let mid = table.add_module(source(alloc, "n")?, Phase::Ready)?;
     assert!(&rt; table.ns(mid).is_none());
-    table.set_ns(mid, NsState {
-        parent_path: Seq::new(alloc),
-        epoch: 6,
-        portions: Seq::new(alloc),
-    });
+    table.set_ns(
+        mid,
+        NsState {
+            parent_path: Seq::new(alloc),
+            epoch: 6,
+            portions: Seq::new(alloc),
+        },
+    );
     assert_eq!(&rt; table.ns(mid).map(|state| state.epoch), Some(6));
     Ok(())
 }
