@@ -7,7 +7,7 @@ use Rattle.machine_events.specs.declared.event.Reply.TheVariants.{Done}
 use Rattle.machine_events.specs.declared.event.Outcome.{Outcome}
 use Rattle.machine_events.specs.declared.event.Outcome.TheVariants as o
 use Rattle.tree_files.specs.Files.{Files}
-use Rattle.machine_events.specs.Knowing.{shown}
+use Rattle.thread_knowledge.specs.Shown.{shown}
 use Rattle.meanings.specs.Runs.{Run, Pays, How, Ended, Spent, Came, play, on_budget, gives_up, replies_of, Reaches}
 
 -- with this fuel the script ends in this way, after what was paid

@@ -7,7 +7,7 @@ use Rattle.machine_events.specs.declared.event.Event.TheVariants.{End}
 use Rattle.machine_events.specs.declared.event.Reply.{Reply}
 use Rattle.machine_events.specs.declared.event.Reply.TheVariants.{Done}
 use Rattle.machine_events.specs.declared.event.Outcome.TheVariants as o
-use Rattle.machine_events.specs.Knowing.{Running, shown}
+use Rattle.thread_knowledge.specs.Shown.{Running, shown}
 use Rattle.meanings.specs.Runs.{Run, How, Ended, Spent, Reaches, spend, Stands, StandsIn, IsSpent, IsUnread, Safe, GivesUp}
 use Rattle.meanings.specs.Runs as runs
 use Rattle.meanings.specs.Follows.{Follows, Ends}
