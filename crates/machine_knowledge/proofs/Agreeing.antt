@@ -1,5 +1,5 @@
 -- What a thread's own pairs show it to hold, it holds in the state: what that says, and what changes of lists and maps do to it.
-use Rattle.std.proofs.Common.{◌≡◌, ◌≢◌, ℕ, zero, suc, ◌+◌, ◌<◌, arith, Bool, true, false, cond, ◌&&◌, List, [], ◌∷◌, ◌++◌, length, Option, Some, None, refl, sym, ap, subst, ◌∙◌, eqb}
+use Rattle.std.proofs.Common.{◌≡◌, ◌≢◌, ℕ, zero, suc, ◌+◌, ◌<◌, arith, Bool, true, false, cond, ◌&&◌, List, [], ◌∷◌, ◌++◌, length, Option, Some, None, refl, sym, ap, ◌∙◌}
 use Rattle.std.specs.Prelude.{◌==◌, nat_eq, slice_get, slice_set, is_none, is_some, not}
 use Rattle.std.specs.Cmp.Lexicographic.{pointwise, nat_list_eq_equiv}
 use Rattle.std.specs.Ordering.{nat_cmp}
@@ -13,7 +13,7 @@ use Rattle.machine_state.specs.Allowed.{is_reload, is_number}
 use Rattle.import_machine.specs.Bones.{Bones, Module, Body, is_named, counts_in, opens, held}
 use Rattle.import_machine.proofs.Counts.{bit, counts_own}
 use Rattle.import_machine.proofs.Holds.{same_text, same_name, same_self}
-use Rattle.import_machine.proofs.Lists.{pushed_last, pushed_keeps, set_there, set_elsewhere, within}
+use Rattle.import_machine.proofs.Lists.{pushed_last, set_there, set_elsewhere}
 use Rattle.thread_knowledge.specs.Holdings.{Holding, Taken, Loading, Reloading, is_holding}
 use Rattle.thread_knowledge.specs.Holdings as holdings
 use Rattle.thread_knowledge.specs.Shown.{Doing, Running, Waiting, Over}

@@ -1,8 +1,7 @@
 -- Along a legal history it stays true of the state what each thread's own pairs show.
-use Rattle.std.proofs.Common.{◌≡◌, ◌+◌, ◌<◌, ◌≤◌, ℕ, zero, suc, arith, Bool, true, false, cond, ◌&&◌, List, [], ◌∷◌, ◌++◌, map, length, Option, Some, None, refl, sym, ap, subst, ◌∙◌, inl, inr, eqb}
-use Rattle.std.specs.Prelude.{slice_get, is_some, not, fold, filter, ◌==◌}
+use Rattle.std.proofs.Common.{◌≡◌, ◌+◌, ◌<◌, ℕ, arith, Bool, true, false, cond, ◌&&◌, List, [], ◌∷◌, ◌++◌, map, length, refl, sym, ap, subst, ◌∙◌, inl, inr, eqb}
+use Rattle.std.specs.Prelude.{slice_get, not, fold, filter, ◌==◌}
 use Rattle.std.specs.List.{sum}
-use Rattle.std.specs.FinMap.{get}
 use Rattle.std.proofs.lemmas.Bool.{false≢true, and_parts, eqb-true, eq-eqb}
 use Rattle.std.proofs.lemmas.List.{length-append}
 use Rattle.py_value.specs.declared.value.ModRef.{ModRef}
@@ -10,7 +9,6 @@ use Rattle.machine_events.specs.declared.event.Event.{Event}
 use Rattle.machine_events.specs.declared.event.Event.TheVariants as events
 use Rattle.machine_events.specs.declared.event.Entry.{Entry}
 use Rattle.machine_events.specs.declared.event.Reply.{Reply}
-use Rattle.module_table.specs.declared.table.Table.{Table}
 use Rattle.machine_state.specs.declared.state.State.{State}
 use Rattle.machine_state.specs.Known.{is_module}
 use Rattle.machine_state.specs.Step.{step}
@@ -25,17 +23,17 @@ use Rattle.import_machine.proofs.Steps.{sound_step}
 use Rattle.import_machine.proofs.Going.{goes_step}
 use Rattle.import_machine.proofs.Lists.{within}
 use Rattle.import_machine.proofs.First.{rounds_long}
-use Rattle.thread_knowledge.specs.Shown.{Shown, Doing, Running, Over, shown, shown_first, shown_more, named, numbered, load_numbered, namespace_of}
+use Rattle.thread_knowledge.specs.Shown.{Shown, shown, shown_first, shown_more, named, numbered, load_numbered, namespace_of}
 use Rattle.thread_knowledge.specs.Knowing.{Has}
 use Rattle.thread_knowledge.specs.Own.{own, IsEnd, HasEnded}
 use Rattle.machine_knowledge.proofs.Values.{has_all, has_split}
-use Rattle.machine_knowledge.proofs.Grow.{Grow, at_some, longer, there_grow, ns_grow}
+use Rattle.machine_knowledge.proofs.Grow.{at_some, longer, there_grow, ns_grow}
 use Rattle.machine_knowledge.proofs.Named.{AreNamed}
-use Rattle.machine_knowledge.proofs.Fine.{Fine, fine_step}
+use Rattle.machine_knowledge.proofs.Fine.{fine_step}
 use Rattle.machine_knowledge.proofs.Spaces.{spaces_step}
 use Rattle.machine_knowledge.proofs.Agreeing.{Agrees, Backed, is_over}
-use Rattle.machine_knowledge.proofs.Telling.{Told, told_step}
-use Rattle.machine_knowledge.proofs.First.{backed_first, agrees_first, named_first, loads_length, objects_length}
+use Rattle.machine_knowledge.proofs.Telling.{told_step}
+use Rattle.machine_knowledge.proofs.First.{backed_first, named_first, loads_length, objects_length}
 
 -- what holds of every state beside what the machine's type keeps
 pub record Whole (s : State) : Type 0 where

@@ -1,6 +1,6 @@
 -- What is true of a state and enough for an event is what the state asks of the event.
-use Rattle.std.proofs.Common.{◌≡◌, ◌<◌, ◌≤◌, ℕ, zero, suc, ◌+◌, arith, Bool, true, false, cond, ◌&&◌, List, [], ◌∷◌, map, length, Option, Some, None, refl, sym, ap, subst, ◌∙◌, inl, inr, eqb, ltb, leb}
-use Rattle.std.specs.Prelude.{◌==◌, slice_get, nat_eq, nat_lt, nat_le, is_none, is_some, not, sum_by, count_by, flat_map}
+use Rattle.std.proofs.Common.{◌≡◌, ◌<◌, ◌≤◌, ℕ, zero, suc, arith, Bool, true, false, cond, ◌&&◌, List, [], ◌∷◌, map, length, Option, Some, None, refl, sym, ap, subst, ◌∙◌, inl, inr, eqb, ltb, leb}
+use Rattle.std.specs.Prelude.{◌==◌, slice_get, nat_eq, not, sum_by, count_by, flat_map}
 use Rattle.std.specs.List.{list_any, list_all}
 use Rattle.std.specs.Option.{option_map}
 use Rattle.std.specs.Ordering.{nat_cmp}
@@ -26,25 +26,23 @@ use Rattle.module_table.specs.declared.module.Load.{Load}
 use Rattle.module_table.specs.declared.module.LoadKind.{LoadKind}
 use Rattle.module_table.specs.declared.module.LoadKind.TheVariants as load_kinds
 use Rattle.module_table.specs.declared.module.Reload.{Reload}
-use Rattle.module_table.specs.declared.table.Table.{Table}
 use Rattle.machine_state.specs.declared.state.State.{State}
 use Rattle.machine_state.specs.Parts.{is_open, is_main, is_imported}
 use Rattle.machine_state.specs.Known.{is_module, is_module_of, is_place_of, names_modules, slot_names_module}
 use Rattle.machine_state.specs.Allowed.{fits, has_spare, spare_of, counts_for, has_text, has_body, is_source, can_finish, has_object, has_ns, is_ns_path, is_path_item, is_absent, has_name, is_open_of, is_number, is_reload, is_reloading, reloads_object, can_end}
-use Rattle.import_machine.specs.Bones.{Bones, Module, Body, bones, module_bone, body_bone, is_named, counts_in, opens, held, held_by}
-use Rattle.import_machine.specs.Sound.{IsSound, AreSound}
+use Rattle.import_machine.specs.Bones.{Module, Body, bones, module_bone, body_bone, is_named, counts_in, opens, held, held_by}
 use Rattle.import_machine.proofs.Counts.{bit}
 use Rattle.import_machine.proofs.Lists.{within}
-use Rattle.import_machine.proofs.Same.{get_map, map_at, unmap}
+use Rattle.import_machine.proofs.Same.{get_map, map_at}
 use Rattle.import_machine.proofs.Leave.{opens_of}
 use Rattle.thread_knowledge.specs.Holdings.{Holding, Taken, Loading, Reloading}
-use Rattle.thread_knowledge.specs.Shown.{Shown, is_namespace_path, modules_in}
+use Rattle.thread_knowledge.specs.Shown.{Shown, modules_in}
 use Rattle.thread_knowledge.specs.Knowing.{Has, HasAll, HasMid, HasName, KnowsSlot, MayBeSearched, MayAdd, MayBeLazy, MayBeMain, Enough}
 use Rattle.machine_knowledge.proofs.Values.{names_are, items_are, mapped_items, all_has}
 use Rattle.machine_knowledge.proofs.Times.{times, has_times}
 use Rattle.machine_knowledge.proofs.Maps.{any_value, any_found}
 use Rattle.machine_knowledge.proofs.Spaces.{same_path}
-use Rattle.machine_knowledge.proofs.Agreeing.{opened_by, reloads_by, Agrees, Backed}
+use Rattle.machine_knowledge.proofs.Agreeing.{opened_by, reloads_by, Agrees}
 use Rattle.machine_knowledge.proofs.Along.{Whole, Exists}
 
 -- Kinds of specs, values and slots.
@@ -68,6 +66,7 @@ source_from (kinds.Package file path) h = absurd h
 source_from (kinds.Namespace path) h = absurd h
 
 item_layer : (x : Value-F Value) → MayBeSearched (roll-Value x) → is_path_item (roll-Value x) ≡ true
+unfolding roll-Value denote.Hole.Carrier.roll
 item_layer Value-F.Nothing h = refl
 item_layer (Value-F.Bool b) h = refl
 item_layer (Value-F.Int n) h = refl
@@ -99,6 +98,10 @@ spare_from t k (Some lock) h =
 one_bit : (c : Bool) → 0 < bit c → c ≡ true
 one_bit true h = refl
 one_bit false h = absurd (omega arith)
+
+no_bit : (c : Bool) → bit c ≡ 0 → c ≡ true → ⊥
+no_bit true h p = absurd (omega arith)
+no_bit false h p = false≢true p
 
 finish_same : (t : ℕ) (o : Option Load) → opened_by t (option_map body_bone o) ≡ can_finish t o
 finish_same t None = refl
@@ -192,8 +195,7 @@ module _ (s : State) (w : Whole s) (t : ℕ) (k : Shown) (g : Agrees (bones s) t
         let one : reloads_by s.table.reloading t r.mid r.load (slice_get (bones s).modules r.mid) ≡ true =
         ap (reloads_by s.table.reloading t r.mid r.load) fits_it.1 ∙ ap (λ z. is_reload t r.mid r.load (get s.table.reloading z)) fits_it.2 ∙ ap (is_reload t r.mid r.load) is
         ∙ and_from ((r.thread == t) && (r.mid == r.mid)) (is_number r.load r.load) (and_from (r.thread == t) (r.mid == r.mid) (eq-eqb r.thread t own) (eq-eqb r.mid r.mid refl)) (number_self r.load) in
-        let e : 1 ≡ 0 = sym (ap bit one) ∙ none in
-        absurd (omega arith)
+        no_bit (reloads_by s.table.reloading t r.mid r.load (slice_get (bones s).modules r.mid)) none one
       where
         number_self : (a : Option ℕ) → is_number a a ≡ true
         number_self None = refl
@@ -205,8 +207,7 @@ module _ (s : State) (w : Whole s) (t : ℕ) (k : Shown) (g : Agrees (bones s) t
           | true ↦ λ p.
               let none : bit (opened_by t (slice_get (bones s).bodies i)) ≡ 0 = sym (g.bodies i) ∙ no_times (Loading i) in
               let one : opened_by t (slice_get (bones s).bodies i) ≡ true = ap (opened_by t) is ∙ and_from (is_open l.stage && (l.thread == t)) (is_imported l.kind) (and_from (is_open l.stage) (l.thread == t) opened (eq-eqb l.thread t own)) p in
-              let e : 1 ≡ 0 = sym (ap bit one) ∙ none in
-              absurd (omega arith)
+              no_bit (opened_by t (slice_get (bones s).bodies i)) none one
           | false ↦ λ p.
               let back = w.backed.again i l is opened (not_main_kind l.kind main p) in
               no_reload back.0 (record { thread = l.thread; mid = l.mid; load = Some i }) back.1 own

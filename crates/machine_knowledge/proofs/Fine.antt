@@ -1,11 +1,10 @@
 -- What an event answers names modules and loads that exist, and it keeps each value of the table naming modules of the table.
-use Rattle.std.proofs.Common.{◌≡◌, ◌⊎◌, ◌<◌, ℕ, zero, suc, Bool, true, false, cond, ◌&&◌, List, [], ◌∷◌, ◌++◌, take, drop, map, length, Option, Some, None, refl, sym, ap, subst, ◌∙◌, inl, inr, arith}
-use Rattle.std.specs.Prelude.{ℤ, slice_get, slice_set, nat_eq, nat_lt, is_some, not, flat_map}
+use Rattle.std.proofs.Common.{◌≡◌, ◌⊎◌, ◌<◌, ℕ, zero, suc, Bool, true, false, cond, ◌&&◌, List, [], ◌∷◌, ◌++◌, take, drop, map, length, Option, Some, None, refl, sym, ap, subst, ◌∙◌, inl, inr}
+use Rattle.std.specs.Prelude.{ℤ, slice_get, slice_set, nat_eq, nat_lt, is_some, not}
 use Rattle.std.specs.List.{list_all}
 use Rattle.std.specs.Cmp.Lexicographic.{pointwise, nat_list_eq_equiv, nat_list_cmp_total}
-use Rattle.std.specs.FinMap.{get, insert, remove, get-insert, get-remove}
+use Rattle.std.specs.FinMap.{get, get-insert, get-remove}
 use Rattle.std.proofs.lemmas.Bool.{false≢true, and_parts, and_from}
-use Rattle.std.proofs.lemmas.List.{length-append}
 use Rattle.spec_core.specs.Names.{parent_of, tail_of}
 use Rattle.spec_core.specs.declared.spec.Spec.{Spec}
 use Rattle.spec_core.specs.declared.spec.SpecKind.{SpecKind}
@@ -14,7 +13,6 @@ use Rattle.base_types.specs.declared.path.Listing.{Listing}
 use Rattle.py_value.specs.declared.value.ModRef.{ModRef}
 use Rattle.py_value.specs.declared.value.NsState.{NsState}
 use Rattle.py_value.specs.declared.value.Value.{Value}
-use Rattle.py_value.specs.declared.value.Value.TheVariants as values
 use Rattle.machine_events.specs.Modules.{module_of, place_of}
 use Rattle.machine_events.specs.declared.module.Slot.{Slot}
 use Rattle.machine_events.specs.declared.module.Slot.TheVariants as slots
@@ -43,8 +41,8 @@ use Rattle.machine_state.specs.Parts.{is_initialising, is_built_in, is_built_in_
 use Rattle.machine_state.specs.Known.{is_module, is_module_of, is_place_of, names_modules, slot_names_module}
 use Rattle.machine_state.specs.Waits.{wait_on, ask_object, ask_none, ask_slot}
 use Rattle.machine_state.specs.Bodies.{bound, bind_under, bind_parent, good_entry, finish_entry, closed, finish_object, finish_load, loaded_from, loaded_by}
-use Rattle.machine_state.specs.Variables.{sleeping, value_reply, get_reply, get_var, set_on, del_found, del_on, names_reply}
-use Rattle.machine_state.specs.Search.{path_add, listing_reply, ns_of, ns_reply, ns_get}
+use Rattle.machine_state.specs.Variables.{sleeping, value_reply, get_reply, set_on, del_found, del_on, names_reply}
+use Rattle.machine_state.specs.Search.{path_add, listing_reply, ns_of, ns_reply}
 use Rattle.machine_state.specs.Cache.{is_fixed, tab_set, tab_del}
 use Rattle.machine_state.specs.Reloads.{is_entry, busy_of, enter, reload_begin_on, reload_start, reload_take, kept_or_lost, reload_leave, reload_end_on}
 use Rattle.machine_state.specs.Lazies.{open_lazy, rouse_lazy, rouse_phase, rouse_on}
@@ -54,7 +52,7 @@ use Rattle.import_machine.proofs.Same.{either}
 use Rattle.import_machine.proofs.Holds.{same_text}
 use Rattle.import_machine.proofs.Lists.{pushed_at, pushed_last, within}
 use Rattle.import_machine.proofs.Leave.{fitting}
-use Rattle.thread_knowledge.specs.Shown.{named, numbered, load_numbered, slot_modules, modules_in}
+use Rattle.thread_knowledge.specs.Shown.{named, numbered, load_numbered, slot_modules}
 use Rattle.thread_knowledge.specs.Knowing.{Has}
 use Rattle.machine_knowledge.proofs.Values.{all_there, names_are, items_are, mapped_items}
 use Rattle.machine_knowledge.proofs.Grow.{Grow, Stays, grow_same, grow_pushed, grow_then, grow_changed, all_grow, names_grow, items_grow, longer}

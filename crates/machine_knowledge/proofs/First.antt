@@ -1,14 +1,10 @@
 -- At the opening no thread holds anything, and each value names modules that are there.
-use Rattle.std.proofs.Common.{◌≡◌, ◌⊎◌, ℕ, zero, suc, ◌+◌, ◌<◌, ◌≤◌, arith, Bool, true, false, cond, List, [], ◌∷◌, ◌++◌, map, length, codes, Option, Some, None, refl, sym, ap, subst, ◌∙◌, inl, inr}
-use Rattle.std.specs.Prelude.{slice_get, nat_eq, is_none, is_some}
-use Rattle.std.specs.List.{list_all, sum}
+use Rattle.std.proofs.Common.{◌≡◌, ◌⊎◌, ℕ, zero, suc, ◌+◌, arith, true, false, cond, List, [], ◌∷◌, map, length, codes, Option, Some, None, refl, sym, ap, subst, ◌∙◌, inl, inr}
+use Rattle.std.specs.Prelude.{slice_get, is_none, is_some}
 use Rattle.std.specs.Ordering.{nat_cmp}
 use Rattle.std.specs.Cmp.Lexicographic.{slice_cmp, nat_list_cmp_total}
 use Rattle.std.specs.FinMap.{get, get-empty, get-insert}
 use Rattle.std.proofs.lemmas.Bool.{false≢true}
-use Rattle.std.proofs.lemmas.List.{length-append}
-use Rattle.py_value.specs.declared.value.ModRef.{ModRef}
-use Rattle.py_value.specs.declared.value.Value.{Value}
 use Rattle.py_value.specs.declared.value.Value.TheVariants as values
 use Rattle.py_value.specs.declared.kind.Native.TheVariants as natives
 use Rattle.machine_events.specs.Modules.{module_of}
@@ -17,25 +13,23 @@ use Rattle.machine_events.specs.declared.module.Slot.TheVariants as slots
 use Rattle.module_table.specs.Tables.{new_table}
 use Rattle.module_table.specs.declared.module.Object.{Object}
 use Rattle.module_table.specs.declared.module.Load.{Load}
-use Rattle.module_table.specs.declared.module.LoadKind.{LoadKind}
 use Rattle.module_table.specs.declared.module.LoadKind.TheVariants as load_kinds
 use Rattle.module_table.specs.declared.module.Reload.{Reload}
 use Rattle.module_table.specs.declared.table.Table.{Table}
-use Rattle.machine_state.specs.declared.state.State.{State}
 use Rattle.machine_state.specs.Parts.{is_imported}
 use Rattle.machine_state.specs.Known.{slot_names_module}
 use Rattle.machine_state.specs.Allowed.{is_reload}
 use Rattle.machine_state.specs.Opening.{opening, script_object, script_objects, script_load, script_loads, sys_module, importlib_module, pyimport_module, with_cached, with_scripts}
-use Rattle.import_machine.specs.Bones.{Bones, Module, Body, bones, body_bone, opens, held, held_by}
+use Rattle.import_machine.specs.Bones.{Module, Body, bones, body_bone, held, held_by}
 use Rattle.import_machine.proofs.Counts.{bit}
 use Rattle.import_machine.specs.Begun.{Begun, first}
 use Rattle.import_machine.proofs.Holds.{same_text}
 use Rattle.import_machine.proofs.Lists.{pushed_at, pushed_last}
 use Rattle.import_machine.proofs.Same.{unmap}
 use Rattle.import_machine.proofs.Always.{sound_first}
-use Rattle.thread_knowledge.specs.Shown.{Shown, Running, shown_first}
-use Rattle.machine_knowledge.proofs.Grow.{Grow, grow_pushed}
-use Rattle.machine_knowledge.proofs.Named.{FitsVar, EachVar, HasNames, AreNamed, text_fits, nothing_fits, sys_modules_named, sys_path_named, native_named, texts_all, named_grown}
+use Rattle.thread_knowledge.specs.Shown.{Running}
+use Rattle.machine_knowledge.proofs.Grow.{grow_pushed}
+use Rattle.machine_knowledge.proofs.Named.{HasNames, AreNamed, text_fits, nothing_fits, sys_modules_named, sys_path_named, native_named, texts_all, named_grown}
 use Rattle.machine_knowledge.proofs.Fine.{object_there}
 use Rattle.machine_knowledge.proofs.Agreeing.{Agrees, Backed, opened_by, reloads_by, opened_reload}
 

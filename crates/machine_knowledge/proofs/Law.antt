@@ -1,6 +1,6 @@
 -- What a thread knows to be allowed is allowed.
-use Rattle.std.proofs.Common.{◌≡◌, ◌<◌, ℕ, zero, suc, arith, Bool, true, false, cond, ◌&&◌, List, [], Option, Some, None, refl, sym, ap, subst, ◌∙◌, inl, inr, eqb}
-use Rattle.std.specs.Prelude.{slice_get, is_none, is_some, not, fold, length}
+use Rattle.std.proofs.Common.{◌≡◌, ◌<◌, ℕ, zero, suc, arith, true, false, cond, ◌&&◌, List, refl, ap, ◌∙◌}
+use Rattle.std.specs.Prelude.{slice_get, is_none, not, length}
 use Rattle.std.specs.FinMap.{get}
 use Rattle.std.proofs.lemmas.Bool.{false≢true, and_from}
 use Rattle.machine_events.specs.declared.event.Event.{Event}
@@ -14,7 +14,7 @@ use Rattle.import_machine.specs.Bones.{bones}
 use Rattle.import_machine.specs.Begun.{Begun, first}
 use Rattle.import_machine.proofs.Going.{same_rounds}
 use Rattle.import_machine.proofs.Lists.{within}
-use Rattle.thread_knowledge.specs.Shown.{Shown, Doing, Running, shown, shown_first}
+use Rattle.thread_knowledge.specs.Shown.{Shown, shown, shown_first}
 use Rattle.thread_knowledge.specs.Knowing.{Enough, IsShown, Knows}
 use Rattle.thread_knowledge.specs.Own.{own, HasEnded, Ready}
 use Rattle.machine_knowledge.proofs.Agreeing.{Agrees, is_idle, is_over}

@@ -1,9 +1,9 @@
 -- How often a thread owns a lock, exactly, after one was taken or given back.
-use Rattle.std.proofs.Common.{◌≡◌, ◌≢◌, ℕ, ◌+◌, ◌-◌, ◌<◌, arith, Bool, true, false, cond, List, Option, Some, None, refl, sym, ap, subst, ◌∙◌, leb, eqb, inl, inr}
+use Rattle.std.proofs.Common.{◌≡◌, ◌≢◌, ℕ, ◌+◌, ◌-◌, ◌<◌, arith, true, false, cond, List, Option, Some, None, refl, sym, ap, subst, ◌∙◌, leb, eqb, inl, inr}
 use Rattle.std.specs.Prelude.{nat_eq}
 use Rattle.std.specs.Cmp.Lexicographic.{pointwise, nat_list_cmp_total, nat_list_eq_equiv}
 use Rattle.std.specs.FinMap.{get, insert, remove, get-insert, get-remove}
-use Rattle.std.proofs.lemmas.Bool.{false≢true, eqb-true, eqb-false, ne_eqb, leb-true, leb-false, eq-eqb}
+use Rattle.std.proofs.lemmas.Bool.{false≢true, eqb-true, ne_eqb, leb-true, leb-false}
 use Rattle.std.proofs.lemmas.Slice.Eq.{bytes_eq-Decides}
 use Rattle.module_lock.specs.declared.locks.Lock.{Lock}
 use Rattle.module_lock.specs.Table.{Table, lock_of, got, given, lowered, taken_count, is_free, is_free_for}

@@ -1,10 +1,9 @@
 -- Whoever is alone in a round never waits.
-use Rattle.std.proofs.Common.{◌≡◌, ◌<◌, ℕ, zero, suc, arith, Bool, true, false, cond, ◌&&◌, List, [], ◌∷◌, Option, Some, None, refl, sym, ap, subst, ◌∙◌, eqb}
-use Rattle.std.specs.Prelude.{slice_get, is_none, is_some, not, fold, option_and_then}
+use Rattle.std.proofs.Common.{◌≡◌, ◌<◌, ℕ, arith, Bool, true, false, cond, ◌&&◌, List, [], ◌∷◌, Option, Some, None, refl, sym, ap, subst, ◌∙◌, eqb}
+use Rattle.std.specs.Prelude.{slice_get, is_some, not, fold, option_and_then}
 use Rattle.std.specs.Option.{option_map}
-use Rattle.std.specs.Ordering.{nat_cmp}
 use Rattle.std.specs.Cmp.{nat_cmp_total, eq_by_cmp_equiv}
-use Rattle.std.specs.FinMap.{get, insert, get-insert}
+use Rattle.std.specs.FinMap.{get, get-insert}
 use Rattle.std.proofs.lemmas.Bool.{false≢true, and_parts, eqb-true}
 use Rattle.py_value.specs.declared.value.ModRef.{ModRef}
 use Rattle.spec_core.specs.declared.spec.Spec.{Spec}
@@ -17,7 +16,7 @@ use Rattle.machine_events.specs.declared.event.Entry.{Entry}
 use Rattle.machine_events.specs.declared.event.Reply.{Reply}
 use Rattle.machine_events.specs.declared.event.Reply.TheVariants as replies
 use Rattle.module_lock.specs.declared.locks.Lock.{Lock}
-use Rattle.module_lock.specs.Table.{Table, lock_of, owner_of, next, closes, is_free, is_free_for, owns, owns_by, got, waiting}
+use Rattle.module_lock.specs.Table.{lock_of, owner_of, next, closes, is_free, is_free_for, owns, got, waiting}
 use Rattle.module_lock.proofs.Kept.{acyclic-waiting}
 use Rattle.module_table.specs.declared.module.Object.{Object}
 use Rattle.module_table.specs.declared.module.Load.{Load}
@@ -26,14 +25,14 @@ use Rattle.module_table.specs.declared.module.LoadStage.TheVariants as stages
 use Rattle.module_table.specs.declared.module.Phase.{Phase}
 use Rattle.module_table.specs.declared.module.Phase.TheVariants as phases
 use Rattle.machine_state.specs.declared.state.State.{State}
-use Rattle.machine_state.specs.Parts.{is_initialising, is_open, is_imported}
+use Rattle.machine_state.specs.Parts.{is_initialising, is_open}
 use Rattle.machine_state.specs.Waits.{wait_on, ask_object, ask_none, ask_slot}
 use Rattle.machine_state.specs.Reloads.{is_entry, reload_start, reload_take}
 use Rattle.machine_state.specs.Lazies.{open_lazy, rouse_lazy, rouse_phase, rouse_on}
 use Rattle.machine_state.specs.Opening.{round_starts}
 use Rattle.machine_state.specs.Step.{step}
-use Rattle.machine_state.specs.Legal.{replay, IsLegal}
-use Rattle.import_machine.specs.Bones.{bones, Module, Body, module_bone, counts_in, opens, held, held_by}
+use Rattle.machine_state.specs.Legal.{IsLegal}
+use Rattle.import_machine.specs.Bones.{bones, Module, module_bone, counts_in, opens, held_by}
 use Rattle.import_machine.specs.Sound.{IsSound, IsRunning, FitsPhase, HasBody, phase_of}
 use Rattle.import_machine.specs.Answered.{SomeoneGoesOn}
 use Rattle.import_machine.specs.Begun.{Begun, first}

@@ -1,9 +1,8 @@
 -- Which events make loads.
-use Rattle.std.proofs.Common.{◌≡◌, ◌⊎◌, ℕ, ◌+◌, arith, Bool, true, false, cond, ◌&&◌, List, [], ◌∷◌, ◌++◌, map, length, Option, Some, None, refl, sym, ap, subst, ◌∙◌, inl, inr}
-use Rattle.std.specs.Prelude.{slice_get, not, nat_lt, sum_by, count_by}
+use Rattle.std.proofs.Common.{◌≡◌, ◌⊎◌, ℕ, ◌+◌, arith, Bool, false, ◌&&◌, List, [], ◌∷◌, ◌++◌, length, Option, Some, None, refl, ap, ◌∙◌, inl, inr}
+use Rattle.std.specs.Prelude.{slice_get, not, nat_lt}
 use Rattle.std.specs.FinMap.{get}
 use Rattle.std.proofs.lemmas.List.{map-append}
-use Rattle.std.proofs.lemmas.List.Sums.{sum_by-cons}
 use Rattle.py_value.specs.declared.value.ModRef.{ModRef}
 use Rattle.py_value.specs.declared.value.Value.{Value}
 use Rattle.spec_core.specs.Names.{parent_of}
@@ -17,6 +16,7 @@ use Rattle.machine_events.specs.declared.event.Reply.{Reply}
 use Rattle.module_lock.specs.Table.{is_free, owns}
 use Rattle.module_table.specs.Lists.{changed}
 use Rattle.module_table.specs.Vars.{var_of}
+use Rattle.module_table.specs.declared.table.Table.{Table}
 use Rattle.module_table.specs.declared.module.Object.{Object}
 use Rattle.module_table.specs.declared.module.Load.{Load}
 use Rattle.module_table.specs.declared.module.Reload.{Reload}
@@ -35,8 +35,9 @@ use Rattle.machine_state.specs.Reloads.{is_entry, enter, reload_begin_on, reload
 use Rattle.machine_state.specs.Lazies.{open_lazy, rouse_lazy, rouse_phase, rouse_on}
 use Rattle.machine_state.specs.Opening.{script_loads}
 use Rattle.machine_state.specs.Step.{step}
-use Rattle.machine_state.specs.Legal.{replay, IsLegal}
+use Rattle.machine_state.specs.Legal.{replay}
 use Rattle.import_machine.specs.Begun.{Begun, first}
+use Rattle.import_machine.proofs.Counts.{bit}
 use Rattle.import_machine.proofs.Same.{either, kept_map}
 use Rattle.machine_knowledge.specs.Loads.{kinds_of, MadeBy, mains}
 
@@ -162,7 +163,7 @@ made_step s t (events.Names mid) = refl
 made_step s t (events.Source load) = refl
 made_step s t (events.Print text) = refl
 made_step s t events.PathGet = refl
-made_step s t (events.PathAdd at v) = either (λ table. kinds_of table.loads ≡ kinds_of s.table.loads) (nat_lt (length s.table.path) 4096) _ _ refl refl
+made_step s t (events.PathAdd at v) = either (λ (table : Table). kinds_of table.loads ≡ kinds_of s.table.loads) (nat_lt (length s.table.path) 4096) _ _ refl refl
 made_step s t (events.DirGet dir part) = refl
 made_step s t (events.DirSet dir listing) = refl
 made_step s t events.Invalidate = refl
@@ -182,8 +183,8 @@ made_step s t (events.End outcome spent) = refl
 -- Loads of scripts.
 
 mains_push : (ks : List LoadKind) (k : LoadKind) → is_main k ≡ false → mains (ks ++ k ∷ []) ≡ mains ks
-mains_push [] k h = ap (λ c. cond c 1 0) h
-mains_push (x ∷ ks) k h = let rest = mains_push ks k h in ap (λ n. cond (is_main x) 1 0 + n) rest
+mains_push [] k h = let none : bit (is_main k) ≡ 0 = ap bit h in omega arith
+mains_push (x ∷ ks) k h = let rest = mains_push ks k h in ap (λ n. bit (is_main x) + n) rest
 
 mains_made : (ks ks' : List LoadKind) (k : LoadKind) → is_main k ≡ false → (ks' ≡ ks) ⊎ (ks' ≡ ks ++ k ∷ []) → mains ks' ≡ mains ks
 mains_made ks ks' k h (inl same) = ap mains same

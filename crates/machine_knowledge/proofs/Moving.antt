@@ -1,5 +1,5 @@
 -- What each kind of change does to what a thread holds, and that it leaves what the others hold.
-use Rattle.std.proofs.Common.{◌≡◌, ◌≢◌, ℕ, zero, suc, ◌+◌, ◌<◌, arith, Bool, true, false, cond, ◌&&◌, List, [], ◌∷◌, ◌++◌, length, Option, Some, None, refl, sym, ap, subst, ◌∙◌, inl, inr}
+use Rattle.std.proofs.Common.{◌≡◌, ◌≢◌, ℕ, ◌+◌, ◌<◌, arith, Bool, true, false, cond, ◌&&◌, List, [], ◌∷◌, ◌++◌, length, Option, Some, None, refl, sym, ap, subst, ◌∙◌, inl, inr}
 use Rattle.std.specs.Prelude.{nat_eq, slice_get, slice_set, is_none, is_some}
 use Rattle.std.specs.Cmp.{nat_cmp_total, eq_by_cmp_equiv}
 use Rattle.std.specs.Cmp.Lexicographic.{pointwise, nat_list_cmp_total, nat_list_eq_equiv}
@@ -10,14 +10,13 @@ use Rattle.std.proofs.lemmas.Bool.Decides.{nat_tests}
 use Rattle.module_lock.specs.Table.{is_free, got, given, waiting, woken}
 use Rattle.module_table.specs.declared.module.LoadKind.{LoadKind}
 use Rattle.module_table.specs.declared.module.LoadKind.TheVariants as load_kinds
-use Rattle.module_table.specs.declared.module.LoadStage.{LoadStage}
 use Rattle.module_table.specs.declared.module.LoadStage.TheVariants as stages
 use Rattle.module_table.specs.declared.module.Phase.TheVariants as phases
 use Rattle.module_table.specs.declared.module.Reload.{Reload}
-use Rattle.machine_state.specs.Parts.{is_open, is_main, is_imported}
+use Rattle.machine_state.specs.Parts.{is_open, is_imported}
 use Rattle.machine_state.specs.Allowed.{is_reload}
 use Rattle.import_machine.specs.Bones.{Bones, Module, Body, counts_in, opens, held}
-use Rattle.import_machine.specs.Sound.{AreSound, phase_of}
+use Rattle.import_machine.specs.Sound.{AreSound}
 use Rattle.import_machine.proofs.Counts.{bit, opens_push, opens_set}
 use Rattle.import_machine.proofs.Holds.{same_text, same_name, same_self}
 use Rattle.import_machine.proofs.Lists.{pushed_last, pushed_at, set_at, within}
@@ -29,7 +28,7 @@ use Rattle.thread_knowledge.specs.Holdings.{Holding, Taken, Loading, Reloading, 
 use Rattle.thread_knowledge.specs.Shown.{Doing, Running, Waiting, Over}
 use Rattle.machine_knowledge.proofs.Times.{times, times_without, times_becoming, holding_self}
 use Rattle.machine_knowledge.proofs.Locks.{got_own, got_other, given_own, given_other, counted_got, counted_given}
-use Rattle.machine_knowledge.proofs.Agreeing.{opened_by, reloads_by, is_idle, is_over, Agrees, Apart, Backed, opened_push, opened_set, reloads_set, reloads_push, reloads_moved, reload_own, reload_other, opened_own, opened_other, opened_not, opened_reload, counts_here, counts_other, counts_closed}
+use Rattle.machine_knowledge.proofs.Agreeing.{opened_by, reloads_by, Agrees, Apart, Backed, opened_push, opened_set, reloads_set, reloads_push, reloads_moved, reload_own, reload_other, opened_own, opened_other, opened_not, opened_reload, counts_here, counts_other, counts_closed}
 
 same_number : (x t : ℕ) → eq_by_cmp nat_cmp x t ≡ true → x ≡ t
 same_number x t h = grind (arith, nat_tests)
@@ -436,11 +435,13 @@ module _ (b : Bones) (sound : AreSound b) (backed : Backed b) (u : ℕ) where
     backed_entered none = record {
       counts = backed.counts;
       again = λ i l is opened kind.
-          let old = backed.again i l is opened kind in
-          (old.0, get-insert nat_list_cmp_total b.reloads n fresh old.0 ∙ elim (same_text old.0 n) as (λ c. same_text old.0 n ≡ c → cond c (Some fresh) (get b.reloads old.0) ≡ Some (record { thread = l.thread; mid = l.mid; load = Some i })) [
-            | true ↦ λ p. let e : None ≡ Some (record { thread = l.thread; mid = l.mid; load = Some i }) = sym none ∙ ap (get b.reloads) (sym (same_name old.0 n p)) ∙ old.1 in absurd (let z : ⊥ = cc in z)
-            | false ↦ λ p. old.1
-          ] refl);
+          let old = backed.again i l is opened kind in (
+            old.0,
+            get-insert nat_list_cmp_total b.reloads n fresh old.0 ∙ elim (same_text old.0 n) as (λ c. same_text old.0 n ≡ c → cond c (Some fresh) (get b.reloads old.0) ≡ Some (record { thread = l.thread; mid = l.mid; load = Some i })) [
+              | true ↦ λ p. let e : None ≡ Some (record { thread = l.thread; mid = l.mid; load = Some i }) = sym none ∙ ap (get b.reloads) (sym (same_name old.0 n p)) ∙ old.1 in absurd (let z : ⊥ = cc in z)
+              | false ↦ λ p. old.1
+            ] refl,
+          );
     }
 
     abbrev reload_body : Body
@@ -509,18 +510,22 @@ module _ (b : Bones) (sound : AreSound b) (backed : Backed b) (u : ℕ) where
       counts = counted_got b.locks backed.counts u n;
       again = λ i l is opened kind. elim (pushed_at b.bodies reload_body i l is) [
         | inl old ↦
-            let back = backed.again i l old opened kind in
-            (back.0, get-insert nat_list_cmp_total b.reloads n running back.0 ∙ elim (same_text back.0 n) as (λ c. same_text back.0 n ≡ c → cond c (Some running) (get b.reloads back.0) ≡ Some (record { thread = l.thread; mid = l.mid; load = Some i })) [
-              | true ↦ λ p.
-                  let e : Some fresh ≡ Some (record { thread = l.thread; mid = l.mid; load = Some i }) = sym runs ∙ ap (get b.reloads) (sym (same_name back.0 n p)) ∙ back.1 in
-                  let f : None ≡ Some i = same_load fresh (record { thread = l.thread; mid = l.mid; load = Some i }) e in
-                  absurd (let z : ⊥ = cc in z)
-              | false ↦ λ p. back.1
-            ] refl)
-        | inr new ↦
-            (n, get-insert nat_list_cmp_total b.reloads n running n ∙ ap (λ c. cond c (Some running) (get b.reloads n)) (same_self n)
-            ∙ ap (λ k. Some (record { thread = u; mid = mid; load = Some k })) (sym new.0)
-            ∙ ap (λ (z : Body). Some (record { thread = z.thread; mid = z.mid; load = Some i })) (sym new.1))
+            let back = backed.again i l old opened kind in (
+              back.0,
+              get-insert nat_list_cmp_total b.reloads n running back.0 ∙ elim (same_text back.0 n) as (λ c. same_text back.0 n ≡ c → cond c (Some running) (get b.reloads back.0) ≡ Some (record { thread = l.thread; mid = l.mid; load = Some i })) [
+                | true ↦ λ p.
+                    let e : Some fresh ≡ Some (record { thread = l.thread; mid = l.mid; load = Some i }) = sym runs ∙ ap (get b.reloads) (sym (same_name back.0 n p)) ∙ back.1 in
+                    let f : None ≡ Some i = same_load fresh (record { thread = l.thread; mid = l.mid; load = Some i }) e in
+                    absurd (let z : ⊥ = cc in z)
+                | false ↦ λ p. back.1
+              ] refl,
+            )
+        | inr new ↦ (
+          n,
+          get-insert nat_list_cmp_total b.reloads n running n ∙ ap (λ c. cond c (Some running) (get b.reloads n)) (same_self n)
+              ∙ ap (λ k. Some (record { thread = u; mid = mid; load = Some k })) (sym new.0)
+              ∙ ap (λ (z : Body). Some (record { thread = z.thread; mid = z.mid; load = Some i })) (sym new.1),
+        )
       ];
     }
       where

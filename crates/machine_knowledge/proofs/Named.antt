@@ -1,11 +1,11 @@
 -- Each value and each cache entry of a table names modules of the table, and a namespace's path stands only in a module that has
 -- the state of a namespace.
-use Rattle.std.proofs.Common.{◌≡◌, ◌⊎◌, ℕ, Bool, true, false, cond, ◌&&◌, List, [], ◌∷◌, ◌++◌, map, length, codes, Option, Some, None, refl, sym, ap, subst, ◌∙◌, inl, inr, eqb}
-use Rattle.std.specs.Prelude.{slice_get, slice_set, nat_eq, is_some}
+use Rattle.std.proofs.Common.{◌≡◌, ◌⊎◌, ℕ, Bool, true, false, cond, ◌&&◌, List, [], ◌∷◌, map, codes, Option, Some, None, refl, sym, ap, subst, ◌∙◌, inl, inr}
+use Rattle.std.specs.Prelude.{slice_get, nat_eq, is_some}
 use Rattle.std.specs.List.{list_all}
 use Rattle.std.specs.Cmp.Lexicographic.{pointwise}
 use Rattle.std.specs.FinMap.{get}
-use Rattle.std.proofs.lemmas.Bool.{false≢true, eqb-true, eqb-false}
+use Rattle.std.proofs.lemmas.Bool.{false≢true}
 use Rattle.spec_core.specs.Packages.{package_of}
 use Rattle.spec_core.specs.declared.spec.Spec.{Spec}
 use Rattle.spec_core.specs.declared.spec.SpecKind.{SpecKind}
@@ -29,8 +29,8 @@ use Rattle.module_table.specs.declared.table.Table.{Table}
 use Rattle.machine_state.specs.Parts.{value_of}
 use Rattle.machine_state.specs.Known.{is_module, names_modules, names_modules_at, slot_names_module}
 use Rattle.machine_state.specs.Allowed.{is_ns_path}
-use Rattle.import_machine.proofs.Lists.{pushed_at, set_at}
-use Rattle.machine_knowledge.proofs.Grow.{Grow, Stays, names_grow, items_grow, there_grow}
+use Rattle.import_machine.proofs.Lists.{set_at}
+use Rattle.machine_knowledge.proofs.Grow.{Grow, names_grow, items_grow, there_grow}
 
 -- a value of a module with or without a namespace state
 abbrev pub FitsVar : Table → Option NsState → Value → Type 0

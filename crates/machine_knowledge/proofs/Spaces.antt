@@ -1,5 +1,5 @@
 -- A module that a thread's pairs show to have the state of a namespace has one.
-use Rattle.std.proofs.Common.{◌≡◌, ◌<◌, ℕ, Bool, true, false, cond, ◌&&◌, List, [], ◌∷◌, ◌++◌, length, codes, Option, Some, None, refl, sym, ap, subst, ◌∙◌, inl, inr}
+use Rattle.std.proofs.Common.{◌≡◌, ℕ, Bool, true, false, cond, ◌&&◌, List, [], ◌∷◌, length, codes, Option, Some, None, refl, sym, ap, subst, ◌∙◌, inl, inr}
 use Rattle.std.specs.Prelude.{slice_get, nat_eq, is_some}
 use Rattle.std.specs.Cmp.Lexicographic.{pointwise}
 use Rattle.std.specs.FinMap.{get}
@@ -12,19 +12,17 @@ use Rattle.py_value.specs.declared.value.Value.TheOpen.{Value-F}
 use Rattle.py_value.specs.declared.value.NsState.{NsState}
 use Rattle.machine_events.specs.declared.event.Event.{Event}
 use Rattle.machine_events.specs.declared.event.Event.TheVariants as events
-use Rattle.machine_events.specs.declared.event.Reply.{Reply}
 use Rattle.machine_events.specs.declared.event.Reply.TheVariants as replies
 use Rattle.module_lock.specs.Table.{closes, is_free}
 use Rattle.module_table.specs.Vars.{var_of}
 use Rattle.module_table.specs.Start.{start_ns}
 use Rattle.module_table.specs.Tables.{with_unit, restarted_object, ns_or}
-use Rattle.module_table.specs.Lists.{changed, changed_to}
+use Rattle.module_table.specs.Lists.{changed}
 use Rattle.module_table.specs.declared.module.Object.{Object}
 use Rattle.module_table.specs.declared.module.LoadKind.TheVariants as load_kinds
 use Rattle.module_table.specs.declared.module.LoadStage.TheVariants as stages
 use Rattle.module_table.specs.declared.module.Phase.TheVariants as phases
 use Rattle.machine_state.specs.declared.state.State.{State}
-use Rattle.machine_state.specs.Parts.{is_initialising}
 use Rattle.machine_state.specs.Waits.{wait_on}
 use Rattle.machine_state.specs.Variables.{sleeping, value_reply, get_reply}
 use Rattle.machine_state.specs.Reloads.{is_entry, reload_start, reload_take}
@@ -109,7 +107,7 @@ module _ (s : State) (keeps : AreNamed s.table) (t : ℕ) where
   again : (mid : ℕ) (spec : Spec) (text : List ℕ) (o : Object) → slice_get s.table.objects mid ≡ Some o → (i : ℕ) → Has (body_answered spec.kind (reload_take s t mid spec text).0) i → has_ns (slice_get (reload_take s t mid spec text).1.table.objects i) ≡ true
   again mid spec text o is i =
       elim (is_free s.locks t spec.name) as (λ c. Has (body_answered spec.kind (cond c (cond (is_entry mid (get s.table.cache spec.name)) (reload_start s t mid spec text) (replies.NotThere, s)) (wait_on s t spec.name replies.Deadlock)).0) i
-          → has_ns (slice_get (cond c (cond (is_entry mid (get s.table.cache spec.name)) (reload_start s t mid spec text) (replies.NotThere, s)) (wait_on s t spec.name replies.Deadlock)).1.table.objects i) ≡ true) [
+      → has_ns (slice_get (cond c (cond (is_entry mid (get s.table.cache spec.name)) (reload_start s t mid spec text) (replies.NotThere, s)) (wait_on s t spec.name replies.Deadlock)).1.table.objects i) ≡ true) [
         | true ↦ elim (is_entry mid (get s.table.cache spec.name)) as (λ c. Has (body_answered spec.kind (cond c (reload_start s t mid spec text) (replies.NotThere, s)).0) i → has_ns (slice_get (cond c (reload_start s t mid spec text) (replies.NotThere, s)).1.table.objects i) ≡ true) [
           | true ↦ began spec.kind (length s.table.loads) mid (λ k. has_ns (slice_get (changed (restarted_object spec) s.table.objects mid) k) ≡ true)
               (λ p. ap has_ns (ap (λ os. slice_get os mid) (changed_is (restarted_object spec) s.table.objects mid o is) ∙ set_there s.table.objects mid o (restarted_object spec o) is) ∙ ns_more o.ns (start_ns spec.kind) (has_start spec.kind p)) i

@@ -1,6 +1,6 @@
 -- Every allowed event keeps it true what the threads' own pairs show them to hold.
 use Rattle.std.proofs.Common.{◌≡◌, ◌≢◌, ℕ, ◌+◌, ◌<◌, arith, Bool, true, false, cond, ◌&&◌, List, [], ◌∷◌, ◌++◌, length, Option, Some, None, refl, sym, ap, subst, ◌∙◌, eqb}
-use Rattle.std.specs.Prelude.{ℤ, ◌==◌, slice_get, slice_set, is_some, not, nat_lt}
+use Rattle.std.specs.Prelude.{◌==◌, slice_get, slice_set, is_some, not}
 use Rattle.std.specs.FinMap.{get, insert, remove}
 use Rattle.std.proofs.lemmas.Bool.{and_parts, false≢true, eqb-true, eqb-false}
 use Rattle.std.proofs.lemmas.List.{map-append, length-map}
@@ -34,8 +34,8 @@ use Rattle.machine_state.specs.Reloads.{is_entry, busy_of, enter, reload_begin_o
 use Rattle.machine_state.specs.Lazies.{open_lazy, rouse_lazy, rouse_phase, rouse_on}
 use Rattle.machine_state.specs.Step.{step}
 use Rattle.machine_state.specs.Allowed.{allowed, can_finish, has_spare, has_text, has_body, has_name, is_reload, is_number, is_reloading, reloads_object}
-use Rattle.import_machine.specs.Bones.{Bones, Module, Body, bones, module_bone, body_bone, opens, held}
-use Rattle.import_machine.specs.Sound.{AreSound, IsSound, IsRunning, FitsPhase, HasBody, phase_of}
+use Rattle.import_machine.specs.Bones.{Bones, Module, Body, bones, module_bone, body_bone}
+use Rattle.import_machine.specs.Sound.{IsSound, IsRunning, FitsPhase, HasBody, phase_of}
 use Rattle.import_machine.proofs.Same.{either, changed_map, kept_map, map_at, unmap}
 use Rattle.import_machine.proofs.Lists.{changed_is}
 use Rattle.import_machine.proofs.Leave.{runs, idle, fitting, spare}
@@ -44,10 +44,10 @@ use Rattle.import_machine.proofs.Changes.{made_fits}
 use Rattle.import_machine.proofs.Kept.{sets_on, deletes_on, sets_tab, deletes_tab, adds_path, finishes_entry}
 use Rattle.import_machine.proofs.Again.{reload_there}
 use Rattle.thread_knowledge.specs.Holdings.{Holding, Taken, Loading, Reloading, without, becoming}
-use Rattle.thread_knowledge.specs.Shown.{Doing, Running, Waiting, Over, holds, does}
+use Rattle.thread_knowledge.specs.Shown.{Doing, Waiting, Over, holds, does}
 use Rattle.machine_knowledge.proofs.Times.{times}
 use Rattle.machine_knowledge.proofs.Agreeing.{Agrees, Apart, apart_agrees, Backed}
-use Rattle.machine_knowledge.proofs.Moving.{own_waits, other_waits, own_wakes, other_wakes, own_ends, other_ends, own_got, other_got, backed_got, own_given, other_given, backed_given, own_made, other_made, backed_made, own_lazy, other_lazy, backed_lazy, closed_given, own_closed, other_closed, backed_closed, begun_got, own_begun, other_begun, backed_begun, entered, own_entered, other_entered, backed_entered, started, own_started, other_started, backed_started, left, own_left, other_left, backed_left, done_given, own_done, other_done, backed_done}
+use Rattle.machine_knowledge.proofs.Moving.{own_waits, other_waits, own_wakes, other_wakes, own_ends, other_ends, own_got, other_got, backed_got, own_given, other_given, backed_given, own_made, other_made, backed_made, own_lazy, other_lazy, backed_lazy, closed_given, own_closed, other_closed, backed_closed, begun_got, own_begun, other_begun, backed_begun, own_entered, other_entered, backed_entered, started, own_started, other_started, backed_started, own_left, other_left, backed_left, done_given, own_done, other_done, backed_done}
 
 -- after the event of u each thread holds and does what its own pairs show, where it did before
 pub record Told (s : State) (u : ℕ) (e : Event) (p : Reply × State) : Type 0 where

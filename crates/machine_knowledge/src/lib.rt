@@ -15,7 +15,6 @@ ghost use Rattle.machine_knowledge.specs.Loads.{kinds_of, MadeBy, mains};
 
 /// In the state after every legal history an event is allowed that the thread's own pairs show to
 /// be allowed, once every thread of an earlier round has its End.
-#[tactic(auto, using(crate::proofs::Law::knows_allowed))]
 pub fn knows_is_allowed()
     ensures { (b : Begun) (history : List Entry) → IsLegal (first b) history → (t : ℕ) (e : Event) → Ready (first b).rounds history t → Knows t (own t history) e → Allowed (replay (first b) history) t e }
 {}

@@ -1,5 +1,5 @@
 -- Which events a thread's own events with their replies show to be allowed.
-use Rattle.std.specs.Prelude.{◌≡◌, ◌⊎◌, ◌≤◌, ℕ, Bool, true, false, None, List, [], ◌∷◌, flat_map, length}
+use Rattle.std.specs.Prelude.{◌≡◌, ◌⊎◌, ◌≤◌, ℕ, false, None, List, [], ◌∷◌, flat_map, length}
 use Rattle.py_value.specs.declared.value.Value.{Value}
 use Rattle.py_value.specs.declared.value.Value.TheVariants as values
 use Rattle.py_value.specs.declared.value.ModRef.{ModRef}
@@ -10,7 +10,7 @@ use Rattle.machine_events.specs.declared.module.Slot.TheVariants as slots
 use Rattle.machine_events.specs.declared.event.Event.{Event}
 use Rattle.machine_events.specs.declared.event.Event.TheVariants as e
 use Rattle.machine_events.specs.declared.event.Reply.{Reply}
-use Rattle.thread_knowledge.specs.Holdings.{Holding, Taken, Loading, Reloading}
+use Rattle.thread_knowledge.specs.Holdings.{Taken, Loading, Reloading}
 use Rattle.thread_knowledge.specs.Shown.{Shown, Running, Waiting, shown, modules_in, is_namespace_path}
 
 -- some item of a list is this one
