@@ -3,7 +3,6 @@ use Rattle.std.proofs.Common.{◌≡◌, ℕ, List, [], ◌∷◌, ◌++◌, con
 use Rattle.std.specs.Prelude.{filter, ◌==◌}
 use Rattle.std.proofs.lemmas.Bool.{eq-eqb}
 use Rattle.machine_events.specs.declared.event.Event.{Event}
-use Rattle.machine_events.specs.declared.event.Reply.{Reply}
 use Rattle.machine_events.specs.declared.event.Entry.{Entry}
 use Rattle.machine_state.specs.declared.state.State.{State}
 use Rattle.machine_state.specs.Step.{step}
@@ -11,8 +10,6 @@ use Rattle.machine_state.specs.Legal.{Allowed, replay, IsLegal}
 use Rattle.import_machine.specs.Begun.{Begun, first}
 use Rattle.thread_knowledge.specs.Knowing.{Knows, Waits}
 use Rattle.thread_knowledge.specs.Own.{own, Ready, IsLone}
-use Rattle.machine_knowledge.proofs.Law.{knows_allowed}
-use Rattle.machine_knowledge.proofs.Lone.{lone_waits_not}
 
 pub replay_snoc : (s : State) (h : List Entry) (e : Entry) → replay s (h ++ e ∷ []) ≡ (step (replay s h) e.thread e.event).1
 replay_snoc s [] e = refl
@@ -43,9 +40,11 @@ own_snoc t (x ∷ xs) e is =
     ]
 
 -- the laws on what a thread knows, from a state in which a machine begins
-pub allowed_here : (opening : State) (h : List Entry) (t : ℕ) (e : Event) → (b : Begun) × (first b ≡ opening) → IsLegal opening h → Ready opening.rounds h t → Knows t (own t h) e → Allowed (replay opening h) t e
-allowed_here opening h t e begun legal ready knows =
-    subst (λ (s : State). IsLegal s h → Ready s.rounds h t → Allowed (replay s h) t e) begun.1 (λ l r. knows_allowed begun.0 h l t e r knows) legal ready
+pub allowed_here : ((b : Begun) (history : List Entry) → IsLegal (first b) history → (t : ℕ) (e : Event) → Ready (first b).rounds history t → Knows t (own t history) e → Allowed (replay (first b) history) t e)
+    → (opening : State) (h : List Entry) (t : ℕ) (e : Event) → (b : Begun) × (first b ≡ opening) → IsLegal opening h → Ready opening.rounds h t → Knows t (own t h) e → Allowed (replay opening h) t e
+allowed_here law opening h t e begun legal ready knows =
+    subst (λ (s : State). IsLegal s h → Ready s.rounds h t → Allowed (replay s h) t e) begun.1 (λ l r. law begun.0 h l t e r knows) legal ready
 
-pub waits_not_here : (opening : State) (h : List Entry) (t : ℕ) → (b : Begun) × (first b ≡ opening) → IsLegal opening h → IsLone opening.rounds t → Waits t (own t h) → ⊥
-waits_not_here opening h t begun legal lone waits = subst (λ (s : State). IsLegal s h → IsLone s.rounds t → ⊥) begun.1 (λ l r. lone_waits_not begun.0 h l t r waits) legal lone
+pub waits_not_here : ((b : Begun) (history : List Entry) → IsLegal (first b) history → (t : ℕ) → IsLone (first b).rounds t → Waits t (own t history) → ⊥)
+    → (opening : State) (h : List Entry) (t : ℕ) → (b : Begun) × (first b ≡ opening) → IsLegal opening h → IsLone opening.rounds t → Waits t (own t h) → ⊥
+waits_not_here law opening h t begun legal lone waits = subst (λ (s : State). IsLegal s h → IsLone s.rounds t → ⊥) begun.1 (λ l r. law begun.0 h l t r waits) legal lone

@@ -8,7 +8,7 @@ use Rattle.machine_events.specs.declared.event.Reply.{Reply}
 use Rattle.machine_events.specs.declared.event.Reply.TheVariants.{Done}
 use Rattle.machine_events.specs.declared.event.Outcome.{Outcome}
 use Rattle.tree_files.specs.Files.{Files}
-use Rattle.thread_knowledge.specs.Holdings.{Holding, Taken, Loading, Reloading, is_number}
+use Rattle.thread_knowledge.specs.Holdings.{Holding, Taken, Loading, Reloading}
 use Rattle.thread_knowledge.specs.Shown.{Shown, Doing, Running, shown, shown_first, holds, does}
 use Rattle.thread_knowledge.specs.Knowing.{Has, IsShown}
 use Rattle.std.specs.Cmp.Lexicographic.{pointwise}

@@ -1,7 +1,7 @@
 -- A safe run that no call of the tree stops has a history.
-use Rattle.std.proofs.Common.{◌≡◌, ℕ, ◌+◌, ◌-◌, zero, suc, ◌<◌, arith, length, Bool, true, false, nat_lt, if◌then◌else◌, List, [], ◌∷◌, ◌++◌, map, Option, Some, None, refl, sym, ◌∙◌, ap, subst, inl}
+use Rattle.std.proofs.Common.{◌≡◌, ℕ, ◌+◌, ◌-◌, zero, suc, ◌<◌, arith, length, Bool, true, false, nat_lt, if◌then◌else◌, List, [], ◌∷◌, ◌++◌, Some, None, refl, sym, ◌∙◌, ap, subst}
 use Rattle.std.specs.Prelude.{slice_get, IsTrue}
-use Rattle.std.proofs.lemmas.Bool.{false≢true, and_from}
+use Rattle.std.proofs.lemmas.Bool.{false≢true}
 use Rattle.std.proofs.lemmas.List.{append-nil, append_assoc}
 use Rattle.tree_files.specs.Files.{Files}
 use Rattle.machine_events.specs.declared.event.Event.{Event}
@@ -13,7 +13,6 @@ use Rattle.machine_events.specs.declared.event.Outcome.{Outcome}
 use Rattle.machine_events.specs.declared.event.Outcome.TheVariants as o
 use Rattle.machine_events.specs.declared.event.Entry.{Entry}
 use Rattle.machine_state.specs.declared.state.State.{State}
-use Rattle.machine_state.specs.Step.{step}
 use Rattle.machine_state.specs.Opening.{round_starts}
 use Rattle.machine_state.specs.Allowed.{allowed, is_due, is_due_from}
 use Rattle.machine_state.specs.Legal.{IsLegal}
@@ -23,22 +22,20 @@ use Rattle.import_machine.specs.Begun.{Begun, first}
 use Rattle.import_machine.proofs.First.{rounds_long}
 use Rattle.import_machine.proofs.Going.{goes_step}
 use Rattle.import_machine.proofs.Leave.{runs}
-use Rattle.import_machine.proofs.Lists.{within}
 use Rattle.thread_knowledge.specs.Holdings.{Holding, Taken, Loading, Reloading}
-use Rattle.thread_knowledge.specs.Shown.{Shown, Running, Waiting, holds, shown_first, shown_more}
-use Rattle.thread_knowledge.specs.Knowing.{Enough, IsShown}
+use Rattle.thread_knowledge.specs.Shown.{Shown, Running, holds, shown_first, shown_more}
+use Rattle.thread_knowledge.specs.Knowing.{IsShown}
 use Rattle.thread_knowledge.specs.Own.{own, IsLone}
-use Rattle.machine_knowledge.proofs.Grow.{at_some}
 use Rattle.machine_knowledge.proofs.Agreeing.{Agrees}
 use Rattle.machine_knowledge.proofs.First.{agrees_first}
 use Rattle.machine_knowledge.proofs.Along.{Whole, Exists, whole_first, whole_step, exists_first, exists_more, agree_own}
 use Rattle.machine_knowledge.proofs.Law.{allowed_from}
 use Rattle.machine_knowledge.proofs.Lone.{is_waiting, lone_step}
-use Rattle.meanings.specs.Runs.{Run, Over, Pays, Looks, Makes, How, Ended, Spent, Came, Ending, told, spend, play, replies_of, gives, gives_up, Safe, MayMake, IsLast}
+use Rattle.meanings.specs.Runs.{Run, Over, Pays, Looks, Makes, How, Ended, Spent, Came, told, spend, play, replies_of, gives, gives_up, Safe, MayMake, IsLast}
 use Rattle.meanings.specs.Follows.{Ends}
 use Rattle.meanings.proofs.Stand.{given, still, may_give}
 use Rattle.solo_history.specs.Solo.{IsSolo, StopsBy}
-use Rattle.solo_history.proofs.One.{reply_of, state_after, pairs_from, how_from, entries_of, own_cons, outcome_by}
+use Rattle.solo_history.proofs.One.{reply_of, state_after, pairs_from, how_from, entries_of, outcome_by}
 
 -- What the machine makes of a run is that run on its replies.
 
@@ -204,10 +201,12 @@ solo_some f b run fuel one safe =
     let ps : List (Event × Reply) = pairs_from f opening spent in
     let how : How = how_from f opening spent in
     let last : IsLast how = last_from f spent opening (shown_first 0) all in
-    let outcome : Outcome = outcome_by None how in
-    (entries_of (ps ++ (End outcome fuel, Done) ∷ []), record {
-      legal = legal_made f b.rounds spent opening (shown_first 0) outcome fuel ready all;
-      outcome = outcome;
-      follows = record { before = ps; paid = fuel; how = how; whole = own_entries (ps ++ (End outcome fuel, Done) ∷ []); eval = made f spent opening []; ends = ends_by fuel how last };
-      stops = stops_by how fuel last;
-    })
+    let outcome : Outcome = outcome_by None how in (
+      entries_of (ps ++ (End outcome fuel, Done) ∷ []),
+      record {
+        legal = legal_made f b.rounds spent opening (shown_first 0) outcome fuel ready all;
+        outcome = outcome;
+        follows = record { before = ps; paid = fuel; how = how; whole = own_entries (ps ++ (End outcome fuel, Done) ∷ []); eval = made f spent opening []; ends = ends_by fuel how last };
+        stops = stops_by how fuel last;
+      },
+    )

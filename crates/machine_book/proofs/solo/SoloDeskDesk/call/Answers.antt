@@ -6,7 +6,7 @@ use Rattle.machine_book.proofs.Keeping.{continues_refl, continues_snoc}
 use Rattle.machine_book.proofs.solo.SoloDeskDesk.call.Goals as goal
 
 pub step-requires : goal.step-requires
-step-requires g c = allowed_here _ _ _ _ c.check_legal.ensures.begun c.check_legal.ensures.legal c.requires.ready c.requires.knows
+step-requires g c = allowed_here c.knows_is_allowed.ensures _ _ _ _ c.check_legal.ensures.begun c.check_legal.ensures.legal c.requires.ready c.requires.knows
 
 pub returns-in-Ok-clause-continues : goal.returns-in-Ok-clause-continues
 returns-in-Ok-clause-continues g c =
