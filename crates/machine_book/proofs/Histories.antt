@@ -1,9 +1,15 @@
 -- One more entry at the end of a history.
-use Rattle.std.proofs.Common.{◌≡◌, List, [], ◌∷◌, ◌++◌, refl, sym, ◌∙◌, ap}
+use Rattle.std.proofs.Common.{◌≡◌, ℕ, List, [], ◌∷◌, ◌++◌, cond, true, false, map, refl, sym, ◌∙◌, ap, subst, eqb}
+use Rattle.std.specs.Prelude.{filter, ◌==◌}
+use Rattle.std.proofs.lemmas.Bool.{eq-eqb}
+use Rattle.machine_events.specs.declared.event.Event.{Event}
 use Rattle.machine_events.specs.declared.event.Entry.{Entry}
 use Rattle.machine_state.specs.declared.state.State.{State}
 use Rattle.machine_state.specs.Step.{step}
 use Rattle.machine_state.specs.Legal.{Allowed, replay, IsLegal}
+use Rattle.import_machine.specs.Begun.{Begun, first}
+use Rattle.thread_knowledge.specs.Knowing.{Knows, Waits}
+use Rattle.thread_knowledge.specs.Own.{own, Ready, IsLone}
 
 pub replay_snoc : (s : State) (h : List Entry) (e : Entry) → replay s (h ++ e ∷ []) ≡ (step (replay s h) e.thread e.event).1
 replay_snoc s [] e = refl
@@ -23,3 +29,22 @@ book_snoc first m m' h h₁ h' e is may reply after same longer =
       after ∙ (ap (λ s. (step s e.thread e.event).1) is.0 ∙ sym (replay_snoc first h e)),
       legal_snoc first h e is.1 may (reply ∙ ap (λ s. (step s e.thread e.event).0) is.0),
     )
+
+-- one more entry of the thread
+pub own_snoc : (t : ℕ) (h : List Entry) (e : Entry) → e.thread ≡ t → own t (h ++ e ∷ []) ≡ own t h ++ (e.event, e.reply) ∷ []
+own_snoc t [] e is = ap (λ c. map (λ e. (e.event, e.reply)) (cond c (e ∷ []) [])) (eq-eqb e.thread t is)
+own_snoc t (x ∷ xs) e is =
+    elim (eqb x.thread t) as (λ c. map (λ e. (e.event, e.reply)) (cond c (x ∷ filter (λ e. e.thread == t) (xs ++ e ∷ [])) (filter (λ e. e.thread == t) (xs ++ e ∷ []))) ≡ map (λ e. (e.event, e.reply)) (cond c (x ∷ filter (λ e. e.thread == t) xs) (filter (λ e. e.thread == t) xs)) ++ (e.event, e.reply) ∷ []) [
+      | true ↦ ap (λ w. (x.event, x.reply) ∷ w) (own_snoc t xs e is)
+      | false ↦ own_snoc t xs e is
+    ]
+
+-- the laws on what a thread knows, from a state in which a machine begins
+pub allowed_here : ((b : Begun) (history : List Entry) → IsLegal (first b) history → (t : ℕ) (e : Event) → Ready (first b).rounds history t → Knows t (own t history) e → Allowed (replay (first b) history) t e)
+    → (opening : State) (h : List Entry) (t : ℕ) (e : Event) → (b : Begun) × (first b ≡ opening) → IsLegal opening h → Ready opening.rounds h t → Knows t (own t h) e → Allowed (replay opening h) t e
+allowed_here law opening h t e begun legal ready knows =
+    subst (λ (s : State). IsLegal s h → Ready s.rounds h t → Allowed (replay s h) t e) begun.1 (λ l r. law begun.0 h l t e r knows) legal ready
+
+pub waits_not_here : ((b : Begun) (history : List Entry) → IsLegal (first b) history → (t : ℕ) → IsLone (first b).rounds t → Waits t (own t history) → ⊥)
+    → (opening : State) (h : List Entry) (t : ℕ) → (b : Begun) × (first b ≡ opening) → IsLegal opening h → IsLone opening.rounds t → Waits t (own t h) → ⊥
+waits_not_here law opening h t begun legal lone waits = subst (λ (s : State). IsLegal s h → IsLone s.rounds t → ⊥) begun.1 (λ l r. law begun.0 h l t r waits) legal lone

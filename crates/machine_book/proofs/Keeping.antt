@@ -1,12 +1,14 @@
 -- An outlet that keeps up, one entry at a time.
-use Rattle.std.proofs.Common.{◌≡◌, ℕ, ◌≤◌, List, [], ◌∷◌, ◌++◌, Option, Some, None, refl, sym, ◌∙◌, ap, arith}
+use Rattle.std.proofs.Common.{◌≡◌, ℕ, ◌≤◌, List, [], ◌∷◌, ◌++◌, Option, Some, None, refl, sym, ◌∙◌, ap, subst, arith, inl, inr}
 use Rattle.std.proofs.lemmas.List.{append-nil, append_assoc}
 use Rattle.std.proofs.lemmas.Grind.{flat_map-append}
 use Rattle.tree_files.specs.Count.{Rose}
 use Rattle.machine_events.specs.declared.event.Entry.{Entry}
 use Rattle.machine_book.specs.declared.outlet.Flow.{Flow}
 use Rattle.machine_book.specs.declared.outlet.Flow.TheVariants.{Open, Failed, Short}
-use Rattle.machine_book.specs.Sight.{Sight, Telling, KeepsUp, Continues}
+use Rattle.machine_state.specs.declared.state.State.{State}
+use Rattle.thread_knowledge.specs.Own.{HasEnded, Ready}
+use Rattle.machine_book.specs.Sight.{Sight, Telling, KeepsUp, IsReady, Continues}
 use Rattle.machine_book.specs.Outgo.{Outgo, Pieces, Kept, text_of, Appends, AppendsPart, Flows, FlowsFrom}
 
 appends_then : (a b c : Option (List ℕ)) (x y : List ℕ) → Appends a b x → Appends b c y → Appends a c (x ++ y)
@@ -110,3 +112,22 @@ continues_refl a = record { opening = refl; number = refl; place = refl; seen = 
 -- one entry more
 pub continues_snoc : (a b : Sight) (e : Entry) → b.opening ≡ a.opening → b.number ≡ a.number → b.place ≡ a.place → b.seen ≡ a.seen ++ e ∷ [] → KeepsUp a.telling b.telling (e ∷ []) → Continues a b
 continues_snoc a b e o n p s k = record { opening = o; number = n; place = p; seen = record { rest = e ∷ []; joined = sym s }; keeps = k }
+
+-- who has an End in a history has it in a longer one
+ended_longer : (xs ys : List Entry) (t : ℕ) → HasEnded xs t → HasEnded (xs ++ ys) t
+ended_longer [] ys t h = absurd h
+ended_longer (x ∷ xs) ys t (inl here) = inl here
+ended_longer (x ∷ xs) ys t (inr later) = inr (ended_longer xs ys t later)
+
+pub ready_longer : (rounds : List ℕ) (old more new : List Entry) (t : ℕ) → old ++ more ≡ new → Ready rounds old t → Ready rounds new t
+ready_longer rounds old more new t is ready = record {
+  first = ready.first;
+  round = ready.round;
+  ended = λ u less. subst (λ h. HasEnded h u) is (ended_longer old more u (ready.ended u less));
+}
+
+-- a desk that is ready stays so
+pub ready_on : (a b : Sight) → Continues a b → IsReady a → IsReady b
+ready_on a b c ready =
+    let longer : Ready a.opening.rounds b.seen a.number = ready_longer a.opening.rounds a.seen c.seen.rest b.seen a.number c.seen.joined ready in
+    subst (λ n. Ready b.opening.rounds b.seen n) (sym c.number) (subst (λ (s : State). Ready s.rounds b.seen a.number) (sym c.opening) longer)

@@ -7,6 +7,7 @@ use Rattle.machine_events.specs.declared.event.Entry.{Entry}
 use Rattle.machine_events.specs.Fitting.{Fits}
 use Rattle.machine_state.specs.declared.state.State.{State}
 use Rattle.machine_state.specs.Legal.{IsLegal}
+use Rattle.thread_knowledge.specs.Own.{Ready}
 use Rattle.machine_book.specs.Histories.{Begins, EndsWith}
 use Rattle.machine_book.specs.Outgo.{Outgo, Pieces, Kept}
 
@@ -35,6 +36,10 @@ pub record Sight : Type 0 where
   pub telling : Option Telling
   -- the thread's own events with their replies
   pub mine : List (Event × Reply)
+
+-- the desk's thread is one of the scripts, and every thread of an earlier round has its End in what is seen
+abbrev pub IsReady : Sight → Type 0
+IsReady sight = Ready sight.opening.rounds sight.seen sight.number
 
 -- no call changes the first three, and the history only grows
 pub record Continues (old new : Sight) : Type 0 where

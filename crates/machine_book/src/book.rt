@@ -2,7 +2,8 @@
 ghost use Rattle.std.specs.Prelude.{◌≡◌, ◌++◌, ◌∷◌, [], OnErr, IfOk};
 ghost use Rattle.machine_events.specs.Fitting.{Fits};
 ghost use Rattle.machine_state.specs.Legal.{Allowed, IsLegal, replay};
-ghost use Rattle.machine_book.specs.Bound.{opened};
+ghost use Rattle.import_machine.specs.Begun.{Begun, first};
+ghost use Rattle.machine_book.specs.Bound.{opened, CanOpen};
 ghost use Rattle.machine_book.specs.Outgo.{Kept};
 
 use crate::opening::Opening;
@@ -25,7 +26,7 @@ pub struct Book<O: Outlet> {
 impl<O: Outlet> Model for Book<O> {
     ghost use Rattle.std.specs.Prelude.{◌≡◌};
     ghost use Rattle.machine_state.specs.Legal.{IsLegal, replay};
-    ghost use Rattle.machine_book.specs.Bound.{BoundTo, opened};
+    ghost use Rattle.machine_book.specs.Bound.{BoundTo, opened, CanOpen};
     ghost use Rattle.std.specs.Coded.{codes};
     ghost use Rattle.machine_state.specs.contracts.state.State as state;
     ghost use Rattle.machine_events.specs.contracts.event.Entry as entry;
@@ -36,13 +37,14 @@ impl<O: Outlet> Model for Book<O> {
 
     ghost view = { λ b. record { opening = opened b.opening; history = b.history.items; outlet = b.outlet } };
 
-    ghost invariant = { λ b. (b.machine ≡ replay (opened b.opening) b.history.items) × IsLegal (opened b.opening) b.history.items };
+    ghost invariant = { λ b. (b.machine ≡ replay (opened b.opening) b.history.items) × IsLegal (opened b.opening) b.history.items × CanOpen b.opening };
 }
 
 impl<O: Outlet> Book<O> {
     /// A book with an empty history. The machine is the one that the opening makes.
     pub fn new(opening: Opening, machine: Machine, outlet: O) -> Book<O>
-        requires { machine ≡ opened opening }
+        requires machine { machine ≡ opened opening }
+        requires can_open { CanOpen opening }
         ensures { result ≡ record { opening = opened opening; history = []; outlet = outlet } }
     {
         let alloc = opening.scripts.alloc();
@@ -61,9 +63,10 @@ impl<O: Outlet> Book<O> {
         &self.machine
     }
 
-    /// The history is legal.
+    /// The history is legal, from the state in which a machine begins.
     pub fn check_legal(&self)
-        ensures { IsLegal self.now.opening self.now.history }
+        ensures legal { IsLegal self.now.opening self.now.history }
+        ensures begun { (b : Begun) × (first b ≡ self.now.opening) }
     {
         let _ = &self.history;
     }

@@ -5,7 +5,7 @@ use Rattle.std.proofs.lemmas.List.{append_assoc, map-append}
 use Rattle.machine_events.specs.declared.event.Event.{Event}
 use Rattle.machine_events.specs.declared.event.Reply.{Reply}
 use Rattle.tree_files.specs.Files.{Files}
-use Rattle.machine_events.specs.Knowing.{shown}
+use Rattle.thread_knowledge.specs.Shown.{shown}
 use Rattle.meanings.specs.Runs.{Run, Over, Pays, Makes, gives_up, spend, play, Ending, replies_of, Reaches, starts, pays, makes, Looks, looks, told}
 use Rattle.meanings.specs.Follows.{BudgetLaw}
 use Rattle.meanings.proofs.Spends.{on_budget_at, play_longer}

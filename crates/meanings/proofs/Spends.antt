@@ -5,7 +5,7 @@ use Rattle.std.proofs.lemmas.List.{append-nil, append_assoc, map-append}
 use Rattle.machine_events.specs.declared.event.Event.{Event}
 use Rattle.machine_events.specs.declared.event.Reply.{Reply}
 use Rattle.tree_files.specs.Files.{Files}
-use Rattle.machine_events.specs.Knowing.{Shown, shown, shown_first, shown_more}
+use Rattle.thread_knowledge.specs.Shown.{Shown, shown, shown_first, shown_more}
 use Rattle.meanings.specs.Runs.{Run, Over, Pays, Makes, spend, play, on_budget, replies_of, Reaches, starts, pays, looks, makes, Answer, told, Looks, Safe}
 
 -- what one more pair shows

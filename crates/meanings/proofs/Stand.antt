@@ -8,7 +8,9 @@ use Rattle.machine_events.specs.declared.event.Reply.{Reply}
 use Rattle.machine_events.specs.declared.event.Reply.TheVariants.{Done}
 use Rattle.machine_events.specs.declared.event.Outcome.{Outcome}
 use Rattle.tree_files.specs.Files.{Files}
-use Rattle.machine_events.specs.Knowing.{Shown, Holding, Taken, Loading, Doing, Running, Has, shown, shown_first, holds, does, IsShown}
+use Rattle.thread_knowledge.specs.Holdings.{Holding, Taken, Loading, Reloading}
+use Rattle.thread_knowledge.specs.Shown.{Shown, Doing, Running, shown, shown_first, holds, does}
+use Rattle.thread_knowledge.specs.Knowing.{Has, IsShown}
 use Rattle.std.specs.Cmp.Lexicographic.{pointwise}
 use Rattle.meanings.specs.Runs.{Run, Over, Pays, Makes, How, Spent, gives_up, spend, play, on_budget, Ending, Came, replies_of, Reaches, starts, pays, makes, told, Looks, Stands, StandsIn, IsSpent, IsUnread, AfterPay, AfterAsk, gives, GivesUp, Safe}
 use Rattle.meanings.specs.Follows.{Follows, IsPart, Ends}
@@ -105,7 +107,9 @@ same_name (b ∷ bs) = rw (eq-eqb b b refl) (same_name bs)
 
 pub given : (h : Holding) (r : Reply) (held : List Holding) → holds (gives h) r (h ∷ held) ≡ held
 given (Taken n) r held = rw (same_name n) refl
-given (Loading load mid n) r held = rw (eq-eqb load load refl) refl
+given (Loading load) r held = rw (eq-eqb load load refl) refl
+given (Reloading mid None) r held = rw (eq-eqb mid mid refl) refl
+given (Reloading mid (Some load)) r held = rw (eq-eqb mid mid refl, eq-eqb load load refl) refl
 
 -- what one more pair shows
 pub held_more : (t : ℕ) (h : Holding) (held : List Holding) (mine mine' : List (Event × Reply)) (r : Reply) → (shown t mine).held ≡ h ∷ held → mine' ≡ mine ++ (gives h, r) ∷ [] → (shown t mine').held ≡ held
@@ -118,9 +122,10 @@ gives_more {files = files} t whole budget h held mine mine' of_tree r is more up
     let after : (shown t (mine ++ (gives h, r) ∷ [])).held ≡ held = held_more t h held mine (mine ++ (gives h, r) ∷ []) r is refl in
     rw more (subst (λ (held : List Holding). Reaches files (spend budget (shown_first t) whole) 0 (mine ++ (gives h, r) ∷ []) (gives_up of_tree held)) (sym after) (makes 0 mine (gives h) r (λ _. gives_up of_tree held) here))
 
-still : (h : Holding) (r : Reply) (d : Doing) → does (gives h) r d ≡ d
+pub still : (h : Holding) (r : Reply) (d : Doing) → does (gives h) r d ≡ d
 still (Taken n) r d = refl
-still (Loading load mid n) r d = refl
+still (Loading load) r d = refl
+still (Reloading mid load) r d = refl
 
 pub runs_more : (t : ℕ) (h : Holding) (mine mine' : List (Event × Reply)) (r : Reply) → (shown t mine).doing ≡ Running → mine' ≡ mine ++ (gives h, r) ∷ [] → (shown t mine').doing ≡ Running
 runs_more t h mine mine' r is more = rw more (ap (λ (s : Shown). s.doing) (shown-snoc t mine (gives h, r)) ∙ (still h r (shown t mine).doing ∙ is))
@@ -131,4 +136,5 @@ all_given {files = files} t whole budget mine of_tree is up = subst (λ (held : 
 -- what is held first may be given up
 pub may_give : (s : Shown) (h : Holding) (held : List Holding) → s.doing ≡ Running → s.held ≡ h ∷ held → IsShown s (gives h)
 may_give s (Taken n) held runs is = (runs, subst (λ (held : List Holding). Has held (Taken n)) (sym is) (inl refl))
-may_give s (Loading load mid n) held runs is = (runs, (mid, n, subst (λ (held : List Holding). Has held (Loading load mid n)) (sym is) (inl refl)))
+may_give s (Loading load) held runs is = (runs, subst (λ (held : List Holding). Has held (Loading load)) (sym is) (inl refl))
+may_give s (Reloading mid load) held runs is = (runs, subst (λ (held : List Holding). Has held (Reloading mid load)) (sym is) (inl refl))

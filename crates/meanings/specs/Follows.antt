@@ -7,7 +7,7 @@ use Rattle.machine_events.specs.declared.event.Reply.TheVariants.{Done}
 use Rattle.machine_events.specs.declared.event.Outcome.{Outcome}
 use Rattle.machine_events.specs.declared.event.Outcome.TheVariants as o
 use Rattle.tree_files.specs.Files.{Files}
-use Rattle.machine_events.specs.Knowing.{shown}
+use Rattle.thread_knowledge.specs.Shown.{shown}
 use Rattle.meanings.specs.Runs.{Run, Pays, How, Ended, Spent, Came, play, on_budget, gives_up, replies_of, Reaches}
 
 -- with this fuel the script ends in this way, after what was paid
@@ -52,9 +52,3 @@ pub record StopsAt (files : Files) (t : ℕ) (run : Run) (k fuel : ℕ) (replies
 -- then those of a spent script; where it can make every payment, both are the same
 abbrev pub BudgetLaw : Files → ℕ → Run → ℕ → ℕ → List Reply → Type 0
 BudgetLaw files t run k fuel replies = (on_budget files t run k replies ≡ on_budget files t run fuel replies) ⊎ StopsAt files t run k fuel replies
-
--- what stands at want of memory: a part with the whole fuel, or with a budget that a failed call of the
--- tree leaves: one that stops the run at a payment for such a call
-pub data PartOf (files : Files) (t : ℕ) (run : Run) (fuel : ℕ) (mine : List (Event × Reply)) : Type 0 where
-  in_run : IsPart files t run fuel mine → PartOf files t run fuel mine
-  at_read : (k : ℕ) → k + 1 ≤ fuel → IsPart files t run k mine → PartOf files t run fuel mine

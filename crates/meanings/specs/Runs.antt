@@ -9,7 +9,9 @@ use Rattle.machine_events.specs.declared.event.Outcome.TheVariants as o
 use Rattle.base_types.specs.Path.{Path}
 use Rattle.tree_files.specs.declared.tree.Stamp.{Stamp}
 use Rattle.tree_files.specs.Files.{Files, node_at, stamp_of, bytes_of}
-use Rattle.machine_events.specs.Knowing.{Holding, Taken, Loading, Shown, Running, Waiting, shown, shown_first, shown_more, IsShown}
+use Rattle.thread_knowledge.specs.Holdings.{Holding, Taken, Loading, Reloading}
+use Rattle.thread_knowledge.specs.Shown.{Shown, Running, Waiting, shown, shown_first, shown_more}
+use Rattle.thread_knowledge.specs.Knowing.{IsShown}
 
 -- how a run ends: by itself, or at a payment that could not be made, which was one for a call of the tree or not
 pub data How : Type 0 where
@@ -47,10 +49,11 @@ pub data Run : Type 0 where
   Looks : (question : Question) (next : Answer question → Run) → Run
   Makes : (event : Event) (next : Reply → Run) → Run
 
--- how one thing that is held is given up: a take by Release, an open body by a bad Finish
+-- how one thing that is held is given up: a take by Release, an open body by a bad Finish, a reload by its end
 abbrev pub gives : Holding → Event
 gives (Taken name) = e.Release name
-gives (Loading load mid name) = e.Finish load false
+gives (Loading load) = e.Finish load false
+gives (Reloading mid load) = e.ReloadEnd mid load
 
 -- all that is held is given up, the innermost first; these events are free, and their replies are not looked at
 abbrev pub gives_up : Bool → List Holding → Run

@@ -3,7 +3,7 @@ use Rattle.std.proofs.Common.{◌≡◌, ℕ, List, [], ◌∷◌, Option, refl,
 use Rattle.tree_files.specs.Files.{Files}
 use Rattle.machine_events.specs.declared.event.Event.{Event}
 use Rattle.machine_events.specs.declared.event.Reply.{Reply}
-use Rattle.machine_events.specs.Knowing.{shown, shown_first}
+use Rattle.thread_knowledge.specs.Shown.{shown, shown_first}
 use Rattle.meanings.specs.Runs.{Run, Stands, StandsIn, Safe}
 use Rattle.meanings.proofs.Stand.{safe_stands, stands_start, in_some}
 use Rattle.spec_core.specs.declared.name.Dotted.{Dotted}

@@ -14,7 +14,9 @@ use Rattle.machine_events.specs.declared.event.Event.{Event}
 use Rattle.machine_events.specs.declared.event.Event.TheVariants as e
 use Rattle.machine_events.specs.declared.event.Reply.{Reply}
 use Rattle.machine_events.specs.declared.event.Reply.TheVariants as r
-use Rattle.machine_events.specs.Knowing.{Shown, Holding, Taken, Loading, Running, Has, shown_first, shown_more, holds, does, modules_at, modules_in, HasAll, named, numbered, loaded, released, finished as ended}
+use Rattle.thread_knowledge.specs.Holdings.{Holding, Taken, Loading, without, becoming}
+use Rattle.thread_knowledge.specs.Shown.{Shown, Running, shown_first, shown_more, holds, does, modules_at, modules_in, named, numbered}
+use Rattle.thread_knowledge.specs.Knowing.{Has, HasAll}
 use Rattle.meanings.specs.Runs.{Run, Safe, Pays, Makes, Looks, StampOf}
 use Rattle.py_parser.specs.Sources.{script_of}
 use Rattle.py_parser.specs.declared.script.Stmt.{Stmt}
@@ -89,14 +91,14 @@ same_name [] = refl
 same_name (b ∷ bs) = rw (eq-eqb b b refl) (same_name bs)
 
 -- a lock that was taken is given back
-released_first : (n : List ℕ) (held : List Holding) → released n (Taken n ∷ held) ≡ held
+released_first : (n : List ℕ) (held : List Holding) → without (Taken n) (Taken n ∷ held) ≡ held
 released_first n held = rw (same_name n) refl
 
-loaded_first : (load mid : ℕ) (n : List ℕ) (held : List Holding) → loaded load mid n (Taken n ∷ held) ≡ Loading load mid n ∷ held
-loaded_first load mid n held = rw (same_name n) refl
+loaded_first : (load : ℕ) (n : List ℕ) (held : List Holding) → becoming (Taken n) (Loading load) (Taken n ∷ held) ≡ Loading load ∷ held
+loaded_first load n held = rw (same_name n) refl
 
-ended_first : (load mid : ℕ) (n : List ℕ) (held : List Holding) → ended load (Loading load mid n ∷ held) ≡ held
-ended_first load mid n held = rw (eq-eqb load load refl) refl
+ended_first : (load : ℕ) (held : List Holding) → without (Loading load) (Loading load ∷ held) ≡ held
+ended_first load held = rw (eq-eqb load load refl) refl
 
 safe_gives_back : (s s' : Shown) (n : List ℕ) (k : Onward) (error : Error) → SafeOn s k → Later s s' (Taken n ∷ s.held) → Safe s' (gives_back n k error)
 safe_gives_back s s' n k error safe f = (
@@ -142,13 +144,13 @@ safe_finished s s' again n k safe again_safe f (r.Listing time part file) = safe
 safe_finished s s' again n k safe again_safe f r.Ready = safe_fails s s' k no_reply safe f
 safe_finished s s' again n k safe again_safe f r.Done = safe_fails s s' k no_reply safe f
 
-has_load : (s s' : Shown) (load mid : ℕ) (n : List ℕ) → Later s s' (Loading load mid n ∷ s.held) → (mid' : ℕ) × (name : List ℕ) × Has s'.held (Loading load mid' name)
-has_load s s' load mid n f = (mid, n, subst (λ (held : List Holding). Has held (Loading load mid n)) (sym f.held_is) (inl refl))
+has_load : (s s' : Shown) (load mid : ℕ) (n : List ℕ) → Later s s' (Loading load ∷ s.held) → Has s'.held (Loading load)
+has_load s s' load mid n f = subst (λ (held : List Holding). Has held (Loading load)) (sym f.held_is) (inl refl)
 
-after_finish : (s s' : Shown) (load mid : ℕ) (n : List ℕ) (good : Bool) (reply : Reply) → Later s s' (Loading load mid n ∷ s.held) → Fits s (shown_more s' (e.Finish load good, reply))
-after_finish s s' load mid n good reply f = later_more s s' (Loading load mid n ∷ s.held) s.held (e.Finish load good) reply f (ended_first load mid n s.held) f.runs
+after_finish : (s s' : Shown) (load mid : ℕ) (n : List ℕ) (good : Bool) (reply : Reply) → Later s s' (Loading load ∷ s.held) → Fits s (shown_more s' (e.Finish load good, reply))
+after_finish s s' load mid n good reply f = later_more s s' (Loading load ∷ s.held) s.held (e.Finish load good) reply f (ended_first load s.held) f.runs
 
-safe_good : (s s' : Shown) (load mid : ℕ) (again : Run) (n : List ℕ) (k : Onward) → SafeOn s k → SafeFrom s again → Later s s' (Loading load mid n ∷ s.held) → Safe s' (finishes load again n k On)
+safe_good : (s s' : Shown) (load mid : ℕ) (again : Run) (n : List ℕ) (k : Onward) → SafeOn s k → SafeFrom s again → Later s s' (Loading load ∷ s.held) → Safe s' (finishes load again n k On)
 safe_good s s' load mid again n k safe again_safe f = (
   f.runs,
   (
@@ -158,7 +160,7 @@ safe_good s s' load mid again n k safe again_safe f = (
   ),
 )
 
-safe_finishes : (s s' : Shown) (load mid : ℕ) (again : Run) (n : List ℕ) (k : Onward) → SafeOn s k → SafeFrom s again → Later s s' (Loading load mid n ∷ s.held) → (flow : Flow) → Safe s' (finishes load again n k flow)
+safe_finishes : (s s' : Shown) (load mid : ℕ) (again : Run) (n : List ℕ) (k : Onward) → SafeOn s k → SafeFrom s again → Later s s' (Loading load ∷ s.held) → (flow : Flow) → Safe s' (finishes load again n k flow)
 safe_finishes s s' load mid again n k safe again_safe f On = safe_good s s' load mid again n k safe again_safe f
 safe_finishes s s' load mid again n k safe again_safe f (Found m) = safe_good s s' load mid again n k safe again_safe f
 safe_finishes s s' load mid again n k safe again_safe f (Raised error) = (
@@ -182,9 +184,9 @@ module _ (body : Body) (safe_body : SafeBody body) (s : Shown) (again : Run) (n 
   safe_added s' text f r.Woken = safe_gives_back s (shown_more s' (e.Add (spec_of n) text, r.Woken)) n k no_reply safe (later_more s s' (Taken n ∷ s.held) (Taken n ∷ s.held) (e.Add (spec_of n) text) r.Woken f refl f.runs)
   safe_added s' text f (r.Load load mid) =
       let more : Shown = shown_more s' (e.Add (spec_of n) text, r.Load load mid) in
-      let held : Later s more (Loading load mid n ∷ s.held) = later_more s s' (Taken n ∷ s.held) (Loading load mid n ∷ s.held) (e.Add (spec_of n) text) (r.Load load mid) f (loaded_first load mid n s.held) f.runs in
+      let held : Later s more (Loading load ∷ s.held) = later_more s s' (Taken n ∷ s.held) (Loading load ∷ s.held) (e.Add (spec_of n) text) (r.Load load mid) f (loaded_first load n s.held) f.runs in
       safe_body more mid text (finishes load again n k) (inl refl) f.runs
-      (λ s₂ g flow known. safe_finishes s s₂ load mid again n k safe again_safe (later_then s more s₂ (Loading load mid n ∷ s.held) held g) flow)
+      (λ s₂ g flow known. safe_finishes s s₂ load mid again n k safe again_safe (later_then s more s₂ (Loading load ∷ s.held) held g) flow)
   safe_added s' text f (r.Kept slot) = safe_gives_back s (shown_more s' (e.Add (spec_of n) text, (r.Kept slot))) n k no_reply safe (later_more s s' (Taken n ∷ s.held) (Taken n ∷ s.held) (e.Add (spec_of n) text) (r.Kept slot) f refl f.runs)
   safe_added s' text f r.Lost = safe_gives_back s (shown_more s' (e.Add (spec_of n) text, r.Lost)) n k no_reply safe (later_more s s' (Taken n ∷ s.held) (Taken n ∷ s.held) (e.Add (spec_of n) text) r.Lost f refl f.runs)
   safe_added s' text f r.LostParent = safe_gives_back s (shown_more s' (e.Add (spec_of n) text, r.LostParent)) n k no_reply safe (later_more s s' (Taken n ∷ s.held) (Taken n ∷ s.held) (e.Add (spec_of n) text) r.LostParent f refl f.runs)

@@ -7,7 +7,7 @@ use Rattle.machine_events.specs.declared.event.Event.TheVariants.{End}
 use Rattle.machine_events.specs.declared.event.Reply.{Reply}
 use Rattle.machine_events.specs.declared.event.Reply.TheVariants.{Done}
 use Rattle.machine_events.specs.declared.event.Outcome.TheVariants as o
-use Rattle.machine_events.specs.Knowing.{Running, shown}
+use Rattle.thread_knowledge.specs.Shown.{Running, shown}
 use Rattle.meanings.specs.Runs.{Run, How, Ended, Spent, Reaches, spend, Stands, StandsIn, IsSpent, IsUnread, Safe, GivesUp}
 use Rattle.meanings.specs.Runs as runs
 use Rattle.meanings.specs.Follows.{Follows, Ends}
@@ -57,7 +57,7 @@ broken_out f t whole fuel budget mine mine' old new s gave = in_run (part_given 
 
 pub broken_read : (f : Files) (t : ℕ) (whole : Run) (fuel left : ℕ) (mine mine' : List (Event × Reply)) (old new : ℕ) → IsUnread (Some f) whole fuel mine left → Gave t mine mine' → Rose old new → Broken f t whole fuel mine' old new
 broken_read f t whole fuel left mine mine' old new s gave rose =
-    at_read (fuel - left) (unread_paid whole fuel left mine s) rose (part_given f t whole (fuel - left) (gave (Some f) whole (fuel - left) true (unread_gives_up t s)))
+    at_read (fuel - left) (unread_paid whole fuel left mine s) rose (gave (Some f) whole (fuel - left) true (unread_gives_up t s))
 
 pub came_safe : (files : Option Files) (t : ℕ) (text : List ℕ) (fuel budget : ℕ) (mine : List (Event × Reply)) (flow : Flow) → Stands files (meaning t text) fuel mine budget (runs.Over (Ended (outcome_of flow))) → ((shown t mine).doing ≡ Running) × ((shown t mine).held ≡ [])
 came_safe files t text fuel budget mine flow s = (safe_stands t s (safe_meaning t text)).1

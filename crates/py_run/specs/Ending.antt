@@ -1,5 +1,5 @@
 -- How a script ended, and what stands where it was broken off.
-use Rattle.std.specs.Prelude.{◌≡◌, ◌≤◌, ℕ, ◌+◌, List, [], ◌∷◌, ◌++◌}
+use Rattle.std.specs.Prelude.{◌≡◌, ◌≤◌, ℕ, ◌+◌, List, [], ◌∷◌, ◌++◌, true, Some}
 use Rattle.tree_files.specs.Files.{Files}
 use Rattle.tree_files.specs.Count.{Rose}
 use Rattle.machine_events.specs.declared.event.Event.{Event}
@@ -8,7 +8,7 @@ use Rattle.machine_events.specs.declared.event.Reply.{Reply}
 use Rattle.machine_events.specs.declared.event.Reply.TheVariants.{Done}
 use Rattle.machine_events.specs.declared.event.Outcome.{Outcome}
 use Rattle.machine_events.specs.declared.event.Outcome.TheVariants as o
-use Rattle.meanings.specs.Runs.{Run}
+use Rattle.meanings.specs.Runs.{Run, GivesUp}
 use Rattle.meanings.specs.Follows.{IsPart}
 use Rattle.py_run.specs.declared.script.Ending.{Ending}
 use Rattle.py_run.specs.declared.script.Ending.TheVariants as ending
@@ -31,7 +31,8 @@ pub record Ended (mine : List (Event × Reply)) (outcome : Outcome) : Type 0 whe
   pub whole : mine ≡ before ++ (End outcome paid, Done) ∷ []
 
 -- at want of memory the pairs are a part of those of the whole run with the whole fuel; only where the tree's count of
--- faults rose may they be a part of those with a smaller budget, as a failed call leaves it
+-- faults rose may they be on the way that a failed call leaves: with a budget k the run is spent at a payment for a call of
+-- the tree, and what the script holds is being given up
 pub data Broken (files : Files) (t : ℕ) (run : Run) (fuel : ℕ) (mine : List (Event × Reply)) (old new : ℕ) : Type 0 where
   in_run : IsPart files t run fuel mine → Broken files t run fuel mine old new
-  at_read : (k : ℕ) → k + 1 ≤ fuel → Rose old new → IsPart files t run k mine → Broken files t run fuel mine old new
+  at_read : (k : ℕ) → k + 1 ≤ fuel → Rose old new → GivesUp (Some files) t run k mine true → Broken files t run fuel mine old new

@@ -4,7 +4,8 @@ use Rattle.tree_files.specs.Files.{Files}
 use Rattle.tree_files.specs.Count.{Rose}
 use Rattle.machine_events.specs.declared.event.Event.{Event}
 use Rattle.machine_events.specs.declared.event.Reply.{Reply}
-use Rattle.machine_events.specs.Knowing.{Holding, shown, shown_first}
+use Rattle.thread_knowledge.specs.Holdings.{Holding}
+use Rattle.thread_knowledge.specs.Shown.{shown, shown_first}
 use Rattle.meanings.specs.Runs.{Run, Ended, Stands, StandsIn, IsSpent, IsUnread, Safe}
 use Rattle.meanings.specs.Runs as runs
 use Rattle.py_run.specs.Meaning.{Onward, ends, outcome_of}

@@ -2,7 +2,7 @@
 use Rattle.std.specs.Prelude.{ℕ, ◌+◌, ◌*◌, ◌-◌, ◌<◌, ◌≤◌, List, [], ◌∷◌, ◌++◌, drop, length, Option, Some, None}
 use Rattle.py_value.specs.declared.value.Raised.{Raised as Error}
 use Rattle.machine_events.specs.declared.event.Event.TheVariants as e
-use Rattle.machine_events.specs.Knowing.{Holding, Taken, Loading}
+use Rattle.thread_knowledge.specs.Holdings.{Holding, Taken, Loading}
 use Rattle.meanings.specs.Runs.{Run, Makes}
 use Rattle.py_parser.specs.Sources.{script_of}
 use Rattle.py_parser.specs.declared.script.Stmt.{Stmt}
@@ -72,7 +72,7 @@ held_at (it.Path i) = Taken i.name ∷ []
 held_at (it.Search i) = Taken i.name ∷ []
 held_at (it.Add i text) = Taken i.name ∷ []
 held_at (it.GiveBack name reason) = Taken name ∷ []
-held_at (it.Finish load mid i) = Loading load mid i.name ∷ []
+held_at (it.Finish load mid i) = Loading load ∷ []
 held_at item = []
 
 -- what the work holds, the innermost first
@@ -82,7 +82,7 @@ held_of (item ∷ items) = held_at item ++ held_of items
 
 abbrev pub hold_of : Hold → Holding
 hold_of (hold.Taken name) = Taken name
-hold_of (hold.Loading load mid name) = Loading load mid name
+hold_of (hold.Loading load mid name) = Loading load
 
 abbrev pub hold_at : Option Hold → List Holding
 hold_at None = []

@@ -1,6 +1,6 @@
 //! Which step an item takes, by how what came before it ended.
 ghost use Rattle.std.specs.Prelude.{◌≡◌, ◌≤◌, ℕ, List, [], ◌∷◌, ◌++◌, IfOk, OnErr, Option};
-ghost use Rattle.machine_book.specs.Sight.{Sight, Continues};
+ghost use Rattle.machine_book.specs.Sight.{Sight, IsReady, Continues};
 ghost use Rattle.py_run.specs.Meaning as spec;
 ghost use Rattle.py_run.specs.Work.{item_does, held_at, weight, weight_after, Falls};
 ghost use Rattle.py_run.specs.Steps.{Moves, Keeps, MovesReading, KeepsReading, IsSafe, weight_reading, Counts};
@@ -25,8 +25,10 @@ fn found<D: Desk>(
     module: ModRef,
 ) -> Result<Step, NoMemory>
     requires number { (D.sight desk.old).number ≡ script }
+    requires ready { IsReady (D.sight desk.old) }
     requires safe { IsSafe script (D.sight desk.old).mine (λ next. item_does item next (flows.Found «module»)) }
     ensures number { (D.sight desk.new).number ≡ script }
+    ensures ready { IsReady (D.sight desk.new) }
     ensures continues { Continues (D.sight desk.old) (D.sight desk.new) }
     ensures moves { IfOk result (Moves (D.sight desk.old).mine budget.old (λ next. item_does item next (flows.Found «module»)) (D.sight desk.new).mine budget.new) }
     ensures keeps { IfOk result (Keeps script (D.sight desk.old).mine (held_at item) (D.sight desk.new).mine) }
@@ -64,8 +66,10 @@ fn raised<D: Desk>(
     error: Raised,
 ) -> Result<Step, NoMemory>
     requires number { (D.sight desk.old).number ≡ script }
+    requires ready { IsReady (D.sight desk.old) }
     requires safe { IsSafe script (D.sight desk.old).mine (λ next. item_does item next (flows.Raised error)) }
     ensures number { (D.sight desk.new).number ≡ script }
+    ensures ready { IsReady (D.sight desk.new) }
     ensures continues { Continues (D.sight desk.old) (D.sight desk.new) }
     ensures moves { IfOk result (Moves (D.sight desk.old).mine budget.old (λ next. item_does item next (flows.Raised error)) (D.sight desk.new).mine budget.new) }
     ensures keeps { IfOk result (Keeps script (D.sight desk.old).mine (held_at item) (D.sight desk.new).mine) }
@@ -105,8 +109,10 @@ fn statement<D: Desk>(
     left: u32,
 ) -> Result<Step, NoMemory>
     requires number { (D.sight desk.old).number ≡ script }
+    requires ready { IsReady (D.sight desk.old) }
     requires safe { IsSafe script (D.sight desk.old).mine (spec.statement (spec.imports left) mid stmt) }
     ensures number { (D.sight desk.new).number ≡ script }
+    ensures ready { IsReady (D.sight desk.new) }
     ensures continues { Continues (D.sight desk.old) (D.sight desk.new) }
     ensures moves { IfOk result (Moves (D.sight desk.old).mine budget.old (spec.statement (spec.imports left) mid stmt) (D.sight desk.new).mine budget.new) }
     ensures keeps { IfOk result (Keeps script (D.sight desk.old).mine [] (D.sight desk.new).mine) }
@@ -129,8 +135,10 @@ fn going<D: Desk, T: Tree>(
     item: Item,
 ) -> Result<Reading, NoMemory>
     requires number { (D.sight desk.old).number ≡ script }
+    requires ready { IsReady (D.sight desk.old) }
     requires safe { IsSafe script (D.sight desk.old).mine (λ next. item_does item next flows.On) }
     ensures number { (D.sight desk.new).number ≡ script }
+    ensures ready { IsReady (D.sight desk.new) }
     ensures continues { Continues (D.sight desk.old) (D.sight desk.new) }
     ensures moves { IfOk result (MovesReading (T.files tree.old) (D.sight desk.old).mine budget.old (λ next. item_does item next flows.On) (D.sight desk.new).mine budget.new) }
     ensures keeps { IfOk result (KeepsReading script (D.sight desk.old).mine (held_at item) (D.sight desk.new).mine) }
@@ -186,8 +194,10 @@ pub fn advance<D: Desk, T: Tree>(
     flow: Flow,
 ) -> Result<Reading, NoMemory>
     requires number { (D.sight desk.old).number ≡ script }
+    requires ready { IsReady (D.sight desk.old) }
     requires safe { IsSafe script (D.sight desk.old).mine (λ next. item_does item next flow) }
     ensures number { (D.sight desk.new).number ≡ script }
+    ensures ready { IsReady (D.sight desk.new) }
     ensures continues { Continues (D.sight desk.old) (D.sight desk.new) }
     ensures moves { IfOk result (MovesReading (T.files tree.old) (D.sight desk.old).mine budget.old (λ next. item_does item next flow) (D.sight desk.new).mine budget.new) }
     ensures keeps { IfOk result (KeepsReading script (D.sight desk.old).mine (held_at item) (D.sight desk.new).mine) }

@@ -5,8 +5,9 @@ ghost use Rattle.machine_events.specs.declared.event.Event.{Event};
 ghost use Rattle.machine_events.specs.declared.event.Event.TheVariants as ev;
 ghost use Rattle.machine_events.specs.declared.event.Reply.{Reply};
 ghost use Rattle.machine_events.specs.Fitting.{Fits};
-ghost use Rattle.machine_events.specs.Knowing.{IsShown, Waiting, shown, shown_more};
-ghost use Rattle.machine_book.specs.Sight.{Sight, Continues};
+ghost use Rattle.thread_knowledge.specs.Shown.{Waiting, shown, shown_more};
+ghost use Rattle.thread_knowledge.specs.Knowing.{IsShown};
+ghost use Rattle.machine_book.specs.Sight.{Sight, IsReady, Continues};
 ghost use Rattle.meanings.specs.Runs.{Run, Stands, Pays, Makes, AfterPay};
 
 use base_types::NoMemory;
@@ -28,10 +29,13 @@ pub fn paid(budget: &mut u64, units: u64) -> bool
 }
 
 /// Makes an event, which is free.
+#[tactic(auto, using(machine_book::proofs::Keeping::ready_on))]
 pub fn make<D: Desk>(desk: &mut D, script: u32, event: Event) -> Result<Reply, NoMemory>
     requires number { (D.sight desk.old).number ≡ script }
+    requires ready { IsReady (D.sight desk.old) }
     requires knows { IsShown (shown script (D.sight desk.old).mine) event }
     ensures number { (D.sight desk.new).number ≡ script }
+    ensures ready { IsReady (D.sight desk.new) }
     ensures continues { Continues (D.sight desk.old) (D.sight desk.new) }
     ensures gained { IfOk result (λ reply. (D.sight desk.new).mine ≡ (D.sight desk.old).mine ++ (event, reply) ∷ []) }
     ensures shows { IfOk result (λ reply. shown script (D.sight desk.new).mine ≡ shown_more (shown script (D.sight desk.old).mine) (event, reply)) }
@@ -46,10 +50,13 @@ pub fn make<D: Desk>(desk: &mut D, script: u32, event: Event) -> Result<Reply, N
 }
 
 /// Waits until the lock is free, which is free too.
+#[tactic(auto, using(machine_book::proofs::Keeping::ready_on))]
 pub fn wait<D: Desk>(desk: &mut D, script: u32) -> Result<Reply, NoMemory>
     requires number { (D.sight desk.old).number ≡ script }
+    requires ready { IsReady (D.sight desk.old) }
     requires waits { (shown script (D.sight desk.old).mine).doing ≡ Waiting }
     ensures number { (D.sight desk.new).number ≡ script }
+    ensures ready { IsReady (D.sight desk.new) }
     ensures continues { Continues (D.sight desk.old) (D.sight desk.new) }
     ensures gained { IfOk result (λ reply. (D.sight desk.new).mine ≡ (D.sight desk.old).mine ++ (ev.Wake, reply) ∷ []) }
     ensures shows { IfOk result (λ reply. shown script (D.sight desk.new).mine ≡ shown_more (shown script (D.sight desk.old).mine) (ev.Wake, reply)) }

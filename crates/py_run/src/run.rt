@@ -1,8 +1,8 @@
 //! The loop that does the work of a script.
 ghost use Rattle.std.specs.Prelude.{◌≡◌, ◌≤◌, ◌<◌, ◌+◌, ℕ, List, [], ◌∷◌, ◌++◌, IfOk, OnErr, Option};
 ghost use Rattle.tree_files.specs.Files.{Files};
-ghost use Rattle.machine_events.specs.Knowing.{shown};
-ghost use Rattle.machine_book.specs.Sight.{Sight, Continues};
+ghost use Rattle.thread_knowledge.specs.Shown.{shown};
+ghost use Rattle.machine_book.specs.Sight.{Sight, IsReady, Continues};
 ghost use Rattle.meanings.specs.Runs.{Run, Stands, StandsIn};
 ghost use Rattle.py_run.specs.Meaning as spec;
 ghost use Rattle.py_run.specs.Work.{rest, lead_does, held_lead, held_of, weights, weight_lead};
@@ -47,9 +47,11 @@ fn run_on<D: Desk, T: Tree>(
     start: Flow,
 ) -> Result<Stretch, NoMemory>
     requires number { (D.sight desk.old).number ≡ script }
+    requires ready { IsReady (D.sight desk.old) }
     requires stood { Stood (T.files tree.old) script (D.sight desk.old).mine budget.old (rest work.old start) }
     requires holds { (shown script (D.sight desk.old).mine).held ≡ held_of work.old }
     ensures number { (D.sight desk.new).number ≡ script }
+    ensures ready { IsReady (D.sight desk.new) }
     ensures continues { Continues (D.sight desk.old) (D.sight desk.new) }
     ensures holds { IfOk result (λ stretch. (shown script (D.sight desk.new).mine).held ≡ held_stretch stretch work.new) }
     ensures files { T.files tree.new ≡ T.files tree.old }
@@ -85,9 +87,11 @@ pub fn run<D: Desk, T: Tree>(
     fuel: u64,
 ) -> Result<Over, NoMemory>
     requires number { (D.sight desk.old).number ≡ script }
+    requires ready { IsReady (D.sight desk.old) }
     requires first { (D.sight desk.old).mine ≡ [] }
     requires idle { work.old ≡ [] }
     ensures number { (D.sight desk.new).number ≡ script }
+    ensures ready { IsReady (D.sight desk.new) }
     ensures continues { Continues (D.sight desk.old) (D.sight desk.new) }
     ensures holds { IfOk result (λ over. (shown script (D.sight desk.new).mine).held ≡ held_over over work.new) }
     ensures files { T.files tree.new ≡ T.files tree.old }

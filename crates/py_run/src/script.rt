@@ -8,8 +8,10 @@ ghost use Rattle.machine_events.specs.declared.event.Reply.{Reply};
 ghost use Rattle.machine_events.specs.declared.event.Reply.TheVariants.{Done};
 ghost use Rattle.machine_events.specs.declared.event.Outcome.{Outcome};
 ghost use Rattle.machine_events.specs.declared.event.Outcome.TheVariants as o;
-ghost use Rattle.machine_events.specs.Knowing.{Holding, IsShown, Running, shown};
-ghost use Rattle.machine_book.specs.Sight.{Sight, Continues};
+ghost use Rattle.thread_knowledge.specs.Holdings.{Holding};
+ghost use Rattle.thread_knowledge.specs.Shown.{Running, shown};
+ghost use Rattle.thread_knowledge.specs.Knowing.{IsShown};
+ghost use Rattle.machine_book.specs.Sight.{Sight, IsReady, Continues};
 ghost use Rattle.meanings.specs.Runs.{Run, gives, GivesUp};
 ghost use Rattle.meanings.specs.Follows.{Follows};
 ghost use Rattle.py_run.specs.Ending.{Ended, Broken, IsRead, outcome};
@@ -59,9 +61,11 @@ fn event_of(hold: Hold) -> Event
 /// Gives up what is held first. Nothing is paid, and the reply is not looked at.
 fn give<D: Desk>(desk: &mut D, script: u32, hold: Hold) -> Result<(), NoMemory>
     requires number { (D.sight desk.old).number ≡ script }
+    requires ready { IsReady (D.sight desk.old) }
     requires runs { (shown script (D.sight desk.old).mine).doing ≡ Running }
     requires holds { (held : List Holding) × ((shown script (D.sight desk.old).mine).held ≡ of_work.hold_of hold ∷ held) }
     ensures number { (D.sight desk.new).number ≡ script }
+    ensures ready { IsReady (D.sight desk.new) }
     ensures continues { Continues (D.sight desk.old) (D.sight desk.new) }
     ensures runs { (shown script (D.sight desk.new).mine).doing ≡ Running }
     ensures holds { (held : List Holding) → (shown script (D.sight desk.old).mine).held ≡ of_work.hold_of hold ∷ held → OnOk result ((shown script (D.sight desk.new).mine).held ≡ held) }
@@ -95,9 +99,11 @@ fn hold_in(item: Item) -> Option<Hold>
 /// Gives up what a piece of work holds, if it holds something.
 fn give_first<D: Desk>(desk: &mut D, script: u32, hold: Option<Hold>) -> Result<(), NoMemory>
     requires number { (D.sight desk.old).number ≡ script }
+    requires ready { IsReady (D.sight desk.old) }
     requires runs { (shown script (D.sight desk.old).mine).doing ≡ Running }
     requires holds { (held : List Holding) × ((shown script (D.sight desk.old).mine).held ≡ hold_at hold ++ held) }
     ensures number { (D.sight desk.new).number ≡ script }
+    ensures ready { IsReady (D.sight desk.new) }
     ensures continues { Continues (D.sight desk.old) (D.sight desk.new) }
     ensures runs { (shown script (D.sight desk.new).mine).doing ≡ Running }
     ensures holds { (held : List Holding) → (shown script (D.sight desk.old).mine).held ≡ hold_at hold ++ held → OnOk result ((shown script (D.sight desk.new).mine).held ≡ held) }
@@ -117,9 +123,11 @@ fn give_up<D: Desk>(
     work: &mut Work,
 ) -> Result<(), NoMemory>
     requires number { (D.sight desk.old).number ≡ script }
+    requires ready { IsReady (D.sight desk.old) }
     requires runs { (shown script (D.sight desk.old).mine).doing ≡ Running }
     requires holds { (shown script (D.sight desk.old).mine).held ≡ hold_at hold ++ held_of work.old }
     ensures number { (D.sight desk.new).number ≡ script }
+    ensures ready { IsReady (D.sight desk.new) }
     ensures continues { Continues (D.sight desk.old) (D.sight desk.new) }
     ensures runs { (shown script (D.sight desk.new).mine).doing ≡ Running }
     ensures free { OnOk result ((shown script (D.sight desk.new).mine).held ≡ []) }
@@ -135,6 +143,7 @@ fn give_up<D: Desk>(
 /// Makes the End event.
 fn end<D: Desk>(desk: &mut D, script: u32, how: Outcome, spent: u64) -> Result<(), NoMemory>
     requires number { (D.sight desk.old).number ≡ script }
+    requires ready { IsReady (D.sight desk.old) }
     requires knows { IsShown (shown script (D.sight desk.old).mine) (ev.End how spent) }
     ensures continues { Continues (D.sight desk.old) (D.sight desk.new) }
     ensures ends { OnOk result ((D.sight desk.new).mine ≡ (D.sight desk.old).mine ++ (ev.End how spent, Done) ∷ []) }
@@ -171,6 +180,7 @@ fn ending_of(flow: Flow) -> Result<(Ending, Outcome), NoMemory>
 #[tactic(auto, using(crate::proofs::Passing::unchanged))]
 fn came<D: Desk>(desk: &mut D, script: u32, flow: Flow, fuel: u64) -> Result<Ending, NoMemory>
     requires number { (D.sight desk.old).number ≡ script }
+    requires ready { IsReady (D.sight desk.old) }
     requires runs { (shown script (D.sight desk.old).mine).doing ≡ Running }
     requires free { (shown script (D.sight desk.old).mine).held ≡ [] }
     ensures continues { Continues (D.sight desk.old) (D.sight desk.new) }
@@ -193,6 +203,7 @@ fn broke<D: Desk>(
     spent: u64,
 ) -> Result<(), NoMemory>
     requires number { (D.sight desk.old).number ≡ script }
+    requires ready { IsReady (D.sight desk.old) }
     requires runs { (shown script (D.sight desk.old).mine).doing ≡ Running }
     requires holds { (shown script (D.sight desk.old).mine).held ≡ hold_at hold ++ held_of work.old }
     ensures continues { Continues (D.sight desk.old) (D.sight desk.new) }
@@ -225,6 +236,7 @@ pub fn run_script<D: Desk, T: Tree>(
     fuel: u64,
 ) -> Result<Ending, NoMemory>
     requires number { (D.sight desk.old).number ≡ script }
+    requires ready { IsReady (D.sight desk.old) }
     requires first { (D.sight desk.old).mine ≡ [] }
     ensures continues { Continues (D.sight desk.old) (D.sight desk.new) }
     ensures files { T.files tree.new ≡ T.files tree.old }

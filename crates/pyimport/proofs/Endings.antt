@@ -15,7 +15,7 @@ use Rattle.machine_events.specs.declared.event.Outcome.{Outcome}
 use Rattle.machine_events.specs.declared.event.Outcome.TheVariants as o
 use Rattle.machine_state.specs.declared.state.State.{State}
 use Rattle.machine_state.specs.Legal.{IsLegal}
-use Rattle.machine_book.specs.Histories.{own}
+use Rattle.thread_knowledge.specs.Own.{own}
 use Rattle.meanings.specs.Runs.{Run}
 use Rattle.meanings.specs.Follows.{Follows}
 use Rattle.solo_history.specs.Solo.{IsSolo}

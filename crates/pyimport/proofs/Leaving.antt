@@ -7,7 +7,7 @@ use Rattle.machine_events.specs.declared.event.Entry.{Entry}
 use Rattle.machine_book.specs.declared.outlet.Flow.{Flow}
 use Rattle.machine_book.specs.declared.outlet.Flow.TheVariants.{Open, Failed, Short}
 use Rattle.machine_book.specs.Outgo.{Outgo, Kept, Flows, FlowsFrom, Appends, AppendsPart}
-use Rattle.machine_book.specs.Histories.{own}
+use Rattle.thread_knowledge.specs.Own.{own}
 use Rattle.py_run.specs.declared.script.Ending.{Ending}
 use Rattle.py_run.specs.Ending.{Ended, outcome}
 use Rattle.pyimport.specs.Prints.{piece, out_text}

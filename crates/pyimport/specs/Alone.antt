@@ -6,7 +6,7 @@ use Rattle.machine_events.specs.declared.event.Entry.{Entry}
 use Rattle.machine_state.specs.declared.state.State.{State}
 use Rattle.machine_state.specs.Opening.{opening}
 use Rattle.machine_state.specs.Legal.{IsLegal}
-use Rattle.machine_book.specs.Histories.{own}
+use Rattle.thread_knowledge.specs.Own.{own}
 use Rattle.meanings.specs.Runs.{Run}
 use Rattle.solo_history.specs.Solo.{IsSolo}
 use Rattle.import_words.specs.declared.plan.RunPlan.{RunPlan}

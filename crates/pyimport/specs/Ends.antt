@@ -8,7 +8,7 @@ use Rattle.machine_events.specs.declared.event.Reply.{Reply}
 use Rattle.machine_events.specs.declared.event.Entry.{Entry}
 use Rattle.machine_events.specs.declared.event.Outcome.{Outcome}
 use Rattle.machine_events.specs.declared.event.Outcome.TheVariants as o
-use Rattle.machine_book.specs.Histories.{own}
+use Rattle.thread_knowledge.specs.Own.{own}
 
 abbrev pub end_in : Event → Option Outcome
 end_in (e.End outcome k) = Some outcome

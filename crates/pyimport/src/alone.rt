@@ -4,8 +4,8 @@ ghost use Rattle.tree_files.specs.Count.{Rose};
 ghost use Rattle.tree_files.specs.Files.{Files};
 ghost use Rattle.machine_events.specs.declared.event.Outcome.TheVariants as o;
 ghost use Rattle.machine_state.specs.Legal.{IsLegal};
-ghost use Rattle.machine_book.specs.Bound.{opened};
-ghost use Rattle.machine_book.specs.Histories.{own};
+ghost use Rattle.machine_book.specs.Bound.{opened, CanOpen};
+ghost use Rattle.thread_knowledge.specs.Own.{own};
 ghost use Rattle.machine_book.specs.Outgo.{Kept};
 ghost use Rattle.meanings.specs.Follows.{Follows};
 ghost use Rattle.py_run.specs.Ending.{Ended, Broken, IsRead, outcome};
@@ -64,7 +64,9 @@ fn run_alone<T: Tree, O: Outlet>(
     fuel: u64,
     outlet: O,
 ) -> Alone<O>
-    requires { it.machine ≡ opened it.opening }
+    requires machine { it.machine ≡ opened it.opening }
+    requires can_open { CanOpen it.opening }
+    requires one { it.opening.rounds ≡ 1 ∷ [] }
     ensures files { T.files tree.new ≡ T.files tree.old }
     ensures faults_grow { T.faults tree.old ≤ T.faults tree.new }
     ensures legal { IsLegal (opened it.opening) result.history }
@@ -81,7 +83,7 @@ fn run_alone<T: Tree, O: Outlet>(
     } = it;
     let mut book = Book::new(opening, machine, outlet);
     let ran = {
-        let mut desk = SoloDesk::new(&mut book);
+        let mut desk = SoloDesk::new(&mut book, 0);
         run_script(alloc, &mut desk, tree, 0, text.as_slice(), fuel)
     };
     let (history, outlet) = book.end();

@@ -1,6 +1,6 @@
 //! What one script runs on.
 ghost use Rattle.std.specs.Prelude.{◌≡◌, ◌∷◌, [], IfOk, length};
-ghost use Rattle.machine_book.specs.Bound.{opened};
+ghost use Rattle.machine_book.specs.Bound.{opened, CanOpen};
 ghost use Rattle.pyimport.specs.Alone.{opening_of};
 ghost use Rattle.pyimport.specs.Scripts.{first_of};
 
@@ -32,6 +32,8 @@ pub fn begin(alloc: Global, plan: &RunPlan, texts: Seq<Seq<u8>>) -> Result<Begun
     requires text { length texts ≡ 1 }
     ensures opening { IfOk result (λ it. opened it.opening ≡ opening_of plan.now texts) }
     ensures machine { IfOk result (λ it. it.machine ≡ opening_of plan.now texts) }
+    ensures can_open { IfOk result (λ it. CanOpen it.opening) }
+    ensures one { IfOk result (λ it. it.opening.rounds ≡ 1 ∷ []) }
     ensures text { IfOk result (λ it. it.text ≡ first_of texts) }
 {
     let text = texts.as_slice()[0].copy()?;

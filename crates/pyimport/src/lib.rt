@@ -4,6 +4,7 @@
 mod alone;
 mod answer;
 mod begin;
+mod laws;
 mod line;
 mod open;
 mod outlet;
@@ -12,4 +13,5 @@ mod tests;
 
 pub use alone::{Report, solo};
 pub use answer::pyimport;
+pub use laws::each_script_has_a_history;
 pub use outlet::Out;

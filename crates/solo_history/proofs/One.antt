@@ -10,7 +10,7 @@ use Rattle.machine_events.specs.declared.event.Reply.TheVariants.{Done}
 use Rattle.machine_events.specs.declared.event.Outcome.{Outcome}
 use Rattle.machine_events.specs.declared.event.Outcome.TheVariants as o
 use Rattle.machine_events.specs.declared.event.Entry.{Entry}
-use Rattle.machine_events.specs.Knowing.{shown_first}
+use Rattle.thread_knowledge.specs.Shown.{shown_first}
 use Rattle.machine_state.specs.declared.state.State.{State}
 use Rattle.machine_state.specs.Step.{step}
 use Rattle.machine_state.specs.Allowed.{allowed}
@@ -20,16 +20,17 @@ use Rattle.import_machine.proofs.Leave.{runs}
 use Rattle.import_machine.proofs.Lists.{within}
 use Rattle.import_machine.proofs.Steps.{sound_step}
 use Rattle.import_machine.proofs.Going.{goes_step}
-use Rattle.machine_book.specs.Histories.{own, OnlyOf}
+use Rattle.thread_knowledge.specs.Own.{own}
+use Rattle.machine_book.specs.Histories.{OnlyOf}
 use Rattle.meanings.specs.Runs.{Run, Over, Pays, Looks, Makes, How, Ended, Spent, Stop, Came, Cut, Ending, told, spend, play, on_budget, replies_of}
 use Rattle.meanings.specs.Follows.{Follows, Ends}
 use Rattle.meanings.proofs.Spends.{play_longer}
 use Rattle.solo_history.specs.Solo.{IsAlone, IsSolo, StopsBy}
 
-abbrev reply_of : State → Event → Reply
+abbrev pub reply_of : State → Event → Reply
 reply_of s e = (step s 0 e).0
 
-abbrev state_after : State → Event → State
+abbrev pub state_after : State → Event → State
 state_after s e = (step s 0 e).1
 
 -- only the one script makes events
@@ -131,7 +132,7 @@ paid_by fuel (Some n) (o.Raised v) k h e s = absurd s
 paid_by fuel (Some n) o.Fuel k h e s = absurd s
 
 -- the outcome of a script, by how its run is over
-abbrev outcome_by : Option ℕ → How → Outcome
+abbrev pub outcome_by : Option ℕ → How → Outcome
 outcome_by (Some n) how = o.Read
 outcome_by None (Ended outcome) = outcome
 outcome_by None (Spent of_tree) = o.Fuel

@@ -6,7 +6,7 @@ use Rattle.machine_events.specs.declared.event.Entry.{Entry}
 use Rattle.machine_state.specs.declared.state.State.{State}
 use Rattle.machine_state.specs.Legal.{IsLegal}
 use Rattle.import_machine.specs.Sound.{IsSound}
-use Rattle.machine_book.specs.Histories.{own}
+use Rattle.thread_knowledge.specs.Own.{own}
 use Rattle.tree_files.specs.Files.{Files}
 use Rattle.meanings.specs.Runs.{Run}
 use Rattle.meanings.specs.Follows.{Follows}

@@ -1,10 +1,11 @@
 //! A module is made, its body begins and ends; and a lock is given back without a body.
 ghost use Rattle.std.specs.Prelude.{◌≡◌, ℕ, ◌<◌, ◌+◌, ◌*◌, ◌-◌, List, [], ◌∷◌, ◌++◌, IfOk, OnErr, Option, length, drop, codes, ◌/◌};
-ghost use Rattle.machine_events.specs.Knowing.{Holding, Taken, Loading, shown, add_answered};
+ghost use Rattle.thread_knowledge.specs.Holdings.{Holding, Taken, Loading};
+ghost use Rattle.thread_knowledge.specs.Shown.{shown, add_answered};
 ghost use Rattle.machine_events.specs.declared.event.Event.{Event};
 ghost use Rattle.machine_events.specs.declared.event.Event.TheVariants as ev;
 ghost use Rattle.machine_events.specs.declared.event.Reply.{Reply};
-ghost use Rattle.machine_book.specs.Sight.{Sight, Continues};
+ghost use Rattle.machine_book.specs.Sight.{Sight, IsReady, Continues};
 ghost use Rattle.py_parser.specs.Sources.{script_of};
 ghost use Rattle.py_run.specs.declared.flow.Flow.TheVariants as flows;
 ghost use Rattle.py_run.specs.Meaning as spec;
@@ -44,8 +45,10 @@ pub fn path<D: Desk>(
     import: Import,
 ) -> Result<Step, NoMemory>
     requires number { (D.sight desk.old).number ≡ script }
+    requires ready { IsReady (D.sight desk.old) }
     requires safe { IsSafe script (D.sight desk.old).mine (λ next. spec.finds (bodies import.left) (again import next) import.name next) }
     ensures number { (D.sight desk.new).number ≡ script }
+    ensures ready { IsReady (D.sight desk.new) }
     ensures continues { Continues (D.sight desk.old) (D.sight desk.new) }
     ensures moves { IfOk result (Moves (D.sight desk.old).mine budget.old (λ next. spec.finds (bodies import.left) (again import next) import.name next) (D.sight desk.new).mine budget.new) }
     ensures keeps { IfOk result (Keeps script (D.sight desk.old).mine (Taken import.name ∷ []) (D.sight desk.new).mine) }
@@ -112,8 +115,10 @@ pub fn add<D: Desk>(
     text: Seq<u8>,
 ) -> Result<Step, NoMemory>
     requires number { (D.sight desk.old).number ≡ script }
+    requires ready { IsReady (D.sight desk.old) }
     requires safe { IsSafe script (D.sight desk.old).mine (λ next. spec.adds (bodies import.left) (again import next) import.name next text) }
     ensures number { (D.sight desk.new).number ≡ script }
+    ensures ready { IsReady (D.sight desk.new) }
     ensures continues { Continues (D.sight desk.old) (D.sight desk.new) }
     ensures moves { IfOk result (Moves (D.sight desk.old).mine budget.old (λ next. spec.adds (bodies import.left) (again import next) import.name next text) (D.sight desk.new).mine budget.new) }
     ensures keeps { IfOk result (Keeps script (D.sight desk.old).mine (Taken import.name ∷ []) (D.sight desk.new).mine) }
@@ -206,11 +211,13 @@ pub fn finish_good<D: Desk>(
     import: Import,
 ) -> Result<Step, NoMemory>
     requires number { (D.sight desk.old).number ≡ script }
+    requires ready { IsReady (D.sight desk.old) }
     requires safe { IsSafe script (D.sight desk.old).mine (λ next. spec.finishes load (again import next) import.name next flows.On) }
     ensures number { (D.sight desk.new).number ≡ script }
+    ensures ready { IsReady (D.sight desk.new) }
     ensures continues { Continues (D.sight desk.old) (D.sight desk.new) }
     ensures moves { IfOk result (Moves (D.sight desk.old).mine budget.old (λ next. spec.finishes load (again import next) import.name next flows.On) (D.sight desk.new).mine budget.new) }
-    ensures keeps { IfOk result (Keeps script (D.sight desk.old).mine (Loading load mid import.name ∷ []) (D.sight desk.new).mine) }
+    ensures keeps { IfOk result (Keeps script (D.sight desk.old).mine (Loading load ∷ []) (D.sight desk.new).mine) }
     ensures falls { IfOk result (λ step. Falls budget.old 1 budget.new (weight_after step)) }
     ensures err { OnErr result ((D.sight desk.new).mine ≡ (D.sight desk.old).mine) }
 {
@@ -236,11 +243,13 @@ pub fn finish_bad<D: Desk>(
     error: Raised,
 ) -> Result<Step, NoMemory>
     requires number { (D.sight desk.old).number ≡ script }
+    requires ready { IsReady (D.sight desk.old) }
     requires safe { IsSafe script (D.sight desk.old).mine (λ next. spec.finishes load (again import next) import.name next (flows.Raised error)) }
     ensures number { (D.sight desk.new).number ≡ script }
+    ensures ready { IsReady (D.sight desk.new) }
     ensures continues { Continues (D.sight desk.old) (D.sight desk.new) }
     ensures moves { IfOk result (Moves (D.sight desk.old).mine budget.old (λ next. spec.finishes load (again import next) import.name next (flows.Raised error)) (D.sight desk.new).mine budget.new) }
-    ensures keeps { IfOk result (Keeps script (D.sight desk.old).mine (Loading load mid import.name ∷ []) (D.sight desk.new).mine) }
+    ensures keeps { IfOk result (Keeps script (D.sight desk.old).mine (Loading load ∷ []) (D.sight desk.new).mine) }
     ensures falls { IfOk result (λ step. Falls budget.old 1 budget.new (weight_after step)) }
     ensures err { OnErr result ((D.sight desk.new).mine ≡ (D.sight desk.old).mine) }
 {
@@ -264,8 +273,10 @@ pub fn give_back<D: Desk>(
     why: Why,
 ) -> Result<Step, NoMemory>
     requires number { (D.sight desk.old).number ≡ script }
+    requires ready { IsReady (D.sight desk.old) }
     requires safe { IsSafe script (D.sight desk.old).mine (λ next. spec.gives_back name next (error_of why name)) }
     ensures number { (D.sight desk.new).number ≡ script }
+    ensures ready { IsReady (D.sight desk.new) }
     ensures continues { Continues (D.sight desk.old) (D.sight desk.new) }
     ensures moves { IfOk result (Moves (D.sight desk.old).mine budget.old (λ next. spec.gives_back name next (error_of why name)) (D.sight desk.new).mine budget.new) }
     ensures keeps { IfOk result (Keeps script (D.sight desk.old).mine (Taken name ∷ []) (D.sight desk.new).mine) }

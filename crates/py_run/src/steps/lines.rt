@@ -1,10 +1,11 @@
 //! The statements of a body.
 ghost use Rattle.std.specs.Prelude.{◌≡◌, ℕ, ◌<◌, ◌+◌, ◌*◌, ◌-◌, List, [], ◌∷◌, ◌++◌, IfOk, OnErr, Option, length, drop, codes, ◌/◌};
-ghost use Rattle.machine_events.specs.Knowing.{Holding, Taken, Loading, shown, add_answered};
+ghost use Rattle.thread_knowledge.specs.Holdings.{Holding, Taken, Loading};
+ghost use Rattle.thread_knowledge.specs.Shown.{shown, add_answered};
 ghost use Rattle.machine_events.specs.declared.event.Event.{Event};
 ghost use Rattle.machine_events.specs.declared.event.Event.TheVariants as ev;
 ghost use Rattle.machine_events.specs.declared.event.Reply.{Reply};
-ghost use Rattle.machine_book.specs.Sight.{Sight, Continues};
+ghost use Rattle.machine_book.specs.Sight.{Sight, IsReady, Continues};
 ghost use Rattle.std.specs.Prelude.{true};
 ghost use Rattle.meanings.specs.Runs.{make};
 ghost use Rattle.py_run.specs.declared.flow.Flow.TheVariants as flows;
@@ -110,8 +111,10 @@ pub fn print<D: Desk>(
     text: Text,
 ) -> Result<Step, NoMemory>
     requires number { (D.sight desk.old).number ≡ script }
+    requires ready { IsReady (D.sight desk.old) }
     requires safe { IsSafe script (D.sight desk.old).mine (λ next. spec.pay (spec.pay (make (ev.GetVar mid (codes "print") true) (spec.callee text next)))) }
     ensures number { (D.sight desk.new).number ≡ script }
+    ensures ready { IsReady (D.sight desk.new) }
     ensures continues { Continues (D.sight desk.old) (D.sight desk.new) }
     ensures moves { IfOk result (Moves (D.sight desk.old).mine budget.old (λ next. spec.pay (spec.pay (make (ev.GetVar mid (codes "print") true) (spec.callee text next)))) (D.sight desk.new).mine budget.new) }
     ensures keeps { IfOk result (Keeps script (D.sight desk.old).mine ([]) (D.sight desk.new).mine) }
@@ -146,8 +149,10 @@ fn prints<D: Desk>(
     text: Text,
 ) -> Result<Step, NoMemory>
     requires number { (D.sight desk.old).number ≡ script }
+    requires ready { IsReady (D.sight desk.old) }
     requires safe { IsSafe script (D.sight desk.old).mine (spec.prints text) }
     ensures number { (D.sight desk.new).number ≡ script }
+    ensures ready { IsReady (D.sight desk.new) }
     ensures continues { Continues (D.sight desk.old) (D.sight desk.new) }
     ensures moves { IfOk result (Moves (D.sight desk.old).mine budget.old (spec.prints text) (D.sight desk.new).mine budget.new) }
     ensures keeps { IfOk result (Keeps script (D.sight desk.old).mine ([]) (D.sight desk.new).mine) }
@@ -181,8 +186,10 @@ pub fn argument<D: Desk>(
     text: Text,
 ) -> Result<Step, NoMemory>
     requires number { (D.sight desk.old).number ≡ script }
+    requires ready { IsReady (D.sight desk.old) }
     requires safe { IsSafe script (D.sight desk.old).mine (spec.argument text) }
     ensures number { (D.sight desk.new).number ≡ script }
+    ensures ready { IsReady (D.sight desk.new) }
     ensures continues { Continues (D.sight desk.old) (D.sight desk.new) }
     ensures moves { IfOk result (Moves (D.sight desk.old).mine budget.old (spec.argument text) (D.sight desk.new).mine budget.new) }
     ensures keeps { IfOk result (Keeps script (D.sight desk.old).mine ([]) (D.sight desk.new).mine) }
@@ -215,8 +222,10 @@ pub fn bind<D: Desk>(
     module: ModRef,
 ) -> Result<Step, NoMemory>
     requires number { (D.sight desk.old).number ≡ script }
+    requires ready { IsReady (D.sight desk.old) }
     requires safe { IsSafe script (D.sight desk.old).mine (λ next. spec.binds mid name next (flows.Found «module»)) }
     ensures number { (D.sight desk.new).number ≡ script }
+    ensures ready { IsReady (D.sight desk.new) }
     ensures continues { Continues (D.sight desk.old) (D.sight desk.new) }
     ensures moves { IfOk result (Moves (D.sight desk.old).mine budget.old (λ next. spec.binds mid name next (flows.Found «module»)) (D.sight desk.new).mine budget.new) }
     ensures keeps { IfOk result (Keeps script (D.sight desk.old).mine ([]) (D.sight desk.new).mine) }

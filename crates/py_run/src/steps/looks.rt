@@ -1,10 +1,11 @@
 //! Looks into the cache.
 ghost use Rattle.std.specs.Prelude.{◌≡◌, ℕ, ◌<◌, List, [], ◌∷◌, ◌++◌, IfOk, OnErr};
-ghost use Rattle.machine_events.specs.Knowing.{Holding, shown, take_answered};
+ghost use Rattle.thread_knowledge.specs.Holdings.{Holding};
+ghost use Rattle.thread_knowledge.specs.Shown.{shown, take_answered};
 ghost use Rattle.machine_events.specs.declared.event.Event.{Event};
 ghost use Rattle.machine_events.specs.declared.event.Event.TheVariants as ev;
 ghost use Rattle.machine_events.specs.declared.event.Reply.{Reply};
-ghost use Rattle.machine_book.specs.Sight.{Sight, Continues};
+ghost use Rattle.machine_book.specs.Sight.{Sight, IsReady, Continues};
 ghost use Rattle.meanings.specs.Runs.{Makes};
 ghost use Rattle.py_run.specs.Meaning as spec;
 ghost use Rattle.py_run.specs.Meaning.{Onward, bodies};
@@ -107,8 +108,10 @@ pub fn ask<D: Desk>(
     import: Import,
 ) -> Result<Step, NoMemory>
     requires number { (D.sight desk.old).number ≡ script }
+    requires ready { IsReady (D.sight desk.old) }
     requires safe { IsSafe script (D.sight desk.old).mine (again import) }
     ensures number { (D.sight desk.new).number ≡ script }
+    ensures ready { IsReady (D.sight desk.new) }
     ensures continues { Continues (D.sight desk.old) (D.sight desk.new) }
     ensures moves { IfOk result (Moves (D.sight desk.old).mine budget.old (again import) (D.sight desk.new).mine budget.new) }
     ensures keeps { IfOk result (Keeps script (D.sight desk.old).mine ([]) (D.sight desk.new).mine) }
@@ -138,8 +141,10 @@ pub fn take<D: Desk>(
     import: Import,
 ) -> Result<Step, NoMemory>
     requires number { (D.sight desk.old).number ≡ script }
+    requires ready { IsReady (D.sight desk.old) }
     requires safe { IsSafe script (D.sight desk.old).mine (λ next. spec.takes (bodies import.left) (again import next) import.name next) }
     ensures number { (D.sight desk.new).number ≡ script }
+    ensures ready { IsReady (D.sight desk.new) }
     ensures continues { Continues (D.sight desk.old) (D.sight desk.new) }
     ensures moves { IfOk result (Moves (D.sight desk.old).mine budget.old (λ next. spec.takes (bodies import.left) (again import next) import.name next) (D.sight desk.new).mine budget.new) }
     ensures keeps { IfOk result (Keeps script (D.sight desk.old).mine ([]) (D.sight desk.new).mine) }
@@ -161,8 +166,10 @@ pub fn wait_for<D: Desk>(
     import: Import,
 ) -> Result<Step, NoMemory>
     requires number { (D.sight desk.old).number ≡ script }
+    requires ready { IsReady (D.sight desk.old) }
     requires safe { IsSafe script (D.sight desk.old).mine (λ next. Makes ev.Wake (λ _. again import next)) }
     ensures number { (D.sight desk.new).number ≡ script }
+    ensures ready { IsReady (D.sight desk.new) }
     ensures continues { Continues (D.sight desk.old) (D.sight desk.new) }
     ensures moves { IfOk result (Moves (D.sight desk.old).mine budget.old (λ next. Makes ev.Wake (λ _. again import next)) (D.sight desk.new).mine budget.new) }
     ensures keeps { IfOk result (Keeps script (D.sight desk.old).mine ([]) (D.sight desk.new).mine) }

@@ -6,7 +6,7 @@ ghost use Rattle.tree_files.specs.Files.{IsFileAt};
 ghost use Rattle.tree_files.specs.declared.tree.Stamp.{Stamp};
 ghost use Rattle.std.specs.Prelude.{IsTrue, ◌&&◌};
 ghost use Rattle.base_types.specs.Path.{is_part};
-ghost use Rattle.machine_events.specs.Knowing.{Taken};
+ghost use Rattle.thread_knowledge.specs.Holdings.{Taken};
 ghost use Rattle.machine_events.specs.declared.event.Event.{Event};
 ghost use Rattle.machine_events.specs.declared.event.Reply.{Reply};
 ghost use Rattle.meanings.specs.Runs.{Run, Looks, StampOf, TextOf, Stands, IsUnread};

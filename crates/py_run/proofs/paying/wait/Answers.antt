@@ -1,5 +1,5 @@
 use Rattle.std.proofs.Common.{ap, ◌∙◌}
-use Rattle.machine_events.specs.Knowing.{shown}
+use Rattle.thread_knowledge.specs.Shown.{shown}
 use Rattle.meanings.proofs.Spends.{shown-snoc}
 use Rattle.meanings.proofs.Stand.{stands_made}
 use Rattle.py_run.proofs.paying.wait.Goals as goal

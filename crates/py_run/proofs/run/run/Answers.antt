@@ -1,6 +1,6 @@
 use Rattle.std.proofs.Common.{◌≡◌, Option, refl, sym, ◌∙◌, subst, arith}
 use Rattle.tree_files.specs.Files.{Files}
-use Rattle.machine_events.specs.Knowing.{shown}
+use Rattle.thread_knowledge.specs.Shown.{shown}
 use Rattle.machine_book.proofs.Keeping.{continues_refl, continues_trans}
 use Rattle.meanings.specs.Runs.{Run, Stands}
 use Rattle.meanings.proofs.Stand.{on_err}
@@ -24,6 +24,7 @@ stretches-init g c =
     let mine = (g.D.Desk.sight c.args.desk.now).mine in
     record {
       number = c.requires.number;
+      ready = c.requires.ready;
       continues = continues_refl _;
       holds = holds_none c.args.script c.args.name c.args.text mine c.push.new.self c.args.work.now c.in_ok-push.ensures.ok c.requires.idle c.requires.first;
       files = refl;
@@ -54,6 +55,7 @@ stretches-preserved g c =
     c.stretches.invariant.files c.stretches.invariant.stands c.in_ok-on.ensures.moves in
     record {
       number = c.in_ok-on.ensures.number;
+      ready = c.in_ok-on.ensures.ready;
       continues = continues_trans _ _ _ c.stretches.invariant.continues c.in_ok-on.ensures.continues;
       holds = subst (λ (s : Stretch). (shown c.args.script mine').held ≡ held_stretch s c.run_on.new.work) c.in-Paid.is c.in_ok-on.ensures.holds;
       files = c.in_ok-on.ensures.files ∙ c.stretches.invariant.files;

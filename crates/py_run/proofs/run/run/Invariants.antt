@@ -1,6 +1,6 @@
 use Rattle.std.proofs.Common.{◌≡◌, ◌≤◌}
-use Rattle.machine_events.specs.Knowing.{shown}
-use Rattle.machine_book.specs.Sight.{Continues}
+use Rattle.thread_knowledge.specs.Shown.{shown}
+use Rattle.machine_book.specs.Sight.{IsReady, Continues}
 use Rattle.meanings.specs.Runs.{Stands}
 use Rattle.py_run.specs.Meaning.{meaning}
 use Rattle.py_run.specs.Work.{rest, held_of}
@@ -9,6 +9,7 @@ use Rattle.py_run.proofs.run.run.Given as goal
 abbrev pub invariant-stretches : goal.invariant-stretches
 invariant-stretches g l = record {
   number : (g.D.Desk.sight l.desk).number ≡ l.fn.script;
+  ready : IsReady (g.D.Desk.sight l.desk);
   continues : Continues (g.D.Desk.sight l.fn.desk) (g.D.Desk.sight l.desk);
   holds : (shown l.fn.script (g.D.Desk.sight l.desk).mine).held ≡ held_of l.work;
   files : g.T.Tree.files l.tree ≡ g.T.Tree.files l.fn.tree;

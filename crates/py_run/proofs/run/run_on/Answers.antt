@@ -1,5 +1,5 @@
 use Rattle.std.proofs.Common.{◌≡◌, ◌++◌, refl, sym, ap, ◌∙◌, subst, arith}
-use Rattle.machine_events.specs.Knowing.{shown}
+use Rattle.thread_knowledge.specs.Shown.{shown}
 use Rattle.machine_book.proofs.Keeping.{continues_refl, continues_trans}
 use Rattle.meanings.specs.Runs.{Run, Stands, StandsIn}
 use Rattle.meanings.proofs.Stand.{in_some, on_err}
@@ -12,7 +12,7 @@ use Rattle.py_run.proofs.Loops.{after_item, safe_item}
 use Rattle.py_run.proofs.run.run_on.Goals as goal
 
 pub loop-item-init : goal.loop-item-init
-loop-item-init g c = record { number = c.requires.number; budget = refl; continues = continues_refl _; holds = c.requires.holds; files = refl; faults = omega arith; moves = λ whole fuel s. s }
+loop-item-init g c = record { number = c.requires.number; ready = c.requires.ready; budget = refl; continues = continues_refl _; holds = c.requires.holds; files = refl; faults = omega arith; moves = λ whole fuel s. s }
 
 pub advance-requires-clause-safe : goal.advance-requires-clause-safe
 advance-requires-clause-safe g c =
@@ -80,6 +80,7 @@ loop-item-preserved g c =
     (c.in_ok-lead.ensures.keeps (held_of c.pop.new.self) (before.holds ∙ ap held_of c.in-Some.ensures)) in
     record {
       number = c.in_ok-lead.ensures.number;
+      ready = c.in_ok-lead.ensures.ready;
       budget = omega (arith, before.budget, c.in_ok-lead.ensures.falls.0, c.if-budget-before.false);
       continues = continues_trans _ _ _ before.continues c.in_ok-lead.ensures.continues;
       holds = held_there ∙ sym c.in_ok-flow-in-Step-On.ensures.holds;

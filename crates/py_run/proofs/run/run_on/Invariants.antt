@@ -1,6 +1,6 @@
 use Rattle.std.proofs.Common.{◌≡◌, ◌≤◌, ℕ}
-use Rattle.machine_events.specs.Knowing.{shown}
-use Rattle.machine_book.specs.Sight.{Continues}
+use Rattle.thread_knowledge.specs.Shown.{shown}
+use Rattle.machine_book.specs.Sight.{IsReady, Continues}
 use Rattle.meanings.specs.Runs.{Run, Stands}
 use Rattle.py_run.specs.Work.{rest, held_of, weights}
 use Rattle.py_run.proofs.run.run_on.Given as goal
@@ -8,6 +8,7 @@ use Rattle.py_run.proofs.run.run_on.Given as goal
 abbrev pub invariant-loop-item : goal.invariant-loop-item
 invariant-loop-item g l = record {
   number : (g.D.Desk.sight l.desk).number ≡ l.fn.script;
+  ready : IsReady (g.D.Desk.sight l.desk);
   budget : l.budget ≡ l.fn.budget;
   continues : Continues (g.D.Desk.sight l.fn.desk) (g.D.Desk.sight l.desk);
   holds : (shown l.fn.script (g.D.Desk.sight l.desk).mine).held ≡ held_of l.work;

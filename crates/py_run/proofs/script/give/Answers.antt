@@ -1,7 +1,9 @@
 use Rattle.std.proofs.Common.{◌≡◌, ◌∷◌, ◌++◌, [], subst, sym}
 use Rattle.machine_events.specs.declared.event.Event.{Event}
 use Rattle.machine_events.specs.declared.event.Reply.{Reply}
-use Rattle.machine_events.specs.Knowing.{Holding, IsShown, shown}
+use Rattle.thread_knowledge.specs.Holdings.{Holding}
+use Rattle.thread_knowledge.specs.Shown.{shown}
+use Rattle.thread_knowledge.specs.Knowing.{IsShown}
 use Rattle.meanings.specs.Runs.{gives}
 use Rattle.meanings.proofs.Stand.{may_give, gives_more, held_more, runs_more}
 use Rattle.py_run.specs.Work.{hold_of}

@@ -1,7 +1,7 @@
 use Rattle.std.proofs.Common.{◌≡◌, ℕ, Bool, Option, length}
 use Rattle.tree_files.specs.Files.{Files}
-use Rattle.machine_events.specs.Knowing.{shown, Running}
-use Rattle.machine_book.specs.Sight.{Continues}
+use Rattle.thread_knowledge.specs.Shown.{shown, Running}
+use Rattle.machine_book.specs.Sight.{IsReady, Continues}
 use Rattle.meanings.specs.Runs.{Run, GivesUp}
 use Rattle.py_run.specs.Work.{held_of}
 use Rattle.py_run.proofs.script.give_up.Given as goal
@@ -9,6 +9,7 @@ use Rattle.py_run.proofs.script.give_up.Given as goal
 abbrev pub invariant-loop-item : goal.invariant-loop-item
 invariant-loop-item g l = record {
   number : (g.D.Desk.sight l.desk).number ≡ l.fn.script;
+  ready : IsReady (g.D.Desk.sight l.desk);
   continues : Continues (g.D.Desk.sight l.fn.desk) (g.D.Desk.sight l.desk);
   runs : (shown l.fn.script (g.D.Desk.sight l.desk).mine).doing ≡ Running;
   holds : (shown l.fn.script (g.D.Desk.sight l.desk).mine).held ≡ held_of l.work;

@@ -1,7 +1,7 @@
 use Rattle.std.proofs.Common.{rules, ◌≡◌, List, ap}
 use Rattle.machine_events.specs.declared.event.Event.{Event}
 use Rattle.machine_events.specs.declared.event.Reply.{Reply}
-use Rattle.machine_book.specs.Histories.{own}
+use Rattle.thread_knowledge.specs.Own.{own}
 use Rattle.py_run.specs.Meaning.{meaning}
 use Rattle.pyimport.proofs.Endings.{follows_by}
 use Rattle.pyimport.proofs.alone.run_alone.Goals as goal

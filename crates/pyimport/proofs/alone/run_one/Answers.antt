@@ -1,7 +1,7 @@
 use Rattle.std.proofs.Common.{◌≡◌, ◌∷◌, [], ◌∙◌, sym, ap, refl, List, ℕ, Some}
 use Rattle.machine_events.specs.declared.event.Outcome.TheVariants as o
 use Rattle.tree_files.specs.Count.{Rose}
-use Rattle.machine_book.specs.Histories.{own}
+use Rattle.thread_knowledge.specs.Own.{own}
 use Rattle.py_run.specs.Meaning.{meaning}
 use Rattle.pyimport.specs.Alone.{opening_of, IsRun}
 use Rattle.pyimport.specs.Ends.{end_of, err_text, status_of}

@@ -1,14 +1,24 @@
--- The book gained one entry, or is as it was.
-use Rattle.std.proofs.Common.{refl}
+-- The event is allowed, and the book gained one entry, or is as it was.
+use Rattle.std.proofs.Common.{refl, ap, sym, ◌∙◌}
+use Rattle.thread_knowledge.specs.Own.{own}
+use Rattle.machine_book.proofs.Histories.{allowed_here, own_snoc}
 use Rattle.machine_book.proofs.Keeping.{continues_refl, continues_snoc}
 use Rattle.machine_book.proofs.solo.SoloDeskDesk.call.Goals as goal
 
-pub returns-then-not-allowed-clause-continues : goal.returns-then-not-allowed-clause-continues
-returns-then-not-allowed-clause-continues g c = continues_refl _
+pub step-requires : goal.step-requires
+step-requires g c = allowed_here c.knows_is_allowed.ensures _ _ _ _ c.check_legal.ensures.begun c.check_legal.ensures.legal c.requires.ready c.requires.knows
 
 pub returns-in-Ok-clause-continues : goal.returns-in-Ok-clause-continues
 returns-in-Ok-clause-continues g c =
-    continues_snoc _ _ (record { thread = 0; event = c.args.event; reply = c.in-Ok.reply }) c.step.ensures.opening refl refl c.in-Ok.ensures.entry (refl, c.in-Ok.ensures.put)
+    continues_snoc _ _ _ c.step.ensures.opening refl refl c.in-Ok.ensures.entry (refl, c.in-Ok.ensures.put)
+
+pub returns-in-Ok-clause-ok : goal.returns-in-Ok-clause-ok
+returns-in-Ok-clause-ok g c = record {
+  legal = c.in-Ok.ensures.legal;
+  entry = record { before = _; joined = sym c.in-Ok.ensures.entry };
+  mine = ap (own _) c.in-Ok.ensures.entry ∙ own_snoc _ _ _ refl;
+  fits = c.in-Ok.ensures.fits;
+}
 
 pub returns-in-Err-clause-continues : goal.returns-in-Err-clause-continues
 returns-in-Err-clause-continues g c = rw c.in-Err.ensures.err (continues_refl _)
