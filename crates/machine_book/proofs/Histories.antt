@@ -1,8 +1,9 @@
 -- One more entry at the end of a history.
-use Rattle.std.proofs.Common.{◌≡◌, ℕ, List, [], ◌∷◌, ◌++◌, cond, true, false, map, refl, sym, ◌∙◌, ap, subst, eqb}
+use Rattle.std.proofs.Common.{◌≡◌, ℕ, Bool, List, [], ◌∷◌, ◌++◌, cond, true, false, map, refl, sym, ◌∙◌, ap, subst, eqb}
 use Rattle.std.specs.Prelude.{filter, ◌==◌}
 use Rattle.std.proofs.lemmas.Bool.{eq-eqb}
 use Rattle.machine_events.specs.declared.event.Event.{Event}
+use Rattle.machine_events.specs.declared.event.Reply.{Reply}
 use Rattle.machine_events.specs.declared.event.Entry.{Entry}
 use Rattle.machine_state.specs.declared.state.State.{State}
 use Rattle.machine_state.specs.Step.{step}
@@ -30,12 +31,16 @@ book_snoc first m m' h h₁ h' e is may reply after same longer =
       legal_snoc first h e is.1 may (reply ∙ ap (λ s. (step s e.thread e.event).0) is.0),
     )
 
+-- an entry as a pair of its thread
+abbrev paired : Entry → Event × Reply
+paired e = (e.event, e.reply)
+
 -- one more entry of the thread
 pub own_snoc : (t : ℕ) (h : List Entry) (e : Entry) → e.thread ≡ t → own t (h ++ e ∷ []) ≡ own t h ++ (e.event, e.reply) ∷ []
-own_snoc t [] e is = ap (λ c. map (λ e. (e.event, e.reply)) (cond c (e ∷ []) [])) (eq-eqb e.thread t is)
+own_snoc t [] e is = ap (λ (c : Bool). map {B = Event × Reply} (λ (e : Entry). paired e) (cond c (e ∷ []) [])) (eq-eqb e.thread t is)
 own_snoc t (x ∷ xs) e is =
-    elim (eqb x.thread t) as (λ c. map (λ e. (e.event, e.reply)) (cond c (x ∷ filter (λ e. e.thread == t) (xs ++ e ∷ [])) (filter (λ e. e.thread == t) (xs ++ e ∷ []))) ≡ map (λ e. (e.event, e.reply)) (cond c (x ∷ filter (λ e. e.thread == t) xs) (filter (λ e. e.thread == t) xs)) ++ (e.event, e.reply) ∷ []) [
-      | true ↦ ap (λ w. (x.event, x.reply) ∷ w) (own_snoc t xs e is)
+    elim (eqb x.thread t) as (λ (c : Bool). map {B = Event × Reply} (λ (e : Entry). paired e) (cond c (x ∷ filter (λ (e : Entry). e.thread == t) (xs ++ e ∷ [])) (filter (λ (e : Entry). e.thread == t) (xs ++ e ∷ []))) ≡ map {B = Event × Reply} (λ (e : Entry). paired e) (cond c (x ∷ filter (λ (e : Entry). e.thread == t) xs) (filter (λ (e : Entry). e.thread == t) xs)) ++ paired e ∷ []) [
+      | true ↦ ap (λ (w : List (Event × Reply)). paired x ∷ w) (own_snoc t xs e is)
       | false ↦ own_snoc t xs e is
     ]
 
