@@ -116,14 +116,14 @@ record Ready (sizes : List ℕ) (s : State) (k : Shown) : Type 0 where
   one : s.rounds ≡ 0 ∷ []
 
 due : (s : State) → s.rounds ≡ 0 ∷ [] → is_due s 0 ≡ true
-due s one = ap (λ rs. is_due_from s (slice_get rs 0)) one
+due s one = ap (λ (rs : List ℕ). is_due_from s (slice_get rs 0)) one
 
 lone : (rounds : List ℕ) → rounds ≡ 0 ∷ [] → IsLone rounds 0
-lone rounds one = subst (λ rs. IsLone rs 0) (sym one) only
+lone rounds one = subst (λ (rs : List ℕ). IsLone rs 0) (sym one) only
   where
-    only : (u : ℕ) → slice_get (0 ∷ []) u ≡ slice_get (0 ∷ []) 0 → u ≡ 0
+    only : (u : ℕ) → slice_get {X = ℕ} (0 ∷ []) u ≡ slice_get {X = ℕ} (0 ∷ []) 0 → u ≡ 0
     only zero is = refl
-    only (suc u) is = absurd (let z : ⊥ = cc in z)
+    only (suc u) is = absurd (cc is)
 
 may_be : (sizes : List ℕ) (s : State) (k : Shown) (event : Event) → Ready sizes s k → IsShown k event → IsTrue (allowed s 0 event)
 may_be sizes s k event ready knows = allowed_from s ready.whole 0 k (due s ready.one) ready.agrees ready.exists event knows
@@ -142,13 +142,13 @@ ready_more sizes s k event ready may =
     }
 
 legal_made : (f : Files) (sizes : List ℕ) (run : Run) (s : State) (k : Shown) (outcome : Outcome) (paid : ℕ) → Ready sizes s k → Safe k run → IsLegal s (entries_of (pairs_from f s run ++ (End outcome paid, Done) ∷ []))
-legal_made f sizes (Over how) s k outcome paid ready safe = (may_be sizes s k (End outcome paid) ready safe.1, (refl, tt))
+legal_made f sizes (Over how) s k outcome paid ready safe = (may_be sizes s k (End outcome paid) ready safe.1, refl, tt)
 legal_made f sizes (Pays of_tree n next) s k outcome paid ready safe = legal_made f sizes next s k outcome paid ready safe.1
 legal_made f sizes (Looks q next) s k outcome paid ready safe = legal_made f sizes (next (told f q)) s k outcome paid ready (safe.1 (told f q))
 legal_made f sizes (Makes event next) s k outcome paid ready safe =
     let r : Reply = reply_of s event in
     let may = may_be sizes s k event ready (no_waking k event ready.idle safe.0) in
-    (may, (refl, legal_made f sizes (next r) (state_after s event) (shown_more k (event, r)) outcome paid (ready_more sizes s k event ready may) (safe.1 r)))
+    (may, refl, legal_made f sizes (next r) (state_after s event) (shown_more k (event, r)) outcome paid (ready_more sizes s k event ready may) (safe.1 r))
 
 -- The history.
 
@@ -181,9 +181,9 @@ one_round : (b : Begun) → length b.scripts ≡ 1 → (first b).rounds ≡ 0 �
 one_round b one = by (first b).rounds (rounds_long 0 b.rounds ∙ b.whole ∙ one) (starts_low 0 b.rounds)
   where
     starts_low : (k : ℕ) (sizes : List ℕ) → (f : ℕ) → slice_get (round_starts k sizes) 0 ≡ Some f → f ≡ k
-    starts_low k [] f is = cc
+    starts_low k [] f is = absurd (cc is)
     starts_low k (zero ∷ sizes) f is = starts_low (k + 0) sizes f is ∙ omega arith
-    starts_low k (suc size ∷ sizes) f is = let g : k ≡ f = cc in sym g
+    starts_low k (suc size ∷ sizes) f is = let g : k ≡ f = cc is in sym g
 
     by : (rs : List ℕ) → length rs ≡ 1 → ((f : ℕ) → slice_get rs 0 ≡ Some f → f ≡ 0) → rs ≡ 0 ∷ []
     by [] long low = absurd (omega arith)
