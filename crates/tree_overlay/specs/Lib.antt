@@ -1,0 +1,4 @@
+pub mod Fates
+pub mod Gathered
+pub mod Names
+pub mod Seen
