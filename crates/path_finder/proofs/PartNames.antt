@@ -111,9 +111,13 @@ not_word t w true e good bad =
     cc
 not_word t w false e good bad = ap not e
 
+nonzero : (n : ℕ) (b : Bool) → (suc n == 0) ≡ b → not b ≡ true
+nonzero n true e = let bad : suc n ≡ 0 = eqb-true (suc n) 0 e in absurd (omega arith)
+nonzero n false e = refl
+
 long : (t : List ℕ) → (t ≡ [] → ⊥) → not (length t == 0) ≡ true
 long [] h = absurd (h refl)
-long (b ∷ bs) h = refl
+long (b ∷ bs) h = nonzero (length bs) _ refl
 
 fit_part : (t : List ℕ) → (t ≡ [] → ⊥) → list_all is_fit t ≡ true → is_part t ≡ true
 fit_part t full good =
@@ -136,7 +140,7 @@ not_true false h = refl
 
 long_suffix : (t : List ℕ) → not (length (with_suffix t) == 0) ≡ true
 long_suffix [] = refl
-long_suffix (b ∷ bs) = refl
+long_suffix (b ∷ bs) = nonzero (length (bs ++ codes ".py")) _ refl
 
 suffix_part : (t : List ℕ) → (t ≡ [] → ⊥) → list_all is_part_byte t ≡ true → is_part (with_suffix t) ≡ true
 suffix_part t full good =

@@ -101,9 +101,10 @@ impl Look {
         ensures means { IfOk result (λ it. means it LookIn.Start ≡ step.searches name path []) }
         ensures came { IfOk result (λ it. (f : Files) → Came f it []) }
     {
+        let sought = Sought::of(name)?;
         let portions = Texts::new(path.alloc());
         Ok(Look {
-            sought: Sought::of(name)?,
+            sought,
             path,
             at: 0,
             portions,
