@@ -68,9 +68,9 @@ is_char c k b low small e =
 fit_byte : (c k : ℕ) → continues_identifier c ≡ true → k < length (encode c) → is_fit (get_or (encode c) k 0) ≡ true
 fit_byte c k good low =
     fit_by (get_or (encode c) k 0) _ _ _ refl refl refl
-        (λ e. never c 47 good slash_stops (is_char c k 47 low (lit< tt) (eqb-true (get_or (encode c) k 0) 47 e)))
-        (λ e. never c 0 good zero_stops (is_char c k 0 low (lit< tt) (eqb-true (get_or (encode c) k 0) 0 e)))
-        (λ e. never c 46 good dot_stops (is_char c k 46 low (lit< tt) (eqb-true (get_or (encode c) k 0) 46 e)))
+    (λ e. never c 47 good slash_stops (is_char c k 47 low (lit< tt) (eqb-true (get_or (encode c) k 0) 47 e)))
+    (λ e. never c 0 good zero_stops (is_char c k 0 low (lit< tt) (eqb-true (get_or (encode c) k 0) 0 e)))
+    (λ e. never c 46 good dot_stops (is_char c k 46 low (lit< tt) (eqb-true (get_or (encode c) k 0) 46 e)))
 
 fit_char : (c : ℕ) → continues_identifier c ≡ true → list_all is_fit (encode c) ≡ true
 fit_char c good = list_all-from_AllPass is_fit (encode c) (λ k d low. subst (λ b. is_fit b ≡ true) (sym (get_or_default_zero (encode c) k d low)) (fit_byte c k good low))

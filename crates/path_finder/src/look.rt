@@ -12,10 +12,10 @@ ghost use Rattle.path_finder.specs.Steps as step;
 ghost use Rattle.path_finder.specs.Steps.{Stamps, Lists, Reads};
 ghost use Rattle.path_finder.specs.Has.{settled};
 ghost use Rattle.path_finder.specs.declared.words.Probe.{Probe};
-ghost use Rattle.path_finder.specs.Looking.{ awaits, is_quiet, does, input_kind, want_kind, behind, means, means_at, wants, Suits, CountsLists, Came, reply_of, reply_in, Finds};
+ghost use Rattle.path_finder.specs.Looking.{awaits, is_quiet, does, input_kind, want_kind, behind, means, means_at, wants, Suits, CountsLists, Came, reply_of, reply_in, Finds};
 
-use crate::sought::Sought;
 use crate::probes::{Has, probed};
+use crate::sought::Sought;
 use crate::stamps::stamp_at;
 use crate::words::{Found, LookIn, LookWant, Probe};
 use base_types::{Exact, Listing, NoMemory, Text, Texts, TreePath};
@@ -34,9 +34,15 @@ pub enum Stage {
     /// The payment for the stamp of an entry.
     Stamping(TreePath),
     /// What the kept listing of the directory says, which has this time.
-    Asking { dir: TreePath, time: u64 },
+    Asking {
+        dir: TreePath,
+        time: u64,
+    },
     /// The payment for its listing.
-    Listing { dir: TreePath, time: u64 },
+    Listing {
+        dir: TreePath,
+        time: u64,
+    },
     /// That the listing is kept, which has the part, or the part with `.py`.
     Keeping {
         dir: TreePath,

@@ -7,7 +7,7 @@ use Rattle.path_finder.proofs.look.Look.next.Goals as goal
 pub returns-clause-goes : goal.returns-clause-goes
 returns-clause-goes g c =
     let went : IfOk c.advance.result (λ want. Reads (g.T.Tree.files c.args.tree.now) (does c.args.self.now c.args.self.now.stage (reply_of c.args.input)) (wants want (means c.advance.new.self))) =
-        rw (c.take_stage-stage.ensures.over, c.take_stage-stage.ensures.taken, c.reply_of-reply.ensures) at c.advance.ensures.goes in
+    rw (c.take_stage-stage.ensures.over, c.take_stage-stage.ensures.taken, c.reply_of-reply.ensures) at c.advance.ensures.goes in
     subst (λ s. IfOk c.advance.result (λ want. Reads (g.T.Tree.files c.args.tree.now) s (wants want (means c.advance.new.self)))) (fitting c.args.self.now c.args.self.now.stage c.args.input c.requires.fits) went
 
 pub returns-clause-finds : goal.returns-clause-finds

@@ -12,4 +12,4 @@ returns-clause-means c =
 pub returns-clause-came : goal.returns-clause-came
 returns-clause-came c = λ f.
     came_at_start f (record { sought = c.in_ok-sought.sought; path = c.args.path; at = 0; portions = c.new-portions.result; stage = at.Fresh }) refl
-        (rw c.new-portions.ensures (ap (λ s. s []) (onward-start c.in_ok-sought.sought.name c.args.path)))
+    (rw c.new-portions.ensures (ap (λ s. s []) (onward-start c.in_ok-sought.sought.name c.args.path)))

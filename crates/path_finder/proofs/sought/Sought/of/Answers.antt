@@ -8,7 +8,7 @@ pub invariant_of-result : goal.invariant_of-result
 invariant_of-result c =
     let part : c.in_ok-part.part ≡ c.tail.result.now = c.in_ok-part.ensures in
     let file : c.push_str.new.self ≡ with_suffix c.in_ok-part.part =
-        c.in_ok-push_str.ensures.ok ∙ ap (λ t. t ++ codes ".py") (c.in_ok-file.ensures ∙ c.tail-2.ensures.value ∙ sym (part ∙ c.tail.ensures.value)) in
+    c.in_ok-push_str.ensures.ok ∙ ap (λ t. t ++ codes ".py") (c.in_ok-file.ensures ∙ c.tail-2.ensures.value ∙ sym (part ∙ c.tail.ensures.value)) in
     record {
       tail = part ∙ c.tail.ensures.value;
       suffix = file;
