@@ -6,8 +6,6 @@ mod look;
 mod probes;
 mod sought;
 mod stamps;
-#[cfg(test)]
-mod tests;
 mod words;
 
 pub use load::{LONGEST, LoadFault, load_text};

@@ -1,3 +1,0 @@
-pub mod FateLemmas
-pub mod TreeLemmas
-pub mod Within

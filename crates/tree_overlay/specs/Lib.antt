@@ -1,4 +1,0 @@
-pub mod Fates
-pub mod Gathered
-pub mod Names
-pub mod Seen
