@@ -1,0 +1,5 @@
+pub mod Finding
+pub mod PartNames
+pub mod Reading
+pub mod Spelling
+pub mod Steps

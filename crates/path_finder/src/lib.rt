@@ -2,5 +2,12 @@
 #![tactic(auto)]
 
 mod load;
+mod look;
+mod probes;
+mod sought;
+mod stamps;
+mod words;
 
 pub use load::{LONGEST, LoadFault, load_text};
+pub use look::Look;
+pub use words::{Found, LookIn, LookWant, Probe};
