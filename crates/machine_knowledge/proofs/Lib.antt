@@ -1,0 +1,17 @@
+pub mod Values
+pub mod Grow
+pub mod Named
+pub mod Fine
+pub mod Times
+pub mod Locks
+pub mod Agreeing
+pub mod Moving
+pub mod Telling
+pub mod Maps
+pub mod First
+pub mod Spaces
+pub mod Along
+pub mod Enough
+pub mod Law
+pub mod Lone
+pub mod Making
