@@ -16,6 +16,13 @@ five out a b c d e = simp append_assoc
 pub seven : (out a b c d e f g : List ℕ) → ((((((out ++ a) ++ b) ++ c) ++ d) ++ e) ++ f) ++ g ≡ out ++ ((((((a ++ b) ++ c) ++ d) ++ e) ++ f) ++ g)
 seven out a b c d e f g = simp append_assoc
 
+-- one more field
+fields_more : (out : List ℕ) (fields : List (List ℕ)) (field : List ℕ) → (out ++ spaced fields) ++ 32 ∷ field ≡ out ++ spaced (fields ++ field ∷ [])
+fields_more out fields field =
+    append_assoc out (spaced fields) (32 ∷ field)
+    ∙ ap (λ t. out ++ (spaced fields ++ t)) (sym (append-nil (32 ∷ field)))
+    ∙ ap (λ t. out ++ t) (sym (flat_map-append (λ f. 32 ∷ f) fields (field ∷ [])))
+
 pub fields_two : (out a b : List ℕ) → (out ++ 32 ∷ a) ++ 32 ∷ b ≡ out ++ spaced (a ∷ b ∷ [])
 fields_two out a b = simp (append_assoc, append-nil)
 
@@ -26,7 +33,7 @@ pub fields_four : (out a b c d : List ℕ) → (((out ++ 32 ∷ a) ++ 32 ∷ b) 
 fields_four out a b c d = simp (append_assoc, append-nil)
 
 pub fields_five : (out a b c d e : List ℕ) → ((((out ++ 32 ∷ a) ++ 32 ∷ b) ++ 32 ∷ c) ++ 32 ∷ d) ++ 32 ∷ e ≡ out ++ spaced (a ∷ b ∷ c ∷ d ∷ e ∷ [])
-fields_five out a b c d e = simp (append_assoc, append-nil)
+fields_five out a b c d e = ap (λ t. t ++ 32 ∷ e) (fields_four out a b c d) ∙ fields_more out (a ∷ b ∷ c ∷ d ∷ []) e
 
 -- an entry: thread, event, `->`, reply, LF
 pub entry_line : (out thread : List ℕ) (event reply : List (List ℕ)) →

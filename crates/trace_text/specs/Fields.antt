@@ -1,6 +1,5 @@
 -- The fields of an entry. The format is this project's own.
 use Rattle.std.specs.Prelude.{ℕ, List, [], ◌∷◌, ◌++◌, codes, Bool, true, false}
-use Rattle.std.specs.List.{flat_map}
 use Rattle.std.specs.Fmt.{decimal}
 use Rattle.base_types.specs.Path.{joined}
 use Rattle.spec_core.specs.declared.spec.Spec.{Spec}

@@ -1,6 +1,6 @@
 -- How a trace spells values, places, errors and what else stands in a field. The format is this project's own. No blank
 -- stands in them but inside quotes.
-use Rattle.std.specs.Prelude.{ℕ, zero, suc, ℤ, List, [], ◌∷◌, ◌++◌, map, codes, Bool, true, false, Option, Some, None, if◌then◌else◌}
+use Rattle.std.specs.Prelude.{ℕ, zero, suc, ℤ, List, [], ◌++◌, map, codes, Bool, true, false, Option, Some, None, if◌then◌else◌}
 use Rattle.std.specs.List.{join_by}
 use Rattle.std.specs.Fmt.{decimal, signed_decimal}
 use Rattle.std.specs.Str.{chars}

@@ -4,6 +4,8 @@
 mod events;
 mod fields;
 mod replies;
+#[cfg(test)]
+mod tests;
 mod trace;
 mod values;
 
