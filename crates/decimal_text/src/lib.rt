@@ -1,0 +1,9 @@
+//! Decimal numbers as traces and rounds files spell them: digits without leading zeros, so that each number has one
+//! spelling.
+#![tactic(auto)]
+
+mod read;
+#[cfg(test)]
+mod tests;
+
+pub use read::read_number;

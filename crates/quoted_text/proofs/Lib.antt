@@ -1,0 +1,5 @@
+mod Pieces
+mod Escapes
+mod Sources
+mod Decoding
+mod Takes

@@ -1,0 +1,65 @@
+-- What bytes would spell, whether they are a spelling or not: a text or source is spelled by them exactly where its
+-- spelling gives them back.
+use Rattle.std.specs.Prelude.{ℕ, ◌+◌, ◌*◌, ◌-◌, ◌%◌, List, [], ◌∷◌, ◌++◌, drop, Bool, false, ◌==◌, nat_lt, fold, if◌then◌else◌}
+use Rattle.quoted_text.specs.declared.candidate.Reading.{Reading}
+use Rattle.quoted_text.specs.declared.candidate.Reading.TheVariants as reading
+use Rattle.quoted_text.specs.declared.candidate.Decoded.{Decoded}
+
+-- the value of a hexadecimal digit
+abbrev pub hex_value : ℕ → ℕ
+hex_value c = if nat_lt c 58 then (c - 48) % 16 else (c - 87) % 16
+
+abbrev pub with_low : ℕ → ℕ → ℕ
+with_low high c = (high % 16) * 16 + hex_value c
+
+abbrev pub turned : Reading → Decoded → Decoded
+turned next d = record d { reading = next }
+
+abbrev pub given : Reading → ℕ → Decoded → Decoded
+given next b d = record { reading = next; bytes = d.bytes ++ b ∷ [] }
+
+-- a byte outside escapes: a backslash begins one, and a quote stands for nothing
+abbrev pub plain : ℕ → Decoded → Decoded
+plain c d = if c == 92 then turned reading.Escape d else if c == 34 then d else given reading.Plain c d
+
+-- the byte behind a backslash: `x` (120), `n` (110), `r` (114), `t` (116), or one that stands for itself
+abbrev pub behind_backslash : ℕ → Decoded → Decoded
+behind_backslash c d =
+    if c == 120 then turned reading.High d
+    else if c == 110 then given reading.Plain 10 d
+    else if c == 114 then given reading.Plain 13 d
+    else if c == 116 then given reading.Plain 9 d
+    else given reading.Plain c d
+
+abbrev pub quoted_step : Reading → ℕ → Decoded → Decoded
+quoted_step reading.Plain c d = plain c d
+quoted_step reading.Escape c d = behind_backslash c d
+quoted_step reading.High c d = turned (reading.Low (hex_value c)) d
+quoted_step (reading.Low high) c d = given reading.Plain (with_low high c) d
+
+abbrev pub quoted_next : Decoded → ℕ → Decoded
+quoted_next d c = quoted_step d.reading c d
+
+abbrev pub hex_step : Reading → ℕ → Decoded → Decoded
+hex_step (reading.Low high) c d = given reading.High (with_low high c) d
+hex_step other c d = turned (reading.Low (hex_value c)) d
+
+abbrev pub hex_next : Decoded → ℕ → Decoded
+hex_next d c = hex_step d.reading c d
+
+abbrev pub began : Reading → Decoded
+began first = record { reading = first; bytes = [] }
+
+unfoldable pub quoted_candidate : List ℕ → List ℕ
+quoted_candidate field = (fold quoted_next (began reading.Plain) field).bytes
+
+-- the digits stand behind the four bytes of `hex(`
+unfoldable pub hex_candidate : List ℕ → List ℕ
+hex_candidate field = (fold hex_next (began reading.High) (drop 4 field)).bytes
+
+abbrev pub begins_with_quote : List ℕ → Bool
+begins_with_quote [] = false
+begins_with_quote (b ∷ bs) = b == 34
+
+abbrev pub source_candidate : List ℕ → List ℕ
+source_candidate field = if begins_with_quote field then quoted_candidate field else hex_candidate field

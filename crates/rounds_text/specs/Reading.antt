@@ -1,0 +1,106 @@
+-- Line by line through a rounds file.
+use Rattle.std.specs.Prelude.{◌≡◌, ℕ, ◌+◌, ◌-◌, ◌^◌, min, List, [], ◌∷◌, ◌++◌, nat_lt, ◌==◌, Option, Some, None, Result, Ok, Err, if◌then◌else◌}
+use Rattle.std.specs.List.{slice_split}
+use Rattle.std.specs.Option.{option_map, option_and_then, ok_or}
+use Rattle.std.specs.Str.{bytes_eq}
+use Rattle.tree_files.specs.declared.edit.Edit.{Edit}
+use Rattle.rounds_text.specs.Spelling.{first_line}
+use Rattle.rounds_text.specs.Lines.{line_in}
+use Rattle.rounds_text.specs.declared.line.Line.{Line}
+use Rattle.rounds_text.specs.declared.line.Line.TheVariants as lines
+use Rattle.rounds_text.specs.declared.draft.Stage.{Stage}
+use Rattle.rounds_text.specs.declared.draft.Stage.TheVariants as stages
+use Rattle.rounds_text.specs.declared.draft.Draft.{Draft}
+use Rattle.rounds_text.specs.declared.rounds.Round.{Round}
+use Rattle.rounds_text.specs.declared.rounds.Rounds.{Rounds}
+use Rattle.rounds_text.specs.declared.rounds.RoundsError.{RoundsError}
+use Rattle.rounds_text.specs.declared.rounds.RoundsError.TheVariants as error
+
+abbrev pub start : Draft
+start = record { stage = stages.First; done = []; edits = []; scripts = []; count = 0 }
+
+abbrev pub open_round : Draft → Round
+open_round d = record { edits = d.edits; scripts = d.scripts }
+
+-- a further round begins: it needs a script, so at most 15 have stood
+abbrev pub with_round : Draft → Option Draft
+with_round d = if nat_lt d.count 16 then Some (record { stage = stages.Edits; done = d.done ++ open_round d ∷ []; edits = []; scripts = []; count = d.count }) else None
+
+-- at most 16 scripts stand in the file
+abbrev pub with_script : List ℕ → Draft → Option Draft
+with_script script d =
+    if nat_lt d.count 16 then Some (record { stage = stages.Scripts; done = d.done; edits = d.edits; scripts = d.scripts ++ script ∷ []; count = d.count + 1 }) else None
+
+abbrev pub with_edit : Edit → Draft → Option Draft
+with_edit edit d = Some (record d { edits = d.edits ++ edit ∷ [] })
+
+abbrev pub turned : Stage → Draft → Option Draft
+turned stage d = Some (record d { stage = stage })
+
+-- a line where no round has begun, where a round has no script yet, and where it has one
+abbrev pub at_rounds : Line → Draft → Option Draft
+at_rounds lines.Round d = turned stages.Edits d
+at_rounds _ d = None
+
+abbrev pub at_edits : Line → Draft → Option Draft
+at_edits lines.Round d = None
+at_edits (lines.Edit edit) d = with_edit edit d
+at_edits (lines.Script script) d = with_script script d
+
+abbrev pub at_scripts : Line → Draft → Option Draft
+at_scripts lines.Round d = with_round d
+at_scripts (lines.Edit edit) d = None
+at_scripts (lines.Script script) d = with_script script d
+
+abbrev pub further : Stage → Line → Draft → Option Draft
+further stages.First line d = None
+further stages.Rounds line d = at_rounds line d
+further stages.Edits line d = at_edits line d
+further stages.Scripts line d = at_scripts line d
+
+abbrev pub at_first : List ℕ → Draft → Option Draft
+at_first line d = if bytes_eq line first_line then turned stages.Rounds d else None
+
+abbrev pub next_at : Stage → List ℕ → Draft → Option Draft
+next_at stages.First line d = at_first line d
+next_at stage line d = option_and_then (λ l. further stage l d) (line_in line)
+
+-- the draft with one line more, if a rounds file goes on with it
+abbrev pub next : List ℕ → Draft → Option Draft
+next line d = next_at d.stage line d
+
+-- a file may end where its last round has a script
+abbrev pub ends_at : Stage → Draft → Option (List Round)
+ends_at stages.Scripts d = Some (d.done ++ open_round d ∷ [])
+ends_at _ d = None
+
+-- what stands behind the last LF must be nothing
+abbrev pub ends : List ℕ → Draft → Option (List Round)
+ends [] d = ends_at d.stage d
+ends (b ∷ bs) d = None
+
+abbrev pub Ends : Option Rounds → List ℕ → Draft → Type 0
+Ends o rest d = option_map (λ rounds. rounds.list) o ≡ ends rest d
+
+abbrev pub goes : Option Draft → ℕ → (Draft → Result (List Round) ℕ) → Result (List Round) ℕ
+goes None at then_ = Err at
+goes (Some d) at then_ = then_ d
+
+-- through the lines from number `at` on, and to what stands behind the last LF: the rounds, or the number of the first
+-- line at which no rounds file goes on
+abbrev pub read_on : ℕ → Draft → List (List ℕ) → Result (List Round) ℕ
+read_on at d [] = Err at
+read_on at d (line ∷ []) = ok_or (ends line d) at
+read_on at d (line ∷ more ∷ lines) = goes (next line d) at (λ e. read_on (at + 1) e (more ∷ lines))
+
+abbrev pub pieces : List ℕ → List (List ℕ)
+pieces bytes = slice_split (λ b. b == 10) bytes
+
+unfoldable pub rounds_in : List ℕ → Result (List Round) ℕ
+rounds_in bytes = read_on 1 start (pieces bytes)
+
+-- what `read_rounds` answers, unless memory is wanted; the number of a line stands still at 2 ^ 32 - 1
+abbrev pub Reads : Result (List Round) ℕ → Result Rounds RoundsError → Type 0
+Reads expected (Ok rounds) = expected ≡ Ok rounds.list
+Reads expected (Err (error.At line)) = (n : ℕ) × (expected ≡ Err n) × (line ≡ min n (2 ^ 32 - 1))
+Reads expected (Err error.NoMemory) = Unit {0}

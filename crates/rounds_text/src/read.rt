@@ -1,0 +1,67 @@
+//! From bytes to rounds.
+ghost use Rattle.std.specs.Prelude.{◌≡◌, ◌∷◌, [], ◌++◌, ◌-◌, ◌^◌, min, map, IfOk};
+ghost use Rattle.rounds_text.specs.Reading.{Reads, pieces, read_on, rounds_in, start};
+
+use crate::draft::{ended, next, start};
+use crate::rounds::{Rounds, RoundsError};
+use std::alloc::{AllocError, Global};
+
+/// What stands before, between and behind the line ends.
+fn pieces_of(alloc: Global, bytes: &[u8]) -> Result<Vec<&[u8]>, AllocError>
+    ensures { IfOk result (λ v. map (λ x. x.now) v.items ≡ pieces bytes.now) }
+{
+    bytes.split(|b| *b == b'\n').collect(alloc)
+}
+
+fn line_number(n: usize) -> u32
+    ensures { result ≡ min n (2 ^ 32 - 1) }
+{
+    if n < u32::MAX as usize {
+        n as u32
+    } else {
+        u32::MAX
+    }
+}
+
+/// The lines, each without its line end, and what stands behind the last line end.
+fn read_lines(alloc: Global, lines: &[&[u8]], rest: &[u8]) -> Result<Rounds, RoundsError>
+    ensures { Reads (read_on 1 start (map (λ x. x.now) lines.now ++ rest.now ∷ [])) result }
+{
+    let mut draft = start(alloc);
+    for i in 0..lines.len() {
+        match next(alloc, lines[i], draft)? {
+            Some(more) => draft = more,
+            None => {
+                return Err(RoundsError::At {
+                    line: line_number(i + 1),
+                });
+            }
+        }
+    }
+    match ended(rest, draft)? {
+        Some(rounds) => Ok(rounds),
+        None => Err(RoundsError::At {
+            line: line_number(lines.len() + 1),
+        }),
+    }
+}
+
+fn read_pieces(alloc: Global, pieces: &[&[u8]]) -> Result<Rounds, RoundsError>
+    ensures { Reads (read_on 1 start (map (λ x. x.now) pieces.now)) result }
+{
+    match pieces.split_last() {
+        Some((rest, lines)) => read_lines(alloc, lines, rest),
+        None => Err(RoundsError::At { line: 1 }),
+    }
+}
+
+/// The rounds that a rounds file says, or the first line at which no rounds file goes on.
+#[tactic(auto, unfolding(crate::specs::Reading::rounds_in))]
+pub fn read_rounds(alloc: Global, bytes: &[u8]) -> Result<Rounds, RoundsError>
+    ensures { Reads (rounds_in bytes.now) result }
+{
+    match pieces_of(alloc, bytes) {
+        Ok(pieces) => read_pieces(alloc, pieces.as_slice()),
+        Err(_) => Err(RoundsError::NoMemory),
+    }
+}

@@ -1,0 +1,36 @@
+//! What a rounds file says.
+use base_types::{NoMemory, Seq, Texts};
+use tree_files::Edit;
+
+/// The edits that are made before a round, in order, and the scripts that run in it.
+#[derive(Drop)]
+pub struct Round {
+    pub edits: Seq<Edit>,
+    /// The tree paths of the scripts, as texts.
+    pub scripts: Texts,
+}
+
+/// All rounds, in order.
+#[derive(Drop)]
+pub struct Rounds {
+    pub list: Seq<Round>,
+}
+
+/// Why there are no rounds.
+#[derive(Drop)]
+pub enum RoundsError {
+    /// The first line, counted from 1, at which no rounds file goes on. The count stands still at 2 ^ 32 - 1.
+    At { line: u32 },
+    NoMemory,
+}
+
+impl From<NoMemory> for RoundsError {
+    ghost use Rattle.std.specs.Prelude.{◌≡◌};
+    ghost use Rattle.rounds_text.specs.declared.rounds.RoundsError.TheVariants as error;
+
+    ghost from_gives = { λ _ e. e ≡ error.NoMemory };
+
+    fn from(_e: NoMemory) -> RoundsError {
+        RoundsError::NoMemory
+    }
+}
