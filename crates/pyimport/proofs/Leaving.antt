@@ -1,16 +1,16 @@
 -- What is left in the sinks.
-use Rattle.std.proofs.Common.{◌≡◌, ◌≤◌, ℕ, List, [], ◌∷◌, ◌++◌, Option, Some, None, Result, Ok, Err, IfOk, refl, sym, subst, ◌∙◌, ap, take, drop, length}
-use Rattle.std.proofs.lemmas.List.{append-nil, take-append-drop}
+use Rattle.std.proofs.Common.{◌≡◌, ◌≤◌, ℕ, Bool, List, [], ◌∷◌, ◌++◌, Option, Some, None, Result, Ok, Err, IfOk, refl, sym, subst, ◌∙◌, ap, arith, take, drop, length}
+use Rattle.std.proofs.lemmas.List.{append-nil, append_assoc, take-append-drop}
 use Rattle.base_types.specs.declared.no_memory.NoMemory.{NoMemory}
 use Rattle.tree_files.specs.Writing.{appended, HasPrefixOf}
 use Rattle.machine_events.specs.declared.event.Entry.{Entry}
 use Rattle.machine_book.specs.declared.outlet.Flow.{Flow}
 use Rattle.machine_book.specs.declared.outlet.Flow.TheVariants.{Open, Failed, Short}
-use Rattle.machine_book.specs.Outgo.{Outgo, Kept, Flows, FlowsFrom, Appends, AppendsPart}
+use Rattle.machine_book.specs.Outgo.{Outgo, Kept, Flows, FlowsFrom, Appends, AppendsPart, text_of}
 use Rattle.thread_knowledge.specs.Own.{own}
 use Rattle.py_run.specs.declared.script.Ending.{Ending}
 use Rattle.py_run.specs.Ending.{Ended, outcome}
-use Rattle.pyimport.specs.Prints.{piece, out_text}
+use Rattle.pyimport.specs.Prints.{piece, opening_text, out_text}
 use Rattle.pyimport.specs.Ends.{line_of, err_text, number_of, status_of}
 use Rattle.pyimport.specs.Sinks.{At, Gets, Leaves, status_by}
 use Rattle.pyimport.proofs.Endings.{line_is, number_is}
@@ -23,14 +23,45 @@ appends_none (Some a) = sym (append-nil a)
 pub gets_none : (a : At) → Gets a [] a Open
 gets_none a = appends_none a.written
 
-gets_by : (old new : Outgo) (text : List ℕ) (flow : Flow) → Flows old text new flow → Gets (record { written = old.written; faults = old.faults }) text (record { written = new.written; faults = new.faults }) flow
-gets_by old new text Open g = g
-gets_by old new text Failed g = g
-gets_by old new text Short g = g
+appends_then : (a b c : Option (List ℕ)) (x y : List ℕ) → Appends a b x → Appends b c y → Appends a c (x ++ y)
+appends_then None None None x y p q = tt
+appends_then (Some a) (Some b) (Some c) x y p q = q ∙ (ap (λ w. w ++ y) p ∙ append_assoc a x y)
+appends_then None None (Some c) x y p q = absurd q
+appends_then None (Some b) c x y p q = absurd p
+appends_then (Some a) None c x y p q = absurd p
+appends_then (Some a) (Some b) None x y p q = absurd q
 
--- an outlet that was open has got the whole text of a history, or a beginning of it
-pub gets_kept : (old new : Outgo) (history : List Entry) → old.flow ≡ Open → Kept piece old new history → Gets (record { written = old.written; faults = old.faults }) (out_text old.trace history) (record { written = new.written; faults = new.faults }) new.flow
-gets_kept old new history is kept = gets_by old new (out_text old.trace history) new.flow (subst (λ (flow : Flow). FlowsFrom old (out_text old.trace history) new flow) is kept.text)
+part_then : (a b c : Option (List ℕ)) (x y : List ℕ) → Appends a b x → AppendsPart b c y → AppendsPart a c (x ++ y)
+part_then a b c x y p q = record {
+  part = x ++ q.part;
+  rest = q.rest;
+  whole = append_assoc x q.part q.rest ∙ ap (λ w. x ++ w) q.whole;
+  gained = appends_then a b c x q.part p q.gained;
+}
+
+part_still : (a b c : Option (List ℕ)) (x y : List ℕ) → AppendsPart a b x → Appends b c [] → AppendsPart a c (x ++ y)
+part_still a b c x y p q = record {
+  part = p.part ++ [];
+  rest = p.rest ++ y;
+  whole = ap (λ w. w ++ (p.rest ++ y)) (append-nil p.part) ∙ (sym (append_assoc p.part p.rest y) ∙ ap (λ w. w ++ y) p.whole);
+  gained = appends_then a b c p.part [] p.gained q;
+}
+
+-- a sink that got a first text and was then an outlet for some entries, by how it stood between and stands now
+module _ (a : At) (s b : Outgo) (x y : List ℕ) (up : a.faults ≤ s.faults) (grows : s.faults ≤ b.faults) where
+  gets_then : (m e : Flow) → s.flow ≡ m → b.flow ≡ e → Gets a x (record { written = s.written; faults = s.faults }) m → FlowsFrom s y b m → Gets a (x ++ y) (record { written = b.written; faults = b.faults }) e
+  gets_then Open e sm be p q = open_then e be p (subst (λ (f : Flow). Flows s y b f) be q)
+    where
+      open_then : (e : Flow) → b.flow ≡ e → Gets a x (record { written = s.written; faults = s.faults }) Open → Flows s y b e → Gets a (x ++ y) (record { written = b.written; faults = b.faults }) e
+      open_then Open be p q = appends_then a.written s.written b.written x y p q
+      open_then Failed be p q = (part_then a.written s.written b.written x y p q.0, omega (arith, up, q.1))
+      open_then Short be p q = part_then a.written s.written b.written x y p q
+  gets_then Failed Failed sm be p q = (part_still a.written s.written b.written x y p.0 q.1, omega (arith, p.1, grows))
+  gets_then Short Short sm be p q = part_still a.written s.written b.written x y p q.1
+  gets_then Failed Open sm be p q = absurd (cc (sm, be, q.0))
+  gets_then Failed Short sm be p q = absurd (cc (sm, be, q.0))
+  gets_then Short Open sm be p q = absurd (cc (sm, be, q.0))
+  gets_then Short Failed sm be p q = absurd (cc (sm, be, q.0))
 
 -- the line about the end of the one script, and its number
 pub line_for : (script : List ℕ) (scripts : List (List ℕ)) (h : List Entry) (ran : Result Ending NoMemory) → scripts ≡ script ∷ [] → IfOk ran (λ it. Ended (own 0 h) (outcome it)) → IfOk ran (λ it. err_text scripts h ≡ line_of script (outcome it))
@@ -41,15 +72,16 @@ pub number_for : (h : List Entry) (ran : Result Ending NoMemory) → IfOk ran (�
 number_for h (Ok it) ended = number_is h (outcome it) ended
 number_for h (Err e) ended = tt
 
--- an outlet that was given a sink, and the sink that got it back
-pub gets_back : (a b start : Outgo) (history : List Entry) (written : Option (List ℕ)) (faults : ℕ) (flow : Flow) → a ≡ start → start.flow ≡ Open → Kept piece a b history → written ≡ b.written → faults ≡ b.faults → flow ≡ b.flow
-    → Gets (record { written = start.written; faults = start.faults }) (out_text start.trace history) (record { written = written; faults = faults }) flow
-gets_back a b start history written faults flow p is k pw pf pl =
-    let old : At = record { written = start.written; faults = start.faults } in
-    let text : List ℕ = out_text start.trace history in
-    subst (λ (x : Flow). Gets old text (record { written = written; faults = faults }) x) (sym pl)
-    (subst (λ (x : Option (List ℕ)). Gets old text (record { written = x; faults = faults }) b.flow) (sym pw)
-    (subst (λ (x : ℕ). Gets old text (record { written = b.written; faults = x }) b.flow) (sym pf) (gets_kept start b history is (subst (λ (x : Outgo). Kept piece x b history) p k))))
+-- an outlet that was given a sink, and the sink that got it back: it has got the whole text of the history, or a beginning
+pub gets_back : (a : At) (s b : Outgo) (trace : Bool) (history : List Entry) (written : Option (List ℕ)) (faults : ℕ) (flow : Flow) → s.trace ≡ trace → a.faults ≤ s.faults
+    → Gets a (opening_text trace) (record { written = s.written; faults = s.faults }) s.flow → Kept piece s b history → written ≡ b.written → faults ≡ b.faults → flow ≡ b.flow
+    → Gets a (out_text trace history) (record { written = written; faults = faults }) flow
+gets_back a s b trace history written faults flow t up first k pw pf pl =
+    let text : List ℕ = out_text trace history in
+    subst (λ (x : Flow). Gets a text (record { written = written; faults = faults }) x) (sym pl)
+    (subst (λ (x : Option (List ℕ)). Gets a text (record { written = x; faults = faults }) b.flow) (sym pw)
+    (subst (λ (x : ℕ). Gets a text (record { written = b.written; faults = x }) b.flow) (sym pf)
+    (gets_then a s b (opening_text trace) (text_of piece trace history) up k.faults s.flow b.flow refl refl first (subst (λ (x : Bool). FlowsFrom s (text_of piece x history) b s.flow) t k.text))))
 
 appends_by : (old new : Option (List ℕ)) (text : List ℕ) → new ≡ appended old text → Appends old new text
 appends_by None None text e = tt

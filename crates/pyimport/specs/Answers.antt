@@ -31,7 +31,7 @@ is_root path = false
 
 -- what is built so far: one script that lies in the root, which is searched alone
 abbrev pub is_built : RunPlan → Bool
-is_built run = is_one run.scripts && (is_root run.path && (not run.trace && (not run.bundles && not (is_some run.rounds))))
+is_built run = is_one run.scripts && (is_root run.path && (not run.bundles && not (is_some run.rounds)))
 
 abbrev pub run_if : Bool → RunPlan → Option RunPlan
 run_if true run = Some run

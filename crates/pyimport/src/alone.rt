@@ -205,7 +205,7 @@ pub fn run_one<T: Tree, K: Sink>(
             history: None,
         };
     };
-    let outlet = Out::open(out, plan.trace);
+    let outlet = Out::open(alloc, out, plan.trace);
     let alone = run_alone(alloc, tree, it, plan.fuel, outlet);
     let Alone {
         history,

@@ -24,7 +24,7 @@ fn is_built(run: &RunPlan) -> bool
     ensures { result ≡ is_built run.now }
 {
     is_one(run.scripts.as_slice())
-        && (is_root(run.path.as_slice()) && (!run.trace && (!run.bundles && !run.rounds.is_some())))
+        && (is_root(run.path.as_slice()) && (!run.bundles && !run.rounds.is_some()))
 }
 
 fn is_one(scripts: &[Text]) -> bool

@@ -1,16 +1,20 @@
 //! Where a history is written, entry by entry.
 ghost use Rattle.std.specs.Prelude.{◌≡◌, ◌≤◌, [], IfOk};
-ghost use Rattle.machine_book.specs.declared.outlet.Flow.TheVariants.{Open};
-ghost use Rattle.pyimport.specs.Prints.{piece, printed};
+ghost use Rattle.pyimport.specs.Prints.{opening_text, piece, printed};
 ghost use Rattle.pyimport.specs.Sinks.{Gets};
+ghost use Rattle.trace_text.specs.Trace.{line};
 
 use machine_book::{Flow, Outlet};
 use machine_events::{Entry, Event};
+use std::alloc::Global;
+use trace_text::write_entry;
 use tree_files::{Sink, SinkFault, write_whole};
 
-/// A sink that is lent to a book, and gets the text of each Print event when it is made.
+/// A sink that is lent to a book. It gets the text of each Print event, or the line of each event in
+/// a trace, when the event is made.
 #[derive(Drop)]
 pub struct Out<K: Sink> {
+    alloc: Global,
     sink: K,
     trace: bool,
     flow: Flow,
@@ -38,16 +42,51 @@ fn printed(event: &Event) -> &[u8]
     }
 }
 
+/// Writes the line of an entry in a trace.
+fn say_entry<K: Sink>(alloc: Global, sink: &mut K, entry: &Entry) -> Flow
+    ensures gets { Gets (record { written = K.written sink.old; faults = K.faults sink.old }) (line entry.now) (record { written = K.written sink.new; faults = K.faults sink.new }) result }
+    ensures faults_grow { K.faults sink.old ≤ K.faults sink.new }
+{
+    match write_entry(alloc, entry) {
+        Ok(line) => say(sink, line.as_bytes()),
+        Err(_) => Flow::Short,
+    }
+}
+
+/// Writes what an entry puts out.
+fn say_piece<K: Sink>(alloc: Global, sink: &mut K, trace: bool, entry: &Entry) -> Flow
+    ensures gets { Gets (record { written = K.written sink.old; faults = K.faults sink.old }) (piece trace entry.now) (record { written = K.written sink.new; faults = K.faults sink.new }) result }
+    ensures faults_grow { K.faults sink.old ≤ K.faults sink.new }
+{
+    if trace {
+        say_entry(alloc, sink, entry)
+    } else {
+        say(sink, printed(&entry.event))
+    }
+}
+
+/// What stands before the first entry.
+fn opening_text(trace: bool) -> &'static [u8]
+    ensures { result.now ≡ opening_text trace }
+{
+    if trace { b"pyimport-trace 2\n" } else { b"" }
+}
+
 impl<K: Sink> Out<K> {
-    /// Borrows the sink until `close`.
-    pub fn open(sink: &mut K, trace: bool) -> Out<K>
-        ensures out { ⟦<Out<K> as Outlet>⟧.out result ≡ record { trace = trace; written = K.written sink.old; faults = K.faults sink.old; flow = Open } }
+    /// Borrows the sink until `close`, and writes the first line of a trace.
+    pub fn open(alloc: Global, sink: &mut K, trace: bool) -> Out<K>
+        ensures trace { (⟦<Out<K> as Outlet>⟧.out result).trace ≡ trace }
+        ensures gets { Gets (record { written = K.written sink.old; faults = K.faults sink.old }) (opening_text trace) (record { written = (⟦<Out<K> as Outlet>⟧.out result).written; faults = (⟦<Out<K> as Outlet>⟧.out result).faults }) (⟦<Out<K> as Outlet>⟧.out result).flow }
+        ensures faults_grow { K.faults sink.old ≤ (⟦<Out<K> as Outlet>⟧.out result).faults }
         ensures faults_stay { K.faults sink.new ≡ K.faults sink.old }
     {
+        let mut lent = sink.lend();
+        let flow = say(&mut lent, opening_text(trace));
         Out {
-            sink: sink.lend(),
+            alloc,
+            sink: lent,
             trace,
-            flow: Flow::Open,
+            flow,
         }
     }
 
@@ -70,7 +109,7 @@ impl<K: Sink> Outlet for Out<K> {
 
     fn put(&mut self, entry: &Entry) {
         if self.flow == Flow::Open {
-            self.flow = say(&mut self.sink, printed(&entry.event));
+            self.flow = say_piece(self.alloc, &mut self.sink, self.trace, entry);
         }
     }
 }

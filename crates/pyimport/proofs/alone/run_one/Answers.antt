@@ -33,7 +33,7 @@ returns-clause-leaves g c =
     (record {
       out_flow = c.close-flow.result;
       err_flow = said.0;
-      out_gets = gets_back _ _ _ h _ _ _ c.open-outlet.ensures.out refl c.run_alone-alone.ensures.kept c.close-flow.ensures.written c.close-flow.ensures.faults c.close-flow.ensures.flow;
+      out_gets = gets_back _ _ _ c.args.plan.now.trace h _ _ _ c.open-outlet.ensures.trace c.open-outlet.ensures.faults_grow c.open-outlet.ensures.gets c.run_alone-alone.ensures.kept c.close-flow.ensures.written c.close-flow.ensures.faults c.close-flow.ensures.flow;
       err_gets = said.1;
       is = said.2;
     })
