@@ -83,6 +83,21 @@ fn runs_write_what_they_print_and_how_they_end(rt: HostRuntime) -> Result<(), Fa
             "",
             "pyimport: cannot open script 'none.py'\n",
         ),
+        (
+            "run --trace main.py",
+            "main.py ",
+            0,
+            "pyimport-trace 2\n0 end normal 1000000 -> done\n",
+            "",
+        ),
+        (
+            // The search has no events of its own yet: none asks for a listing.
+            "run --trace main.py",
+            "main.py import a;\na.py ",
+            0,
+            "pyimport-trace 2\n0 ask a -> missing\n0 take a -> mine 0\n0 pathget -> path [\"\"]\n0 add a file(\"a.py\") \"\" -> load 1 4\n0 finish 1 good -> kept module(4,a,\"a.py\")\n0 ask a -> module module(4,a,\"a.py\")\n0 set 0 a module(4,a,\"a.py\") raw -> done\n0 end normal 1000000 -> done\n",
+            "",
+        ),
         ("run", "main.py ", 2, "", USAGE),
         ("run --fuel 0 main.py", "main.py ", 2, "", USAGE),
         (
