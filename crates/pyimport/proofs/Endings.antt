@@ -3,6 +3,7 @@ use Rattle.std.proofs.Common.{◌≡◌, ℕ, max, List, [], ◌∷◌, ◌++◌
 use Rattle.std.proofs.Math.ListN.{get_or}
 use Rattle.std.proofs.lemmas.List.{append-nil}
 use Rattle.std.specs.Option.{option_or}
+use Rattle.std.specs.Prelude.{slice_get}
 use Rattle.base_types.specs.declared.no_memory.NoMemory.{NoMemory}
 use Rattle.tree_files.specs.Files.{Files}
 use Rattle.tree_files.specs.Count.{Rose}
@@ -15,7 +16,7 @@ use Rattle.machine_events.specs.declared.event.Outcome.{Outcome}
 use Rattle.machine_events.specs.declared.event.Outcome.TheVariants as o
 use Rattle.machine_state.specs.declared.state.State.{State}
 use Rattle.machine_state.specs.Legal.{IsLegal}
-use Rattle.thread_knowledge.specs.Own.{own}
+use Rattle.thread_knowledge.specs.Own.{own, Ready}
 use Rattle.meanings.specs.Runs.{Run}
 use Rattle.meanings.specs.Follows.{Follows}
 use Rattle.solo_history.specs.Solo.{IsSolo}
@@ -99,3 +100,7 @@ first_by xs ys x e one is = is ∙ (ap (λ (zs : List (List ℕ)). get_or zs 0 x
 -- what holds of a history and a status holds of the run that has both
 pub ran_has : (r : Ran) (status : ℕ) (h : List Entry) (P : List Entry → ℕ → Type 0) → r ≡ record { status = status; history = Some h } → P h status → IfSome r.history (λ x. P x r.status)
 ran_has r status h P e p = subst (λ (x : Ran). IfSome x.history (λ y. P y x.status)) (sym e) p
+
+-- the one script of a machine waits for no earlier round
+pub ready_first : (rounds : List ℕ) (h : List Entry) → rounds ≡ 0 ∷ [] → Ready rounds h 0
+ready_first rounds h is = record { first = 0; round = ap (λ (rs : List ℕ). slice_get rs 0) is; ended = λ u low. absurd (omega (arith, low)) }
