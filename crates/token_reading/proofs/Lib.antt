@@ -1,0 +1,4 @@
+pub mod Right
+pub mod Many
+pub mod Agrees
+pub mod Steps
