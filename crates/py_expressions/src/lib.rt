@@ -1,0 +1,2 @@
+//! Expressions are read by descent, exactly as the grammar spells them.
+#![tactic(auto)]
