@@ -1,3 +1,4 @@
 pub mod Families
 pub mod Tokens
 pub mod Right
+pub mod Complete
