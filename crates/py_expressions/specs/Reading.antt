@@ -4,7 +4,8 @@ use Rattle.token_reading.specs.Reading.{Read, ◌>>=◌, given, refused, too_dee
 use Rattle.token_reading.specs.Many.{rounds}
 use Rattle.py_syntax.specs.declared.lexeme.Lexeme.{Lexeme}
 use Rattle.py_syntax.specs.declared.lexeme.Lexeme.TheVariants as token
-use Rattle.py_syntax.specs.declared.expr.Expr.{Expr}
+use Rattle.py_syntax.specs.declared.expr.Expr.{Expr, out-Expr}
+use Rattle.py_syntax.specs.declared.expr.Expr.TheOpen.{Expr-F}
 use Rattle.py_syntax.specs.declared.expr.Expr.TheVariants as tree
 use Rattle.py_syntax.specs.declared.expr.BinaryOp.TheVariants as op
 use Rattle.py_syntax.specs.declared.expr.Comparison.{Comparison}
@@ -254,3 +255,11 @@ inner_of (suc room) = Some (form room)
 
 abbrev pub expr : ℕ → Reader
 expr room = form room Whole
+
+-- the text of a name that stands alone
+abbrev pub name_at : Expr-F Expr → Option (List ℕ)
+name_at (Expr-F.Name n) = Some n
+name_at _ = None
+
+abbrev pub name_of : Expr → Option (List ℕ)
+name_of e = name_at (out-Expr e)
