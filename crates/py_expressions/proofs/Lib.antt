@@ -1,5 +1,5 @@
 pub mod Families
-pub mod Tokens
+pub mod TokenForms
 pub mod Right
 pub mod Complete
 pub mod Agrees
