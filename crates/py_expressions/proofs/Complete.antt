@@ -235,13 +235,13 @@ call_read : (room : ℕ) (e : Spelled) (us : List Lexeme) (es : List Expr) (o : 
 unfolding strength trailer call_with close_paren
 call_read room e us es o rest h =
     round_read begins_trailer (trailer (inner_of (suc room))) (trailer_shrinks (suc room)) e (other (tree.Call e.tree es)) ((token.OpenParen ∷ (us ++ token.CloseParen ∷ [])) ++ rest) rest refl
-      (rw (append_assoc us (token.CloseParen ∷ []) rest) (rw (all_read room us es o (token.CloseParen ∷ rest) h (paren rest)) refl))
+    (rw (append_assoc us (token.CloseParen ∷ []) rest) (rw (all_read room us es o (token.CloseParen ∷ rest) h (paren rest)) refl))
 
 subscript_read : (room : ℕ) (e x : Spelled) (us rest : List Lexeme) → form room Whole (us ++ token.CloseBracket ∷ rest) ≡ given x (token.CloseBracket ∷ rest) → trailer_loop (suc room) e ((token.OpenBracket ∷ (us ++ token.CloseBracket ∷ [])) ++ rest) ≡ trailer_loop (suc room) (target (tree.Subscript e.tree x.tree)) rest
 unfolding strength trailer subscript_with close_bracket
 subscript_read room e x us rest h =
     round_read begins_trailer (trailer (inner_of (suc room))) (trailer_shrinks (suc room)) e (target (tree.Subscript e.tree x.tree)) ((token.OpenBracket ∷ (us ++ token.CloseBracket ∷ [])) ++ rest) rest refl
-      (rw (append_assoc us (token.CloseBracket ∷ []) rest) (rw h refl))
+    (rw (append_assoc us (token.CloseBracket ∷ []) rest) (rw h refl))
 
 -- with a comma, items are a tuple
 tuple_of : {room : ℕ} {us : List Lexeme} {es : List Expr} {o : Bool} (e : Expr) → IsItems room us es o → parenthesised_by (e ∷ es) o ≡ other (tree.Tuple (e ∷ es))

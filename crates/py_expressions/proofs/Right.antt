@@ -109,7 +109,7 @@ IsMoreItems s room ts t = IsMore s.found s.is_open room ts t.found t.is_open
 after_comma : {room : ℕ} {found all : List Expr} {o : Bool} {xs ys : List Lexeme} {e : Spelled} → IsExpr room xs e → IsMore (found ++ e.tree ∷ []) true room ys all o → IsMore found true room ((xs ++ token.Comma ∷ []) ++ ys) all o
 after_comma {room = room} {found = found} {o = o} {xs = xs} {e = e} h (goes_on {es = es} {ts = ts} k) =
     subst (λ (l : List Lexeme). IsMore found true room l ((found ++ e.tree ∷ []) ++ es) o) (sym (append_assoc xs (token.Comma ∷ []) ts))
-      (subst (λ (l : List Expr). IsMore found true room (xs ++ token.Comma ∷ ts) l o) (sym (append_assoc found (e.tree ∷ []) es)) (goes_on (grammar.next_item h k)))
+    (subst (λ (l : List Expr). IsMore found true room (xs ++ token.Comma ∷ ts) l o) (sym (append_assoc found (e.tree ∷ []) es)) (goes_on (grammar.next_item h k)))
 after_comma {room = room} {found = found} {xs = xs} {e = e} h stays =
     subst (λ (l : List Lexeme). IsMore found true room l (found ++ e.tree ∷ []) true) (sym (append-nil (xs ++ token.Comma ∷ []))) (goes_on (grammar.next_item h grammar.no_items))
 
@@ -123,11 +123,11 @@ more_items n s t u xs ys (an_item h no_comma) k = after_none h k
 
 pub item_rounds : (f : Reader) (room : ℕ) → IsExprReader f room → IsRounds begins_item (item f) IsItem IsMoreItems room
 item_rounds f room h = record {
-    right = λ s ts e. right_item f room h s.found s.is_open ts e;
-    takes = takes_item room;
-    grows = grows_item;
-    none = λ n s. stays;
-    more = more_items;
+  right = λ s ts e. right_item f room h s.found s.is_open ts e;
+  takes = takes_item room;
+  grows = grows_item;
+  none = λ n s. stays;
+  more = more_items;
 }
 
 -- all items of a list, from none on
@@ -145,7 +145,7 @@ items_as_rounds f us = refl
 pub right_all_items : (f : Reader) (room : ℕ) → IsExprReader f room → AllRight (all_items f) IsAllItems room
 right_all_items f room h =
     as_named (rounds begins_item (item f) reading.no_items) (all_items f) IsAllItems room (items_as_rounds f)
-      (widened (rounds begins_item (item f) reading.no_items) (IsMoreItems reading.no_items) IsAllItems room (λ n xs a k. more_all refl refl k) (λ ts. right_many (item_rounds f room h) reading.no_items ts))
+    (widened (rounds begins_item (item f) reading.no_items) (IsMoreItems reading.no_items) IsAllItems room (λ n xs a k. more_all refl refl k) (λ ts. right_many (item_rounds f room h) reading.no_items ts))
 
 grows_all : Grows IsAllItems
 grows_all n ts a h = grows_items h
@@ -164,13 +164,13 @@ right_parens : (f : Form → Reader) (room : ℕ) → IsExprReader (f Whole) roo
 unfolding atom in_parens
 right_parens f room h ts =
     level (atom (Some f)) IsPrimary room (token.OpenParen ∷ ts) (atom (Some f) (token.OpenParen ∷ ts))
-      (enclosed (token.OpenParen ∷ []) token.CloseParen (all_items (f Whole)) IsAllItems close_paren parenthesised (atom (Some f)) (λ n. IsPrimary (suc n)) (λ us. refl) (λ n xs a k. parens_of k) grows_all room (right_close_paren room) ts (right_all_items (f Whole) room h ts))
+    (enclosed (token.OpenParen ∷ []) token.CloseParen (all_items (f Whole)) IsAllItems close_paren parenthesised (atom (Some f)) (λ n. IsPrimary (suc n)) (λ us. refl) (λ n xs a k. parens_of k) grows_all room (right_close_paren room) ts (right_all_items (f Whole) room h ts))
 
 right_brackets : (f : Form → Reader) (room : ℕ) → IsExprReader (f Whole) room → (ts : List Lexeme) → Right (atom (Some f)) IsPrimary (suc room) (token.OpenBracket ∷ ts) (atom (Some f) (token.OpenBracket ∷ ts))
 unfolding atom in_brackets
 right_brackets f room h ts =
     level (atom (Some f)) IsPrimary room (token.OpenBracket ∷ ts) (atom (Some f) (token.OpenBracket ∷ ts))
-      (enclosed (token.OpenBracket ∷ []) token.CloseBracket (all_items (f Whole)) IsAllItems close_bracket (λ a. other (tree.List a.found)) (atom (Some f)) (λ n. IsPrimary (suc n)) (λ us. refl) (λ n xs a k. grammar.display k) grows_all room (right_close_bracket room) ts (right_all_items (f Whole) room h ts))
+    (enclosed (token.OpenBracket ∷ []) token.CloseBracket (all_items (f Whole)) IsAllItems close_bracket (λ a. other (tree.List a.found)) (atom (Some f)) (λ n. IsPrimary (suc n)) (λ us. refl) (λ n xs a k. grammar.display k) grows_all room (right_close_bracket room) ts (right_all_items (f Whole) room h ts))
 
 some_primary : (room : ℕ) → Goes_on IsPrimary room []
 some_primary room = record { more = a_name; value = the_name; spelled = name_primary room }
@@ -228,13 +228,13 @@ right_call : (f : Form → Reader) (room : ℕ) → IsExprReader (f Whole) room 
 unfolding trailer call_with
 right_call f room h e ts =
     level (trailer (Some f) e) (IsTrailer e) room (token.OpenParen ∷ ts) (trailer (Some f) e (token.OpenParen ∷ ts))
-      (enclosed (token.OpenParen ∷ []) token.CloseParen (all_items (f Whole)) IsAllItems close_paren (λ a. other (tree.Call e.tree a.found)) (trailer (Some f) e) (λ n. IsTrailer e (suc n)) (λ us. refl) (λ n xs a k. called k) grows_all room (right_close_paren room) ts (right_all_items (f Whole) room h ts))
+    (enclosed (token.OpenParen ∷ []) token.CloseParen (all_items (f Whole)) IsAllItems close_paren (λ a. other (tree.Call e.tree a.found)) (trailer (Some f) e) (λ n. IsTrailer e (suc n)) (λ us. refl) (λ n xs a k. called k) grows_all room (right_close_paren room) ts (right_all_items (f Whole) room h ts))
 
 right_subscript : (f : Form → Reader) (room : ℕ) → IsExprReader (f Whole) room → (e : Spelled) (ts : List Lexeme) → Right (trailer (Some f) e) (IsTrailer e) (suc room) (token.OpenBracket ∷ ts) (trailer (Some f) e (token.OpenBracket ∷ ts))
 unfolding trailer subscript_with
 right_subscript f room h e ts =
     level (trailer (Some f) e) (IsTrailer e) room (token.OpenBracket ∷ ts) (trailer (Some f) e (token.OpenBracket ∷ ts))
-      (enclosed (token.OpenBracket ∷ []) token.CloseBracket (f Whole) IsExpr close_bracket (λ x. target (tree.Subscript e.tree x.tree)) (trailer (Some f) e) (λ n. IsTrailer e (suc n)) (λ us. refl) (λ n xs a k. subscripted k) (λ n xs a k. grows_chain k) room (right_close_bracket room) ts (h ts))
+    (enclosed (token.OpenBracket ∷ []) token.CloseBracket (f Whole) IsExpr close_bracket (λ x. target (tree.Subscript e.tree x.tree)) (trailer (Some f) e) (λ n. IsTrailer e (suc n)) (λ us. refl) (λ n xs a k. subscripted k) (λ n xs a k. grows_chain k) room (right_close_bracket room) ts (h ts))
 
 trailer_goes_on : (e : Spelled) (room : ℕ) → Goes_on (IsTrailer e) room []
 trailer_goes_on e room = record { more = token.Dot ∷ a_name; value = target (tree.Attribute e.tree (97 ∷ [])); spelled = dotted (97 ∷ []) }
@@ -280,7 +280,7 @@ right_minus : (f : Form → Reader) (room : ℕ) → AllRight (f Signed) IsFacto
 unfolding factor
 right_minus f room h ts =
     level (factor (Some f)) IsFactor room (token.Minus ∷ ts) (factor (Some f) (token.Minus ∷ ts))
-      (prefixed (token.Minus ∷ []) (f Signed) IsFactor (λ e. other (tree.Negative e.tree)) (factor (Some f)) (λ n. IsFactor (suc n)) (λ us. refl) (λ n xs a k. grammar.negative k) (λ n xs a k. grows_factor k) room ts (h ts))
+    (prefixed (token.Minus ∷ []) (f Signed) IsFactor (λ e. other (tree.Negative e.tree)) (factor (Some f)) (λ n. IsFactor (suc n)) (λ us. refl) (λ n xs a k. grammar.negative k) (λ n xs a k. grows_factor k) room ts (h ts))
 
 -- as a primary, where the token ahead is no minus
 factor_as : (inner : Inner) (room : ℕ) → IsInner inner room → (ts : List Lexeme) → ((us : List Lexeme) → head_of us ≡ head_of ts → factor inner us ≡ primary inner us) → Right (factor inner) IsFactor room ts (primary inner ts)
@@ -434,7 +434,7 @@ right_not : (f : Form → Reader) (room : ℕ) → AllRight (f Inverted) IsInver
 unfolding inversion
 right_not f room h ts =
     level (inversion (Some f)) IsInversion room (token.Not ∷ ts) (inversion (Some f) (token.Not ∷ ts))
-      (prefixed (token.Not ∷ []) (f Inverted) IsInversion (λ e. other (tree.Not e.tree)) (inversion (Some f)) (λ n. IsInversion (suc n)) (λ us. refl) (λ n xs a k. grammar.inverted k) (λ n xs a k. grows_inversion k) room ts (h ts))
+    (prefixed (token.Not ∷ []) (f Inverted) IsInversion (λ e. other (tree.Not e.tree)) (inversion (Some f)) (λ n. IsInversion (suc n)) (λ us. refl) (λ n xs a k. grammar.inverted k) (λ n xs a k. grows_inversion k) room ts (h ts))
 
 inversion_as : (inner : Inner) (room : ℕ) → IsInner inner room → (ts : List Lexeme) → ((us : List Lexeme) → head_of us ≡ head_of ts → inversion inner us ≡ comparison (sums inner) us) → Right (inversion inner) IsInversion room ts (comparison (sums inner) ts)
 inversion_as inner room i ts c = chosen (comparison (sums inner)) (inversion inner) IsComparison IsInversion room ts (comparison (sums inner) ts) c (λ n xs a h. grammar.comparison h) (right_comparison (sums inner) room (right_sums inner room i) ts)

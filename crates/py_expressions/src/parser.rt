@@ -52,10 +52,7 @@ fn item(
 
 /// Items with commas between.
 #[cycle(expr)]
-#[tactic(
-    auto,
-    unfolding(crate::specs::Reading::all_items, token_reading::specs::Many::many)
-)]
+#[tactic(auto, unfolding(crate::specs::Reading::all_items, token_reading::specs::Many::many))]
 fn all_items(alloc: Global, tokens: &[Lexeme], room: usize) -> Result<(Items, &[Lexeme]), ReadError>
     ensures value { GivesAt (λ x. x) result (reading.all_items (reading.form room Whole) tokens.now) }
     ensures within { StaysWithin tokens.now result }
@@ -76,7 +73,11 @@ fn all_items(alloc: Global, tokens: &[Lexeme], room: usize) -> Result<(Items, &[
 /// What stands in parentheses, and the closing one.
 #[cycle(expr)]
 #[tactic(auto, unfolding(crate::specs::Reading::in_parens))]
-fn in_parens(alloc: Global, tokens: &[Lexeme], room: usize) -> Result<(Spelled, &[Lexeme]), ReadError>
+fn in_parens(
+    alloc: Global,
+    tokens: &[Lexeme],
+    room: usize,
+) -> Result<(Spelled, &[Lexeme]), ReadError>
     ensures value { GivesAt (λ x. x) result (reading.in_parens (reading.form room Whole) tokens.now) }
     ensures shorter { Shortens tokens.now result }
 {
@@ -88,7 +89,11 @@ fn in_parens(alloc: Global, tokens: &[Lexeme], room: usize) -> Result<(Spelled, 
 /// What stands in brackets, and the closing one.
 #[cycle(expr)]
 #[tactic(auto, unfolding(crate::specs::Reading::in_brackets))]
-fn in_brackets(alloc: Global, tokens: &[Lexeme], room: usize) -> Result<(Spelled, &[Lexeme]), ReadError>
+fn in_brackets(
+    alloc: Global,
+    tokens: &[Lexeme],
+    room: usize,
+) -> Result<(Spelled, &[Lexeme]), ReadError>
     ensures value { GivesAt (λ x. x) result (reading.in_brackets (reading.form room Whole) tokens.now) }
     ensures shorter { Shortens tokens.now result }
 {
@@ -129,14 +134,21 @@ fn atom(alloc: Global, tokens: &[Lexeme], room: usize) -> Result<(Spelled, &[Lex
 
 /// The name of an attribute.
 #[tactic(auto, unfolding(crate::specs::Reading::after_dot))]
-fn after_dot(alloc: Global, left: Expr, tokens: &[Lexeme]) -> Result<(Spelled, &[Lexeme]), ReadError>
+fn after_dot(
+    alloc: Global,
+    left: Expr,
+    tokens: &[Lexeme],
+) -> Result<(Spelled, &[Lexeme]), ReadError>
     ensures value { GivesAt (λ x. x) result (reading.after_dot left tokens.now) }
     ensures shorter { Shortens tokens.now result }
 {
     match tokens {
         [Lexeme::Name(name), rest @ ..] => {
             let name = name.copy()?;
-            Ok((target(Expr::Attribute(Boxed::new(alloc, left)?, name)), rest))
+            Ok((
+                target(Expr::Attribute(Boxed::new(alloc, left)?, name)),
+                rest,
+            ))
         }
         _ => Err(refused(Refusal::Syntax, tokens)),
     }
@@ -156,7 +168,10 @@ fn call_with(
 {
     let (items, rest) = all_items(alloc, tokens, room)?;
     let rest = close_paren(rest)?;
-    Ok((other(Expr::Call(Boxed::new(alloc, left)?, items.found)), rest))
+    Ok((
+        other(Expr::Call(Boxed::new(alloc, left)?, items.found)),
+        rest,
+    ))
 }
 
 /// The index of a subscription, and the closing bracket (6.3.2).
@@ -174,7 +189,10 @@ fn subscript_with(
     let (index, rest) = expr(alloc, tokens, room)?;
     let rest = close_bracket(rest)?;
     let left = Boxed::new(alloc, left)?;
-    Ok((target(Expr::Subscript(left, Boxed::new(alloc, index.tree)?)), rest))
+    Ok((
+        target(Expr::Subscript(left, Boxed::new(alloc, index.tree)?)),
+        rest,
+    ))
 }
 
 /// What follows an atom: a name, arguments or an index.
@@ -210,7 +228,11 @@ fn trailer(
 /// A primary: an atom and what follows it (6.3).
 #[cycle(expr)]
 #[tactic(auto, unfolding(crate::specs::Reading::primary, token_reading::specs::Many::many))]
-pub fn primary(alloc: Global, tokens: &[Lexeme], room: usize) -> Result<(Spelled, &[Lexeme]), ReadError>
+pub fn primary(
+    alloc: Global,
+    tokens: &[Lexeme],
+    room: usize,
+) -> Result<(Spelled, &[Lexeme]), ReadError>
     ensures value { GivesAt (λ x. x) result (reading.primary (inner_of room) tokens.now) }
     ensures shorter { Shortens tokens.now result }
 {
@@ -326,7 +348,11 @@ fn compare_with(
 /// A sum, compared with another one or alone (6.10).
 #[cycle(expr)]
 #[tactic(auto, unfolding(crate::specs::Reading::comparison, crate::specs::Reading::compared))]
-fn comparison(alloc: Global, tokens: &[Lexeme], room: usize) -> Result<(Spelled, &[Lexeme]), ReadError>
+fn comparison(
+    alloc: Global,
+    tokens: &[Lexeme],
+    room: usize,
+) -> Result<(Spelled, &[Lexeme]), ReadError>
     ensures value { GivesAt (λ x. x) result (reading.comparison (reading.sums (inner_of room)) tokens.now) }
     ensures shorter { Shortens tokens.now result }
 {
@@ -340,7 +366,11 @@ fn comparison(alloc: Global, tokens: &[Lexeme], room: usize) -> Result<(Spelled,
 /// A comparison with its `not`s (6.11).
 #[cycle(expr)]
 #[tactic(auto, unfolding(crate::specs::Reading::inversion), using(crate::proofs::Complete::by_inner))]
-fn inversion(alloc: Global, tokens: &[Lexeme], room: usize) -> Result<(Spelled, &[Lexeme]), ReadError>
+fn inversion(
+    alloc: Global,
+    tokens: &[Lexeme],
+    room: usize,
+) -> Result<(Spelled, &[Lexeme]), ReadError>
     ensures value { GivesAt (λ x. x) result (reading.inversion (inner_of room) tokens.now) }
     ensures shorter { Shortens tokens.now result }
 {
@@ -359,7 +389,11 @@ fn inversion(alloc: Global, tokens: &[Lexeme], room: usize) -> Result<(Spelled, 
 /// An expression (chapter 6): the longest one that the tokens begin with, or the first token that none goes on with.
 #[cycle(expr)]
 #[tactic(auto, using(crate::proofs::Complete::by_inner))]
-pub fn expr(alloc: Global, tokens: &[Lexeme], room: usize) -> Result<(Spelled, &[Lexeme]), ReadError>
+pub fn expr(
+    alloc: Global,
+    tokens: &[Lexeme],
+    room: usize,
+) -> Result<(Spelled, &[Lexeme]), ReadError>
     ensures value { GivesAt (λ x. x) result (reading.form room Whole tokens.now) }
     ensures shorter { Shortens tokens.now result }
 {

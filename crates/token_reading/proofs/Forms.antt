@@ -59,11 +59,11 @@ rest_goes_on Is room s = record { more = []; value = s; spelled = rest_none Is r
 
 pub left_rounds : {T S : Type 0} (begins : S → Option T → Bool) (reads : S → List T → Read T S) (IsRound : S → ℕ → List T → S → Type 0) (Is : ℕ → List T → S → Type 0) (room : ℕ) → ((s : S) (ts : List T) → begins s (head_of ts) ≡ true → Right (reads s) (IsRound s) room ts (reads s ts)) → ((s t : S) (ts : List T) → IsRound s room ts t → 0 < length ts) → ((n : ℕ) (s t : S) (ts : List T) → IsRound s n ts t → IsRound s (suc n) ts t) → ((n : ℕ) (s t : S) (xs ys : List T) → Is n xs s → IsRound s n ys t → Is n (xs ++ ys) t) → IsRounds begins reads IsRound (IsRest Is) room
 left_rounds begins reads IsRound Is room right takes grows extend = record {
-    right = right;
-    takes = takes;
-    grows = grows;
-    none = λ n s. rest_none Is n s;
-    more = λ n s t u xs ys h k zs q. subst (λ (l : List _). Is n l u) (append_assoc zs xs ys) (k (zs ++ xs) (extend n s t zs xs q h));
+  right = right;
+  takes = takes;
+  grows = grows;
+  none = λ n s. rest_none Is n s;
+  more = λ n s t u xs ys h k zs q. subst (λ (l : List _). Is n l u) (append_assoc zs xs ys) (k (zs ++ xs) (extend n s t zs xs q h));
 }
 
 pub right_left : {T S : Type 0} (F : List T → Read T S) (IsFirst : ℕ → List T → S → Type 0) (begins : S → Option T → Bool) (reads : S → List T → Read T S) (IsRound : S → ℕ → List T → S → Type 0) (H : List T → Read T S) (Is : ℕ → List T → S → Type 0) (room : ℕ) → IsRounds begins reads IsRound (IsRest Is) room → ((ts : List T) → H ts ≡ (F ts >>= λ x. rounds begins reads x.0 x.1)) → ((n : ℕ) (xs : List T) (a : S) → IsFirst n xs a → Is n xs a) → Grows IsFirst → AllRight F IsFirst room → AllRight H Is room

@@ -85,10 +85,10 @@ module _ {T S : Type 0} {begins : S → Option T → Bool} {reads : S → List T
   go_sequence : (s : S) → IsSequence [] (reads s) (IsRound s) (λ t. rounds begins reads t) (λ t. IsAll t) (λ t u. u) (goes_on s) (IsAll s)
   unfolding goes_on
   go_sequence s = record {
-      computes = λ ts. bind_pairs (reads s ts) (λ x. rounds begins reads x.0 x.1);
-      builds = λ n xs ys t u h k. form.more n s t u xs ys h k;
-      grows = λ n xs t h. form.grows n s t xs h;
-      finishes = λ n t. record { more = []; value = t; spelled = form.none n t };
+    computes = λ ts. bind_pairs (reads s ts) (λ x. rounds begins reads x.0 x.1);
+    builds = λ n xs ys t u h k. form.more n s t u xs ys h k;
+    grows = λ n xs t h. form.grows n s t xs h;
+    finishes = λ n t. record { more = []; value = t; spelled = form.none n t };
   }
 
   as_goes_on : (s : S) (ts : List T) → begins s (head_of ts) ≡ true → rounds begins reads s ts ≡ goes_on s ts
@@ -109,10 +109,10 @@ module _ {T S : Type 0} {begins : S → Option T → Bool} {reads : S → List T
         | inr e ↦ subst (Right (rounds begins reads s) (IsAll s) room ts) (sym (stopped begins reads (length ts) s ts e)) (none_begun s ts e)
         | inl e ↦
             subst (Right (rounds begins reads s) (IsAll s) room ts) (sym (as_goes_on s ts e))
-              (chosen (goes_on s) (rounds begins reads s) (IsAll s) (IsAll s) room ts (goes_on s ts)
-                (λ us q. as_goes_on s us (ap (begins s) q ∙ e))
-                (λ k xs t q. q)
-                (sequence (go_sequence s) room ts (form.right s ts e) (λ t rest k. right_from n t rest (omega (arith, behind s t ts rest k)))))
+            (chosen (goes_on s) (rounds begins reads s) (IsAll s) (IsAll s) room ts (goes_on s ts)
+            (λ us q. as_goes_on s us (ap (begins s) q ∙ e))
+            (λ k xs t q. q)
+            (sequence (go_sequence s) room ts (form.right s ts e) (λ t rest k. right_from n t rest (omega (arith, behind s t ts rest k)))))
       ]
 
   pub right_many : (s : S) (ts : List T) → Right (rounds begins reads s) (IsAll s) room ts (rounds begins reads s ts)

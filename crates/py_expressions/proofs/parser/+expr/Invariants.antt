@@ -66,8 +66,8 @@ decreases-subscript_with l = l.room * 23 + 22
 
 abbrev pub invariant-primary-trailers : goal.invariant-primary-trailers
 invariant-primary-trailers l = record {
-    reads : (n : ℕ) × (length l.rest < n) × (many reading.begins_trailer (reading.trailer (inner_of l.room)) n l.left l.rest ≡ reading.primary (inner_of l.room) l.tokens);
-    shorter : length l.rest < length l.tokens;
+  reads : (n : ℕ) × (length l.rest < n) × (many reading.begins_trailer (reading.trailer (inner_of l.room)) n l.left l.rest ≡ reading.primary (inner_of l.room) l.tokens);
+  shorter : length l.rest < length l.tokens;
 }
 
 abbrev pub decreases-primary-trailers : goal.decreases-primary-trailers
@@ -75,8 +75,8 @@ decreases-primary-trailers l = length l.rest
 
 abbrev pub invariant-chain-joins : goal.invariant-chain-joins
 invariant-chain-joins l = record {
-    reads : (n : ℕ) × (length l.rest < n) × (many (reading.begins_join l.level) (reading.joins (reading.operand (inner_of l.room) l.level)) n l.left l.rest ≡ reading.chain l.level (reading.operand (inner_of l.room) l.level) l.tokens);
-    shorter : length l.rest < length l.tokens;
+  reads : (n : ℕ) × (length l.rest < n) × (many (reading.begins_join l.level) (reading.joins (reading.operand (inner_of l.room) l.level)) n l.left l.rest ≡ reading.chain l.level (reading.operand (inner_of l.room) l.level) l.tokens);
+  shorter : length l.rest < length l.tokens;
 }
 
 abbrev pub decreases-chain-joins : goal.decreases-chain-joins
@@ -84,8 +84,8 @@ decreases-chain-joins l = length l.rest
 
 abbrev pub invariant-all_items-items : goal.invariant-all_items-items
 invariant-all_items-items l = record {
-    reads : (n : ℕ) × (length l.rest < n) × (many reading.begins_item (reading.item (reading.form l.room Whole)) n l.items l.rest ≡ reading.all_items (reading.form l.room Whole) l.tokens);
-    within : length l.rest ≤ length l.tokens;
+  reads : (n : ℕ) × (length l.rest < n) × (many reading.begins_item (reading.item (reading.form l.room Whole)) n l.items l.rest ≡ reading.all_items (reading.form l.room Whole) l.tokens);
+  within : length l.rest ≤ length l.tokens;
 }
 
 abbrev pub decreases-all_items-items : goal.decreases-all_items-items
