@@ -2,7 +2,7 @@
 
 ghost use Rattle.std.specs.Prelude.{◌≡◌, IfOk};
 ghost use Rattle.token_reading.specs.Reading.{head_of};
-ghost use Rattle.py_expressions.specs.Reading as reading;
+ghost use Rattle.expression_reading.specs.Reading as reading;
 
 use crate::tokens::starts;
 use base_types::{NoMemory, Seq};

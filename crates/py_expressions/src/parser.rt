@@ -2,8 +2,8 @@
 
 ghost use Rattle.std.specs.Prelude.{◌≡◌, ◌<◌, ◌≤◌, length, IfOk, true, false};
 ghost use Rattle.token_reading.specs.Outcome.{Gives, GivesAt, Shortens, StaysWithin};
-ghost use Rattle.py_expressions.specs.Reading.{inner_of, Whole, Inverted, Signed};
-ghost use Rattle.py_expressions.specs.Reading as reading;
+ghost use Rattle.expression_reading.specs.Reading.{inner_of, Whole, Inverted, Signed};
+ghost use Rattle.expression_reading.specs.Reading as reading;
 
 use crate::items::{begins_item, parenthesised, with_item};
 use crate::tokens::{close_bracket, close_paren, comma, comparator, join, strength, strength_of};
@@ -35,7 +35,7 @@ fn other(tree: Expr) -> Spelled
 
 /// An item and the comma behind it.
 #[cycle(expr)]
-#[tactic(auto, unfolding(crate::specs::Reading::item))]
+#[tactic(auto, unfolding(expression_reading::specs::Reading::item))]
 fn item(
     alloc: Global,
     items: Items,
@@ -52,7 +52,7 @@ fn item(
 
 /// Items with commas between.
 #[cycle(expr)]
-#[tactic(auto, unfolding(crate::specs::Reading::all_items, token_reading::specs::Many::many))]
+#[tactic(auto, unfolding(expression_reading::specs::Reading::all_items, token_reading::specs::Many::many))]
 fn all_items(alloc: Global, tokens: &[Lexeme], room: usize) -> Result<(Items, &[Lexeme]), ReadError>
     ensures value { GivesAt (λ x. x) result (reading.all_items (reading.form room Whole) tokens.now) }
     ensures within { StaysWithin tokens.now result }
@@ -72,7 +72,7 @@ fn all_items(alloc: Global, tokens: &[Lexeme], room: usize) -> Result<(Items, &[
 
 /// What stands in parentheses, and the closing one.
 #[cycle(expr)]
-#[tactic(auto, unfolding(crate::specs::Reading::in_parens))]
+#[tactic(auto, unfolding(expression_reading::specs::Reading::in_parens))]
 fn in_parens(
     alloc: Global,
     tokens: &[Lexeme],
@@ -88,7 +88,7 @@ fn in_parens(
 
 /// What stands in brackets, and the closing one.
 #[cycle(expr)]
-#[tactic(auto, unfolding(crate::specs::Reading::in_brackets))]
+#[tactic(auto, unfolding(expression_reading::specs::Reading::in_brackets))]
 fn in_brackets(
     alloc: Global,
     tokens: &[Lexeme],
@@ -104,7 +104,7 @@ fn in_brackets(
 
 /// An atom (Language Reference 6.2).
 #[cycle(expr)]
-#[tactic(auto, unfolding(crate::specs::Reading::atom))]
+#[tactic(auto, unfolding(expression_reading::specs::Reading::atom))]
 fn atom(alloc: Global, tokens: &[Lexeme], room: usize) -> Result<(Spelled, &[Lexeme]), ReadError>
     ensures value { GivesAt (λ x. x) result (reading.atom (inner_of room) tokens.now) }
     ensures shorter { Shortens tokens.now result }
@@ -133,7 +133,7 @@ fn atom(alloc: Global, tokens: &[Lexeme], room: usize) -> Result<(Spelled, &[Lex
 }
 
 /// The name of an attribute.
-#[tactic(auto, unfolding(crate::specs::Reading::after_dot))]
+#[tactic(auto, unfolding(expression_reading::specs::Reading::after_dot))]
 fn after_dot(
     alloc: Global,
     left: Expr,
@@ -156,7 +156,7 @@ fn after_dot(
 
 /// The arguments of a call, and the closing parenthesis (6.3.4).
 #[cycle(expr)]
-#[tactic(auto, unfolding(crate::specs::Reading::call_with))]
+#[tactic(auto, unfolding(expression_reading::specs::Reading::call_with))]
 fn call_with(
     alloc: Global,
     left: Expr,
@@ -176,7 +176,7 @@ fn call_with(
 
 /// The index of a subscription, and the closing bracket (6.3.2).
 #[cycle(expr)]
-#[tactic(auto, unfolding(crate::specs::Reading::subscript_with))]
+#[tactic(auto, unfolding(expression_reading::specs::Reading::subscript_with))]
 fn subscript_with(
     alloc: Global,
     left: Expr,
@@ -197,7 +197,7 @@ fn subscript_with(
 
 /// What follows an atom: a name, arguments or an index.
 #[cycle(expr)]
-#[tactic(auto, unfolding(crate::specs::Reading::trailer))]
+#[tactic(auto, unfolding(expression_reading::specs::Reading::trailer))]
 fn trailer(
     alloc: Global,
     left: Spelled,
@@ -227,7 +227,7 @@ fn trailer(
 
 /// A primary: an atom and what follows it (6.3).
 #[cycle(expr)]
-#[tactic(auto, unfolding(crate::specs::Reading::primary, token_reading::specs::Many::many))]
+#[tactic(auto, unfolding(expression_reading::specs::Reading::primary, token_reading::specs::Many::many))]
 pub fn primary(
     alloc: Global,
     tokens: &[Lexeme],
@@ -247,7 +247,7 @@ pub fn primary(
 
 /// A primary with its signs (6.6).
 #[cycle(expr)]
-#[tactic(auto, unfolding(crate::specs::Reading::factor), using(crate::proofs::Complete::by_inner))]
+#[tactic(auto, unfolding(expression_reading::specs::Reading::factor), using(expression_reading::proofs::Complete::by_inner))]
 fn factor(alloc: Global, tokens: &[Lexeme], room: usize) -> Result<(Spelled, &[Lexeme]), ReadError>
     ensures value { GivesAt (λ x. x) result (reading.factor (inner_of room) tokens.now) }
     ensures shorter { Shortens tokens.now result }
@@ -266,7 +266,7 @@ fn factor(alloc: Global, tokens: &[Lexeme], room: usize) -> Result<(Spelled, &[L
 
 /// An operator of a level and its right operand.
 #[cycle(expr)]
-#[tactic(auto, unfolding(crate::specs::Reading::joins))]
+#[tactic(auto, unfolding(expression_reading::specs::Reading::joins))]
 fn joins(
     alloc: Global,
     left: Spelled,
@@ -288,7 +288,7 @@ fn joins(
 
 /// Operands with operators of one level between, grouped to the left.
 #[cycle(expr)]
-#[tactic(auto, unfolding(crate::specs::Reading::chain, token_reading::specs::Many::many))]
+#[tactic(auto, unfolding(expression_reading::specs::Reading::chain, token_reading::specs::Many::many))]
 fn chain(
     alloc: Global,
     tokens: &[Lexeme],
@@ -328,7 +328,7 @@ fn operand(
 
 /// A comparing operator and its right operand.
 #[cycle(expr)]
-#[tactic(auto, unfolding(crate::specs::Reading::compare_with))]
+#[tactic(auto, unfolding(expression_reading::specs::Reading::compare_with))]
 fn compare_with(
     alloc: Global,
     left: Spelled,
@@ -347,7 +347,7 @@ fn compare_with(
 
 /// A sum, compared with another one or alone (6.10).
 #[cycle(expr)]
-#[tactic(auto, unfolding(crate::specs::Reading::comparison, crate::specs::Reading::compared))]
+#[tactic(auto, unfolding(expression_reading::specs::Reading::comparison, expression_reading::specs::Reading::compared))]
 fn comparison(
     alloc: Global,
     tokens: &[Lexeme],
@@ -365,7 +365,7 @@ fn comparison(
 
 /// A comparison with its `not`s (6.11).
 #[cycle(expr)]
-#[tactic(auto, unfolding(crate::specs::Reading::inversion), using(crate::proofs::Complete::by_inner))]
+#[tactic(auto, unfolding(expression_reading::specs::Reading::inversion), using(expression_reading::proofs::Complete::by_inner))]
 fn inversion(
     alloc: Global,
     tokens: &[Lexeme],
@@ -388,7 +388,7 @@ fn inversion(
 
 /// An expression (chapter 6): the longest one that the tokens begin with, or the first token that none goes on with.
 #[cycle(expr)]
-#[tactic(auto, using(crate::proofs::Complete::by_inner))]
+#[tactic(auto, using(expression_reading::proofs::Complete::by_inner))]
 pub fn expr(
     alloc: Global,
     tokens: &[Lexeme],

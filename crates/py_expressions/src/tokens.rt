@@ -3,7 +3,7 @@
 ghost use Rattle.std.specs.Prelude.{◌≡◌, ◌<◌, ◌≤◌, length, IfOk, Ok};
 ghost use Rattle.token_reading.specs.Reading.{head_of};
 ghost use Rattle.token_reading.specs.Outcome.{GivesAt, GivesRest, Shortens, StaysWithin};
-ghost use Rattle.py_expressions.specs.Reading as reading;
+ghost use Rattle.expression_reading.specs.Reading as reading;
 
 use base_types::NoMemory;
 use py_syntax::{BinaryOp, Comparison, Expr, Level, Lexeme};
@@ -12,7 +12,7 @@ use std::alloc::Global;
 use token_reading::{ReadError, Refusal, refused};
 
 /// Whether an expression begins here.
-#[tactic(auto, unfolding(crate::specs::Reading::starts))]
+#[tactic(auto, unfolding(expression_reading::specs::Reading::starts))]
 pub fn starts(tokens: &[Lexeme]) -> bool
     ensures { result ≡ reading.starts (head_of tokens.now) }
 {
@@ -32,7 +32,7 @@ pub fn starts(tokens: &[Lexeme]) -> bool
 }
 
 /// How strongly the token ahead binds what stands before it; 0 where it does not go on with an expression.
-#[tactic(auto, unfolding(crate::specs::Reading::strength))]
+#[tactic(auto, unfolding(expression_reading::specs::Reading::strength))]
 pub fn strength(tokens: &[Lexeme]) -> u32
     ensures { result ≡ reading.strength (head_of tokens.now) }
 {
@@ -73,7 +73,7 @@ pub fn strength_of(level: Level) -> u32
 }
 
 /// What follows a closing parenthesis.
-#[tactic(auto, unfolding(crate::specs::Reading::close_paren))]
+#[tactic(auto, unfolding(expression_reading::specs::Reading::close_paren))]
 pub fn close_paren(tokens: &[Lexeme]) -> Result<&[Lexeme], ReadError>
     ensures value { GivesRest result (reading.close_paren tokens.now) }
     ensures shorter { IfOk result (λ rest. length rest.now < length tokens.now) }
@@ -85,7 +85,7 @@ pub fn close_paren(tokens: &[Lexeme]) -> Result<&[Lexeme], ReadError>
 }
 
 /// What follows a closing bracket.
-#[tactic(auto, unfolding(crate::specs::Reading::close_bracket))]
+#[tactic(auto, unfolding(expression_reading::specs::Reading::close_bracket))]
 pub fn close_bracket(tokens: &[Lexeme]) -> Result<&[Lexeme], ReadError>
     ensures value { GivesRest result (reading.close_bracket tokens.now) }
     ensures shorter { IfOk result (λ rest. length rest.now < length tokens.now) }
@@ -97,7 +97,7 @@ pub fn close_bracket(tokens: &[Lexeme]) -> Result<&[Lexeme], ReadError>
 }
 
 /// Whether a comma stands here, and what follows it.
-#[tactic(auto, unfolding(crate::specs::Reading::comma))]
+#[tactic(auto, unfolding(expression_reading::specs::Reading::comma))]
 pub fn comma(tokens: &[Lexeme]) -> (bool, &[Lexeme])
     ensures value { reading.comma tokens.now ≡ Ok (result.0, result.1.now) }
     ensures within { length result.1.now ≤ length tokens.now }
@@ -109,7 +109,7 @@ pub fn comma(tokens: &[Lexeme]) -> (bool, &[Lexeme])
 }
 
 /// The second word of `not in`.
-#[tactic(auto, unfolding(crate::specs::Reading::after_not))]
+#[tactic(auto, unfolding(expression_reading::specs::Reading::after_not))]
 fn after_not(tokens: &[Lexeme]) -> Result<(Comparison, &[Lexeme]), ReadError>
     ensures value { GivesAt (λ c. c) result (reading.after_not tokens.now) }
     ensures shorter { Shortens tokens.now result }
@@ -121,7 +121,7 @@ fn after_not(tokens: &[Lexeme]) -> Result<(Comparison, &[Lexeme]), ReadError>
 }
 
 /// `is` or `is not`, behind the first word.
-#[tactic(auto, unfolding(crate::specs::Reading::after_is))]
+#[tactic(auto, unfolding(expression_reading::specs::Reading::after_is))]
 fn after_is(tokens: &[Lexeme]) -> (Comparison, &[Lexeme])
     ensures value { reading.after_is tokens.now ≡ Ok (result.0, result.1.now) }
     ensures within { length result.1.now ≤ length tokens.now }
@@ -133,7 +133,7 @@ fn after_is(tokens: &[Lexeme]) -> (Comparison, &[Lexeme])
 }
 
 /// A comparing operator (Language Reference 6.10).
-#[tactic(auto, unfolding(crate::specs::Reading::comparator))]
+#[tactic(auto, unfolding(expression_reading::specs::Reading::comparator))]
 pub fn comparator(tokens: &[Lexeme]) -> Result<(Comparison, &[Lexeme]), ReadError>
     ensures value { GivesAt (λ c. c) result (reading.comparator tokens.now) }
     ensures shorter { Shortens tokens.now result }
@@ -153,7 +153,7 @@ pub fn comparator(tokens: &[Lexeme]) -> Result<(Comparison, &[Lexeme]), ReadErro
 }
 
 /// What an operator makes of its operands (6.5 to 6.7, 6.11).
-#[tactic(auto, unfolding(crate::specs::Reading::join))]
+#[tactic(auto, unfolding(expression_reading::specs::Reading::join))]
 pub fn join(alloc: Global, operator: &Lexeme, left: Expr, right: Expr) -> Result<Expr, NoMemory>
     ensures { IfOk result (λ expr. expr ≡ reading.join operator.now left right) }
 {

@@ -12,7 +12,8 @@
 --
 -- `return` stands only in a function and not in a `finally` block, `break` and `continue` only in a loop, and
 -- `from .. import *` only outside functions. The bracket of `names` opens a level.
-use Rattle.std.specs.Prelude.{◌≡◌, ℕ, suc, Bool, true, false, List, [], ◌∷◌, ◌++◌, Option, Some, None}
+use Rattle.std.specs.Prelude.{◌≡◌, ℕ, suc, ◌+◌, ◌<◌, Bool, true, false, List, [], ◌∷◌, ◌++◌, Option, Some, None}
+use Rattle.token_reading.specs.Separated.{IsSeparated, IsListed}
 use Rattle.py_syntax.specs.declared.lexeme.Lexeme.{Lexeme}
 use Rattle.py_syntax.specs.declared.lexeme.Lexeme.TheVariants as token
 use Rattle.py_syntax.specs.declared.expr.BinaryOp.{BinaryOp}
@@ -34,48 +35,41 @@ pub data IsAugmented : Lexeme → BinaryOp → Type 0 where
   divide : IsAugmented token.SlashSlashEq op.FloorDiv
   modulo : IsAugmented token.PercentEq op.Mod
 
+pub data IsName : ℕ → List Lexeme → List ℕ → Type 0 where
+  name : {room : ℕ} (n : List ℕ) → IsName room (token.Name n ∷ []) n
+
 -- dotted := NAME { "." NAME }
-pub data IsDotted : List Lexeme → List (List ℕ) → Type 0 where
-  part : (n : List ℕ) → IsDotted (token.Name n ∷ []) (n ∷ [])
-  parts : {ts : List Lexeme} {ns : List (List ℕ)} (n : List ℕ) → IsDotted ts ns → IsDotted (token.Name n ∷ token.Dot ∷ ts) (n ∷ ns)
+abbrev pub IsDotted : ℕ → List Lexeme → List (List ℕ) → Type 0
+IsDotted = IsSeparated token.Dot IsName
 
 -- [ "as" NAME ]
-pub data IsBound : List Lexeme → Option (List ℕ) → Type 0 where
-  own_name : IsBound [] None
-  bound : (n : List ℕ) → IsBound (token.As ∷ token.Name n ∷ []) (Some n)
+pub data IsBound : ℕ → List Lexeme → Option (List ℕ) → Type 0 where
+  own_name : {room : ℕ} → IsBound room [] None
+  bound : {room : ℕ} (n : List ℕ) → IsBound room (token.As ∷ token.Name n ∷ []) (Some n)
 
-pub data IsAlias : List Lexeme → Alias → Type 0 where
-  alias : {xs ys : List Lexeme} {ns : List (List ℕ)} {as_name : Option (List ℕ)} → IsDotted xs ns → IsBound ys as_name → IsAlias (xs ++ ys) (record { parts = ns; bound = as_name })
-
--- alias { "," alias }
-pub data IsAliases : List Lexeme → List Alias → Type 0 where
-  one_alias : {ts : List Lexeme} {a : Alias} → IsAlias ts a → IsAliases ts (a ∷ [])
-  more_aliases : {ts us : List Lexeme} {a : Alias} {as_names : List Alias} → IsAlias ts a → IsAliases us as_names → IsAliases (ts ++ token.Comma ∷ us) (a ∷ as_names)
+pub data IsAlias : ℕ → List Lexeme → Alias → Type 0 where
+  alias : {room : ℕ} {xs ys : List Lexeme} {ns : List (List ℕ)} {as_name : Option (List ℕ)} → IsDotted room xs ns → IsBound room ys as_name → IsAlias room (xs ++ ys) (record { parts = ns; bound = as_name })
 
 -- { dots }, and how many they are
-pub data IsDots : List Lexeme → ℕ → Type 0 where
-  no_dots : IsDots [] 0
-  dot : {ts : List Lexeme} {n : ℕ} → IsDots ts n → IsDots (token.Dot ∷ ts) (suc n)
-  ellipsis : {ts : List Lexeme} {n : ℕ} → IsDots ts n → IsDots (token.Ellipsis ∷ ts) (suc (suc (suc n)))
+pub data IsDots : ℕ → List Lexeme → ℕ → Type 0 where
+  no_dots : {room : ℕ} → IsDots room [] 0
+  dot : {room : ℕ} {ts : List Lexeme} {n : ℕ} → IsDots room ts n → IsDots room (token.Dot ∷ ts) (n + 1)
+  ellipsis : {room : ℕ} {ts : List Lexeme} {n : ℕ} → IsDots room ts n → IsDots room (token.Ellipsis ∷ ts) (n + 3)
 
--- the dots and the parts of a source
-pub data IsSource : List Lexeme → ℕ → List (List ℕ) → Type 0 where
-  named : {ts us : List Lexeme} {n : ℕ} {ns : List (List ℕ)} → IsDots ts n → IsDotted us ns → IsSource (ts ++ us) n ns
-  only_dots : {ts : List Lexeme} {n : ℕ} → IsDots ts (suc n) → IsSource ts (suc n) []
+-- the dots and the parts of a source, which has one of the two at least
+pub data IsSource : ℕ → List Lexeme → ℕ × List (List ℕ) → Type 0 where
+  named : {room : ℕ} {ts us : List Lexeme} {n : ℕ} {ns : List (List ℕ)} → IsDots room ts n → IsDotted room us ns → IsSource room (ts ++ us) (n, ns)
+  only_dots : {room : ℕ} {ts : List Lexeme} {n : ℕ} → IsDots room ts n → 0 < n → IsSource room ts (n, [])
 
-pub data IsItem : List Lexeme → Alias → Type 0 where
-  item : {ts : List Lexeme} {as_name : Option (List ℕ)} (n : List ℕ) → IsBound ts as_name → IsItem (token.Name n ∷ ts) (record { parts = n ∷ []; bound = as_name })
-
--- item { "," item }, and with true a comma behind it
-pub data IsItemList : List Lexeme → List Alias → Bool → Type 0 where
-  one_item : {ts : List Lexeme} {a : Alias} → IsItem ts a → IsItemList ts (a ∷ []) false
-  comma_last : {ts : List Lexeme} {a : Alias} → IsItem ts a → IsItemList (ts ++ token.Comma ∷ []) (a ∷ []) true
-  more_items : {ts us : List Lexeme} {a : Alias} {as_names : List Alias} {comma : Bool} → IsItem ts a → IsItemList us as_names comma → IsItemList (ts ++ token.Comma ∷ us) (a ∷ as_names) comma
+pub data IsItem : ℕ → List Lexeme → Alias → Type 0 where
+  item : {room : ℕ} {ts : List Lexeme} {as_name : Option (List ℕ)} (n : List ℕ) → IsBound room ts as_name → IsItem room (token.Name n ∷ ts) (record { parts = n ∷ []; bound = as_name })
 
 pub data IsNames : Context → ℕ → List Lexeme → ImportedNames → Type 0 where
   all_names : {c : Context} {room : ℕ} → c.in_function ≡ false → IsNames c room (token.Star ∷ []) All
-  listed : {c : Context} {room : ℕ} {ts : List Lexeme} {as_names : List Alias} → IsItemList ts as_names false → IsNames c room ts (Listed as_names)
-  in_parens : {c : Context} {room : ℕ} {ts : List Lexeme} {as_names : List Alias} {comma : Bool} → IsItemList ts as_names comma → IsNames c (suc room) (token.OpenParen ∷ (ts ++ token.CloseParen ∷ [])) (Listed as_names)
+  -- item { "," item }
+  plain : {c : Context} {room : ℕ} {ts : List Lexeme} {items : List Alias} → IsSeparated token.Comma IsItem room ts items → IsNames c room ts (Listed items)
+  -- "(" item { "," item } [ "," ] ")"
+  in_parens : {c : Context} {room : ℕ} {ts : List Lexeme} {items : List Alias} {comma : Bool} → IsListed token.Comma IsItem room ts (items, comma) → IsNames c (suc room) (token.OpenParen ∷ (ts ++ token.CloseParen ∷ [])) (Listed items)
 
 pub data IsSimple : Context → ℕ → List Lexeme → Stmt → Type 0 where
   evaluate : {c : Context} {room : ℕ} {ts : List Lexeme} {e : Spelled} → IsExpr room ts e → IsSimple c room ts (tree.Evaluate e.tree)
@@ -90,11 +84,9 @@ pub data IsSimple : Context → ℕ → List Lexeme → Stmt → Type 0 where
   return_value : {c : Context} {room : ℕ} {ts : List Lexeme} {e : Spelled} → c.in_function ≡ true → c.in_finally ≡ false → IsExpr room ts e → IsSimple c room (token.Return ∷ ts) (tree.Return (Some e.tree))
   raise_again : {c : Context} {room : ℕ} → IsSimple c room (token.Raise ∷ []) (tree.Raise None)
   raise : {c : Context} {room : ℕ} {ts : List Lexeme} {e : Spelled} → IsExpr room ts e → IsSimple c room (token.Raise ∷ ts) (tree.Raise (Some e.tree))
-  import_modules : {c : Context} {room : ℕ} {ts : List Lexeme} {as_names : List Alias} → IsAliases ts as_names → IsSimple c room (token.Import ∷ ts) (tree.Import as_names)
-  import_from : {c : Context} {room : ℕ} {ts us : List Lexeme} {dots : ℕ} {ns : List (List ℕ)} {names : ImportedNames} → IsSource ts dots ns → IsNames c room us names → IsSimple c room (token.From ∷ (ts ++ token.Import ∷ us)) (tree.From dots ns names)
+  import_modules : {c : Context} {room : ℕ} {ts : List Lexeme} {aliases : List Alias} → IsSeparated token.Comma IsAlias room ts aliases → IsSimple c room (token.Import ∷ ts) (tree.Import aliases)
+  import_from : {c : Context} {room : ℕ} {ts us : List Lexeme} {dots : ℕ} {ns : List (List ℕ)} {names : ImportedNames} → IsSource room ts (dots, ns) → IsNames c room us names → IsSimple c room (token.From ∷ (ts ++ token.Import ∷ us)) (tree.From dots ns names)
 
 -- line := simple { ";" simple } [ ";" ]
 pub data IsLine : Context → ℕ → List Lexeme → List Stmt → Type 0 where
-  one_simple : {c : Context} {room : ℕ} {ts : List Lexeme} {s : Stmt} → IsSimple c room ts s → IsLine c room ts (s ∷ [])
-  semicolon_last : {c : Context} {room : ℕ} {ts : List Lexeme} {s : Stmt} → IsSimple c room ts s → IsLine c room (ts ++ token.Semicolon ∷ []) (s ∷ [])
-  more_simple : {c : Context} {room : ℕ} {ts us : List Lexeme} {s : Stmt} {ss : List Stmt} → IsSimple c room ts s → IsLine c room us ss → IsLine c room (ts ++ token.Semicolon ∷ us) (s ∷ ss)
+  line : {c : Context} {room : ℕ} {ts : List Lexeme} {ss : List Stmt} {semicolon : Bool} → IsListed token.Semicolon (IsSimple c) room ts (ss, semicolon) → IsLine c room ts ss

@@ -15,6 +15,7 @@
 -- comes with the number of the first one behind it.
 use Rattle.std.specs.Prelude.{◌≡◌, ℕ, suc, Bool, true, false, ◌||◌, List, [], ◌∷◌, ◌++◌, Option, Some, None, nat_eq}
 use Rattle.std.specs.Cmp.Lexicographic.{pointwise}
+use Rattle.token_reading.specs.Separated.{IsSeparated}
 use Rattle.py_syntax.specs.declared.lexeme.Lexeme.{Lexeme}
 use Rattle.py_syntax.specs.declared.lexeme.Lexeme.TheVariants as token
 use Rattle.py_syntax.specs.declared.expr.Expr.{Expr}
@@ -35,20 +36,19 @@ is_among n (m ∷ ms) = pointwise nat_eq n m || is_among n ms
 
 -- Parameters behind those that are found already, with all of them, and with whether another one may follow. Each differs
 -- from those before it.
-pub data IsParameters : List (List ℕ) → List Lexeme → List (List ℕ) → Bool → Type 0 where
-  no_parameters : {found : List (List ℕ)} → IsParameters found [] found true
-  last_parameter : {found : List (List ℕ)} (n : List ℕ) → is_among n found ≡ false → IsParameters found (token.Name n ∷ []) (found ++ n ∷ []) false
-  next_parameter : {found all : List (List ℕ)} {ts : List Lexeme} {is_open : Bool} (n : List ℕ) → is_among n found ≡ false → IsParameters (found ++ n ∷ []) ts all is_open → IsParameters found (token.Name n ∷ token.Comma ∷ ts) all is_open
+pub data IsParameters : List (List ℕ) → ℕ → List Lexeme → List (List ℕ) × Bool → Type 0 where
+  no_parameters : {found : List (List ℕ)} {room : ℕ} → IsParameters found room [] (found, true)
+  last_parameter : {found : List (List ℕ)} {room : ℕ} (n : List ℕ) → is_among n found ≡ false → IsParameters found room (token.Name n ∷ []) (found ++ n ∷ [], false)
+  next_parameter : {found : List (List ℕ)} {room : ℕ} {ts : List Lexeme} {all : List (List ℕ) × Bool} (n : List ℕ) → is_among n found ≡ false → IsParameters (found ++ n ∷ []) room ts all → IsParameters found room (token.Name n ∷ token.Comma ∷ ts) all
 
--- NAME { "," NAME } of a `global` line: no parameter is named
-pub data IsGlobals : List (List ℕ) → List Lexeme → List (List ℕ) → Type 0 where
-  one_global : {parameters : List (List ℕ)} (n : List ℕ) → is_among n parameters ≡ false → IsGlobals parameters (token.Name n ∷ []) (n ∷ [])
-  more_globals : {parameters ns : List (List ℕ)} {ts : List Lexeme} (n : List ℕ) → is_among n parameters ≡ false → IsGlobals parameters ts ns → IsGlobals parameters (token.Name n ∷ token.Comma ∷ ts) (n ∷ ns)
+-- a name in a `global` line: no parameter is named so
+pub data IsGlobal : List (List ℕ) → ℕ → List Lexeme → List ℕ → Type 0 where
+  global : {parameters : List (List ℕ)} {room : ℕ} (n : List ℕ) → is_among n parameters ≡ false → IsGlobal parameters room (token.Name n ∷ []) n
 
 -- { "global" NAME { "," NAME } NEWLINE }
-pub data IsGlobalLines : List (List ℕ) → List Lexeme → List (List ℕ) → Type 0 where
-  no_globals : {parameters : List (List ℕ)} → IsGlobalLines parameters [] []
-  global_line : {parameters ns ms : List (List ℕ)} {ts us : List Lexeme} → IsGlobals parameters ts ns → IsGlobalLines parameters us ms → IsGlobalLines parameters (token.Global ∷ (ts ++ token.Newline ∷ us)) (ns ++ ms)
+pub data IsGlobalLines : List (List ℕ) → ℕ → List Lexeme → List (List ℕ) → Type 0 where
+  no_globals : {parameters : List (List ℕ)} {room : ℕ} → IsGlobalLines parameters room [] []
+  global_line : {parameters ns ms : List (List ℕ)} {room : ℕ} {ts us : List Lexeme} → IsSeparated token.Comma (IsGlobal parameters) room ts ns → IsGlobalLines parameters room us ms → IsGlobalLines parameters room (token.Global ∷ (ts ++ token.Newline ∷ us)) (ns ++ ms)
 
 -- what a function's body spells
 pub record Body : Type 0 where
@@ -66,7 +66,7 @@ mutual
     while_stmt : {c : Context} {n m room : ℕ} {ts : List Lexeme} {b : Branch} → IsBranch (within_loop c) n room ts (b, m) → IsStmt c n (suc room) (token.While ∷ ts) (tree.While b.test b.body ∷ [], m)
     try_finally : {c : Context} {n m k room : ℕ} {xs ys : List Lexeme} {ss fs : List Stmt} → IsBlock c n room xs (ss, m) → IsBlock (within_finally c) m room ys (fs, k) → IsStmt c n (suc room) (token.Try ∷ token.Colon ∷ (xs ++ token.Finally ∷ token.Colon ∷ ys)) (tree.Try ss [] [] fs ∷ [], k)
     try_except : {c : Context} {n m k l p room : ℕ} {xs hs ys zs : List Lexeme} {ss es fs : List Stmt} {handlers : List Handler} → IsBlock c n room xs (ss, m) → IsHandlers c m room hs (handlers, k) → IsElse c k room ys (es, l) → IsFinally c l room zs (fs, p) → IsStmt c n (suc room) (token.Try ∷ token.Colon ∷ (xs ++ (hs ++ (ys ++ zs)))) (tree.Try ss handlers es fs ∷ [], p)
-    def_stmt : {c : Context} {n m room : ℕ} {ts us : List Lexeme} {parameters : List (List ℕ)} {is_open : Bool} {b : Body} (name : List ℕ) → c.in_function ≡ false → IsParameters [] ts parameters is_open → IsBody parameters (suc n) room us (b, m) → IsStmt c n (suc room) (token.Def ∷ token.Name name ∷ token.OpenParen ∷ (ts ++ token.CloseParen ∷ token.Colon ∷ us)) (tree.Def (record { number = n; name = name; parameters = parameters; globals = b.globals; body = b.stmts }) ∷ [], m)
+    def_stmt : {c : Context} {n m room : ℕ} {ts us : List Lexeme} {parameters : List (List ℕ)} {is_open : Bool} {b : Body} (name : List ℕ) → c.in_function ≡ false → IsParameters [] room ts (parameters, is_open) → IsBody parameters (suc n) room us (b, m) → IsStmt c n (suc room) (token.Def ∷ token.Name name ∷ token.OpenParen ∷ (ts ++ token.CloseParen ∷ token.Colon ∷ us)) (tree.Def (record { number = n; name = name; parameters = parameters; globals = b.globals; body = b.stmts }) ∷ [], m)
 
   -- stmt { stmt }
   pub data IsStmts : Context → ℕ → ℕ → List Lexeme → List Stmt × ℕ → Type 0 where
@@ -98,7 +98,7 @@ mutual
 
   -- "except" expr [ "as" NAME ] ":" block
   pub data IsHandler : Context → ℕ → ℕ → List Lexeme → Handler × ℕ → Type 0 where
-    handler : {c : Context} {n m room : ℕ} {xs ys zs : List Lexeme} {e : Spelled} {as_name : Option (List ℕ)} {ss : List Stmt} → IsExpr room xs e → IsBound ys as_name → IsBlock c n room zs (ss, m) → IsHandler c n room (token.Except ∷ (xs ++ (ys ++ token.Colon ∷ zs))) (record { kinds = Some e.tree; bound = as_name; body = ss }, m)
+    handler : {c : Context} {n m room : ℕ} {xs ys zs : List Lexeme} {e : Spelled} {as_name : Option (List ℕ)} {ss : List Stmt} → IsExpr room xs e → IsBound room ys as_name → IsBlock c n room zs (ss, m) → IsHandler c n room (token.Except ∷ (xs ++ (ys ++ token.Colon ∷ zs))) (record { kinds = Some e.tree; bound = as_name; body = ss }, m)
 
   -- one at least; what takes each error stands last
   pub data IsHandlers : Context → ℕ → ℕ → List Lexeme → List Handler × ℕ → Type 0 where
@@ -108,4 +108,4 @@ mutual
 
   pub data IsBody : List (List ℕ) → ℕ → ℕ → List Lexeme → Body × ℕ → Type 0 where
     line_body : {parameters : List (List ℕ)} {n room : ℕ} {ts : List Lexeme} {ss : List Stmt} → IsLine within_function room ts ss → IsBody parameters n room (ts ++ token.Newline ∷ []) (body [] ss, n)
-    indented_body : {parameters globals : List (List ℕ)} {n m room : ℕ} {xs ys : List Lexeme} {ss : List Stmt} → IsGlobalLines parameters xs globals → IsStmts within_function n room ys (ss, m) → IsBody parameters n room (token.Newline ∷ token.Indent ∷ (xs ++ (ys ++ token.Dedent ∷ []))) (body globals ss, m)
+    indented_body : {parameters globals : List (List ℕ)} {n m room : ℕ} {xs ys : List Lexeme} {ss : List Stmt} → IsGlobalLines parameters room xs globals → IsStmts within_function n room ys (ss, m) → IsBody parameters n room (token.Newline ∷ token.Indent ∷ (xs ++ (ys ++ token.Dedent ∷ []))) (body globals ss, m)

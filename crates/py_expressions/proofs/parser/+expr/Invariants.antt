@@ -2,8 +2,8 @@ use Rattle.std.proofs.Common.{◌≡◌, ℕ, ◌<◌, ◌≤◌, ◌+◌, ◌*�
 use Rattle.token_reading.specs.Many.{many}
 use Rattle.py_syntax.specs.declared.expr.Level.{Level}
 use Rattle.py_syntax.specs.declared.expr.Level.TheVariants.{Disjunction, Conjunction, Sum, Term}
-use Rattle.py_expressions.specs.Reading.{inner_of, Whole}
-use Rattle.py_expressions.specs.Reading as reading
+use Rattle.expression_reading.specs.Reading.{inner_of, Whole}
+use Rattle.expression_reading.specs.Reading as reading
 use Rattle.py_expressions.proofs.parser.+expr.Given as goal
 
 -- a level takes one of room, and each form calls those that bind tighter

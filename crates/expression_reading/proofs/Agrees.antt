@@ -13,7 +13,7 @@ use Rattle.py_syntax.specs.declared.expr.Level.{Level}
 use Rattle.py_syntax.specs.declared.expr.Level.TheVariants.{Disjunction, Conjunction, Sum, Term}
 use Rattle.py_syntax.specs.declared.expr.Spelled.{Spelled}
 use Rattle.py_syntax.specs.declared.expr.Items.{Items}
-use Rattle.py_expressions.specs.Reading.{Reader, Form, Whole, Inverted, Signed, Inner, close_paren, close_bracket, comma, item, begins_item, all_items, no_items, in_parens, in_brackets, atom, after_dot, call_with, subscript_with, trailer, begins_trailer, primary, factor, joins, begins_join, chain, comparator, compare_with, begins_comparison, compared, comparison, inversion, sums, operand, form_by, form}
+use Rattle.expression_reading.specs.Reading.{Reader, Form, Whole, Inverted, Signed, Inner, close_paren, close_bracket, comma, item, begins_item, all_items, no_items, in_parens, in_brackets, atom, after_dot, call_with, subscript_with, trailer, begins_trailer, primary, factor, joins, begins_join, chain, comparator, compare_with, begins_comparison, compared, comparison, inversion, sums, operand, form_by, form}
 
 -- readers one level further in, the second ones with one more level
 pub data AgreesInner : Inner → Inner → Type 0 where

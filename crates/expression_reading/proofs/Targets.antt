@@ -8,7 +8,7 @@ use Rattle.py_syntax.specs.declared.expr.Level.{Level}
 use Rattle.py_syntax.specs.declared.expr.Spelled.{Spelled}
 use Rattle.py_syntax.specs.Expressions as grammar
 use Rattle.py_syntax.specs.Expressions.{IsChain, IsOperand, IsInversion, IsComparison, IsFactor, IsPrimary, IsExpr}
-use Rattle.py_expressions.specs.Reading.{name_of}
+use Rattle.expression_reading.specs.Reading.{name_of}
 
 same_some : (m n : List ℕ) → Some m ≡ Some n → m ≡ n
 same_some m n e = cc

@@ -9,7 +9,7 @@ use Rattle.py_syntax.specs.declared.expr.Level.{Level}
 use Rattle.py_syntax.specs.declared.expr.Level.TheVariants.{Disjunction, Conjunction, Sum, Term}
 use Rattle.py_syntax.specs.Expressions as grammar
 use Rattle.py_syntax.specs.Expressions.{IsOperator}
-use Rattle.py_expressions.specs.Reading.{close_paren, close_bracket, comma, strength, strength_of, join}
+use Rattle.expression_reading.specs.Reading.{close_paren, close_bracket, comma, strength, strength_of, join}
 
 pub right_close_paren : (room : ℕ) (ts : List Lexeme) → Right close_paren (IsToken token.CloseParen) room ts (close_paren ts)
 unfolding close_paren

@@ -21,10 +21,10 @@ use Rattle.py_syntax.specs.declared.expr.Spelled.{Spelled}
 use Rattle.py_syntax.specs.declared.expr.Items.{Items}
 use Rattle.py_syntax.specs.Expressions as grammar
 use Rattle.py_syntax.specs.Expressions.{target, other, IsOperator, IsComparator, IsChain, IsOperand, IsInversion, IsComparison, IsFactor, IsPrimary, IsItems, IsExpr}
-use Rattle.py_expressions.specs.Reading as reading
-use Rattle.py_expressions.specs.Reading.{Reader, Form, Whole, Inverted, Signed, Inner, starts, strength, strength_of, close_paren, close_bracket, comma, with_item, item, begins_item, all_items, parenthesised_by, parenthesised, in_parens, in_brackets, atom, after_dot, call_with, subscript_with, trailer, begins_trailer, primary, factor, join, joins, begins_join, chain, after_not, after_is, comparator, compare_with, begins_comparison, compared, comparison, inversion, sums, operand, form_by, form}
-use Rattle.py_expressions.proofs.Families.{grows_chain, grows_operand, grows_inversion, grows_comparison, grows_factor, grows_primary, grows_items, some_chain}
-use Rattle.py_expressions.proofs.TokenForms.{right_close_paren, right_close_bracket, IsComma, comma_there, no_comma, right_comma, operator_of}
+use Rattle.expression_reading.specs.Reading as reading
+use Rattle.expression_reading.specs.Reading.{Reader, Form, Whole, Inverted, Signed, Inner, starts, strength, strength_of, close_paren, close_bracket, comma, with_item, item, begins_item, all_items, parenthesised_by, parenthesised, in_parens, in_brackets, atom, after_dot, call_with, subscript_with, trailer, begins_trailer, primary, factor, join, joins, begins_join, chain, after_not, after_is, comparator, compare_with, begins_comparison, compared, comparison, inversion, sums, operand, form_by, form}
+use Rattle.expression_reading.proofs.Families.{grows_chain, grows_operand, grows_inversion, grows_comparison, grows_factor, grows_primary, grows_items, some_chain}
+use Rattle.expression_reading.proofs.TokenForms.{right_close_paren, right_close_bracket, IsComma, comma_there, no_comma, right_comma, operator_of}
 
 -- what each form spells
 abbrev pub IsForm : Form → ℕ → List Lexeme → Spelled → Type 0

@@ -9,7 +9,7 @@ use Rattle.py_syntax.specs.declared.expr.Level.TheVariants.{Disjunction, Conjunc
 use Rattle.py_syntax.specs.declared.expr.Spelled.{Spelled}
 use Rattle.py_syntax.specs.Expressions as grammar
 use Rattle.py_syntax.specs.Expressions.{IsChain, IsOperand, IsInversion, IsComparison, IsFactor, IsPrimary, IsItems}
-use Rattle.py_expressions.specs.Reading.{starts}
+use Rattle.expression_reading.specs.Reading.{starts}
 
 -- ---- with more room
 

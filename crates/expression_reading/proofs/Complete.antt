@@ -17,9 +17,9 @@ use Rattle.py_syntax.specs.declared.expr.Spelled.{Spelled}
 use Rattle.py_syntax.specs.declared.expr.Items.{Items}
 use Rattle.py_syntax.specs.Expressions as grammar
 use Rattle.py_syntax.specs.Expressions.{target, other, IsOperator, IsComparator, IsChain, IsOperand, IsInversion, IsComparison, IsFactor, IsPrimary, IsItems, IsExpr}
-use Rattle.py_expressions.specs.Reading.{Reader, Form, Whole, Inverted, Signed, Inner, starts, strength, strength_of, close_paren, close_bracket, comma, with_item, item, begins_item, all_items, parenthesised_by, parenthesised, in_parens, in_brackets, atom, after_dot, call_with, subscript_with, trailer, begins_trailer, primary, factor, join, joins, begins_join, chain, after_not, after_is, comparator, compare_with, begins_comparison, compared, comparison, inversion, sums, operand, form_by, form, inner_of}
-use Rattle.py_expressions.proofs.Families.{begins_atom, begins_factor, primary_begins, factor_begins, comparison_begins, sum_begins, chain_starts}
-use Rattle.py_expressions.proofs.Right.{IsInner, at_bottom, deeper, right_form, right_operand, trailer_rounds, join_rounds, item_rounds, open_items}
+use Rattle.expression_reading.specs.Reading.{Reader, Form, Whole, Inverted, Signed, Inner, starts, strength, strength_of, close_paren, close_bracket, comma, with_item, item, begins_item, all_items, parenthesised_by, parenthesised, in_parens, in_brackets, atom, after_dot, call_with, subscript_with, trailer, begins_trailer, primary, factor, join, joins, begins_join, chain, after_not, after_is, comparator, compare_with, begins_comparison, compared, comparison, inversion, sums, operand, form_by, form, inner_of}
+use Rattle.expression_reading.proofs.Families.{begins_atom, begins_factor, primary_begins, factor_begins, comparison_begins, sum_begins, chain_starts}
+use Rattle.expression_reading.proofs.Right.{IsInner, at_bottom, deeper, right_form, right_operand, trailer_rounds, join_rounds, item_rounds, open_items}
 
 pub is_inner : (room : ℕ) → IsInner (inner_of room) room
 is_inner zero = at_bottom
