@@ -49,21 +49,21 @@ right_name room [] = refuses_end name IsName room (a_name_goes_on room) refl
 right_name room (token.Name n ∷ ts) = one_read name IsName room n (token.Name n) ts (grammar.name n) (λ tail. refl)
 right_name room (t ∷ ts) = refuses name IsName room t ts (a_name_goes_on room) (λ tail. refl)
 
-is_dot : (t : Lexeme) → dot_ahead (Some t) ≡ true → t ≡ token.Dot
+pub is_dot : (t : Lexeme) → dot_ahead (Some t) ≡ true → t ≡ token.Dot
 unfolding dot_ahead
 is_dot token.Dot e = refl
 is_dot t e = absurd cc
 
-no_dot : dot_ahead None ≡ false
+pub no_dot : dot_ahead None ≡ false
 unfolding dot_ahead
 no_dot = refl
 
-is_comma : (t : Lexeme) → comma_ahead (Some t) ≡ true → t ≡ token.Comma
+pub is_comma : (t : Lexeme) → comma_ahead (Some t) ≡ true → t ≡ token.Comma
 unfolding comma_ahead
 is_comma token.Comma e = refl
 is_comma t e = absurd cc
 
-no_comma_ahead : comma_ahead None ≡ false
+pub no_comma_ahead : comma_ahead None ≡ false
 unfolding comma_ahead
 no_comma_ahead = refl
 
@@ -138,11 +138,11 @@ grows_more_dots room n m ts an_ellipsis = an_ellipsis
 
 pub dots_rounds : (room : ℕ) → IsRounds dots_ahead more_dots IsMoreDots IsCounted room
 dots_rounds room = record {
-    right = λ n ts e. right_more_dots n room ts e;
-    takes = takes_dots room;
-    grows = grows_more_dots;
-    none = λ k n. record { others = 0; whole = omega arith; spelled = grammar.no_dots };
-    more = count_on;
+  right = λ n ts e. right_more_dots n room ts e;
+  takes = takes_dots room;
+  grows = grows_more_dots;
+  none = λ k n. record { others = 0; whole = omega arith; spelled = grammar.no_dots };
+  more = count_on;
 }
 
 counted_all : (room : ℕ) (ts : List Lexeme) (all : ℕ) → IsCounted 0 room ts all → IsDots room ts all
@@ -155,7 +155,7 @@ dots_as_rounds us = refl
 pub right_dots : (room : ℕ) → AllRight dots IsDots room
 right_dots room =
     as_named (rounds dots_ahead more_dots 0) dots IsDots room dots_as_rounds
-      (widened (rounds dots_ahead more_dots 0) (IsCounted 0) IsDots room counted_all (λ ts. right_many (dots_rounds room) 0 ts))
+    (widened (rounds dots_ahead more_dots 0) (IsCounted 0) IsDots room counted_all (λ ts. right_many (dots_rounds room) 0 ts))
 
 -- ---- sources
 
@@ -195,7 +195,7 @@ comma_optional : (n : ℕ) (xs : List Lexeme) (b : Bool) → IsComma n xs b → 
 comma_optional n xs b comma_there = there
 comma_optional n xs b no_comma = left_out
 
-right_comma_optional : (room : ℕ) → AllRight comma (IsOptional token.Comma) room
+pub right_comma_optional : (room : ℕ) → AllRight comma (IsOptional token.Comma) room
 right_comma_optional room = widened comma IsComma (IsOptional token.Comma) room comma_optional (right_comma room)
 
 pub right_listed_items : (room : ℕ) → AllRight (listed name_ahead item comma) (IsListed token.Comma IsItem) room
@@ -205,7 +205,7 @@ right_in_parens : (c : Context) (room : ℕ) (ts : List Lexeme) → Right (names
 unfolding names names_in_parens
 right_in_parens c room ts =
     level (names c (suc room)) (IsNames c) room (token.OpenParen ∷ ts) (names c (suc room) (token.OpenParen ∷ ts))
-      (enclosed (token.OpenParen ∷ []) token.CloseParen (listed name_ahead item comma) (IsListed token.Comma IsItem) close_paren (λ a. Listed a.0) (names c (suc room)) (λ n. IsNames c (suc n)) (λ us. refl) (λ n xs a h. grammar.in_parens h) (grows_listed grows_item) room (right_close_paren room) ts (right_listed_items room ts))
+    (enclosed (token.OpenParen ∷ []) token.CloseParen (listed name_ahead item comma) (IsListed token.Comma IsItem) close_paren (λ a. Listed a.0) (names c (suc room)) (λ n. IsNames c (suc n)) (λ us. refl) (λ n xs a h. grammar.in_parens h) (grows_listed grows_item) room (right_close_paren room) ts (right_listed_items room ts))
 
 right_plain_names : (c : Context) (room : ℕ) → AllRight plain_names (IsNames c) room
 unfolding plain_names
@@ -281,7 +281,7 @@ unfolding after_expr assigned_by
 right_assigned e room ts false b = refuses (after_expr room e) (IsAfterExpr e) room token.Assign ts (nothing_goes e room) (λ tail. rw b refl)
 right_assigned e room ts true b =
     subst (Right (after_expr room e) (IsAfterExpr e) room (token.Assign ∷ ts)) (rw b refl)
-      (prefixed (token.Assign ∷ []) (expr room) IsExpr (λ x. tree.Assign e.tree x.tree) (after_expr room e) (IsAfterExpr e) (λ us. rw b refl) (λ n xs x h. assigns b h) (λ n xs x h. grows_chain h) room ts (right_form room Whole ts))
+    (prefixed (token.Assign ∷ []) (expr room) IsExpr (λ x. tree.Assign e.tree x.tree) (after_expr room e) (IsAfterExpr e) (λ us. rw b refl) (λ n xs x h. assigns b h) (λ n xs x h. grows_chain h) room ts (right_form room Whole ts))
 
 right_augmented : (e : Spelled) (room : ℕ) (ts : List Lexeme) (t : Lexeme) (o : BinaryOp) (n : Option (List ℕ)) → bare e ≡ n → IsAugmented t o → ((us : List Lexeme) → after_expr room e (t ∷ us) ≡ augmented_by room (bare e) o t us) → Right (after_expr room e) (IsAfterExpr e) room (t ∷ ts) (augmented_by room n o t ts)
 unfolding augmented_by
@@ -289,7 +289,7 @@ right_augmented e room ts t o None b a c = refuses (after_expr room e) (IsAfterE
 right_augmented e room ts t o (Some n) b a c =
     let by : (us : List Lexeme) → after_expr room e (t ∷ us) ≡ augmented_by room (Some n) o t us = λ us. c us ∙ ap (λ (m : Option (List ℕ)). augmented_by room m o t us) b in
     subst (Right (after_expr room e) (IsAfterExpr e) room (t ∷ ts)) (by ts)
-      (prefixed (t ∷ []) (expr room) IsExpr (λ x. tree.Augment n o x.tree) (after_expr room e) (IsAfterExpr e) by (λ k xs x h. augments b a h) (λ k xs x h. grows_chain h) room ts (right_form room Whole ts))
+    (prefixed (t ∷ []) (expr room) IsExpr (λ x. tree.Augment n o x.tree) (after_expr room e) (IsAfterExpr e) by (λ k xs x h. augments b a h) (λ k xs x h. grows_chain h) room ts (right_form room Whole ts))
 
 no_assignment : (e : Spelled) (room : ℕ) (t : Lexeme) (ts : List Lexeme) → ((us : List Lexeme) → after_expr room e (t ∷ us) ≡ given (tree.Evaluate e.tree) (t ∷ us)) → Found (after_expr room e) (IsAfterExpr e) room (t ∷ ts) (tree.Evaluate e.tree) (t ∷ ts)
 no_assignment e room t ts f = none_read (after_expr room e) (IsAfterExpr e) room (tree.Evaluate e.tree) t ts nothing_after f
@@ -331,9 +331,10 @@ deleted_goes_on c e room = record { more = token.Dot ∷ token.Name (97 ∷ []) 
 
 deleted_by_flag : (c : Context) (e : Spelled) (room : ℕ) (b : Bool) → e.is_target ≡ b → AllRight (deleted_by b e.tree) (IsDeleted c e) room
 deleted_by_flag c e room true b ts = record {
-    front = []; parts = refl;
-    spelled = λ xs h. subst (λ (l : List Lexeme). IsSimple c room (token.Del ∷ l) (tree.Delete e.tree)) (sym (append-nil xs)) (grammar.delete h b);
-    again = λ more q. refl;
+  front = [];
+  parts = refl;
+  spelled = λ xs h. subst (λ (l : List Lexeme). IsSimple c room (token.Del ∷ l) (tree.Delete e.tree)) (sym (append-nil xs)) (grammar.delete h b);
+  again = λ more q. refl;
 }
 deleted_by_flag c e room false b [] = refuses_end (deleted_by false e.tree) (IsDeleted c e) room (deleted_goes_on c e room) refl
 deleted_by_flag c e room false b (t ∷ ts) = refuses (deleted_by false e.tree) (IsDeleted c e) room t ts (deleted_goes_on c e room) (λ tail. refl)
@@ -393,7 +394,7 @@ right_return c room ts false b = refuses (simple c room) (IsSimple c) room token
 right_return c room ts true b =
     let at = returns_in c.in_function c.in_finally b in
     subst (Right (simple c room) (IsSimple c) room (token.Return ∷ ts)) (rw b refl)
-      (prefixed (token.Return ∷ []) (value room) IsValue (λ e. tree.Return e) (simple c room) (IsSimple c) (λ us. rw b refl) (λ n xs e h. return_by c n xs e at.0 at.1 h) grows_value room ts (right_value room ts))
+    (prefixed (token.Return ∷ []) (value room) IsValue (λ e. tree.Return e) (simple c room) (IsSimple c) (λ us. rw b refl) (λ n xs e h. return_by c n xs e at.0 at.1 h) grows_value room ts (right_value room ts))
 
 -- ---- all simple statements
 
@@ -425,7 +426,7 @@ right_simple c room (t ∷ ts) = simple_as c room (t ∷ ts) (λ us e. at_head (
 
 -- ---- lines
 
-right_semicolon : (room : ℕ) → AllRight semicolon (IsOptional token.Semicolon) room
+pub right_semicolon : (room : ℕ) → AllRight semicolon (IsOptional token.Semicolon) room
 unfolding semicolon
 right_semicolon room [] = none_at_end semicolon (IsOptional token.Semicolon) room false left_out refl
 right_semicolon room (token.Semicolon ∷ ts) = one_read semicolon (IsOptional token.Semicolon) room true token.Semicolon ts there (λ tail. refl)
