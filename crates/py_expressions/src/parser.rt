@@ -6,7 +6,10 @@ ghost use Rattle.expression_reading.specs.Reading.{inner_of, Whole, Inverted, Si
 ghost use Rattle.expression_reading.specs.Reading as reading;
 
 use crate::items::{begins_item, parenthesised, with_item};
-use crate::tokens::{close_bracket, close_paren, comma, comparator, join, strength, strength_of};
+use crate::tokens::{
+    begins_comparison, begins_join, begins_trailer, close_bracket, close_paren, comma, comparator,
+    join,
+};
 use base_types::{Exact, Seq, Text};
 use py_syntax::{Expr, Items, Level, Lexeme, Spelled};
 use sqlite_items::Boxed;
@@ -237,7 +240,7 @@ pub fn primary(
     ensures shorter { Shortens tokens.now result }
 {
     let (mut left, mut rest) = atom(alloc, tokens, room)?;
-    'trailers: while strength(rest) == 6 {
+    'trailers: while begins_trailer(rest) {
         let (next, after) = trailer(alloc, left, rest, room)?;
         left = next;
         rest = after;
@@ -299,7 +302,7 @@ fn chain(
     ensures shorter { Shortens tokens.now result }
 {
     let (mut left, mut rest) = operand(alloc, tokens, room, level)?;
-    'joins: while strength(rest) == strength_of(level) {
+    'joins: while begins_join(level, rest) {
         let (next, after) = joins(alloc, left, rest, room, level)?;
         left = next;
         rest = after;
@@ -345,9 +348,27 @@ fn compare_with(
     Ok((other(Expr::Compare(comparison, left, right)), rest))
 }
 
+/// What a sum is compared with, if it is.
+#[cycle(expr)]
+#[tactic(auto, unfolding(expression_reading::specs::Reading::compared))]
+fn compared(
+    alloc: Global,
+    left: Spelled,
+    tokens: &[Lexeme],
+    room: usize,
+) -> Result<(Spelled, &[Lexeme]), ReadError>
+    ensures value { GivesAt (λ x. x) result (reading.compared (reading.sums (inner_of room)) left tokens.now) }
+    ensures within { StaysWithin tokens.now result }
+{
+    if begins_comparison(tokens) {
+        return compare_with(alloc, left, tokens, room);
+    }
+    Ok((left, tokens))
+}
+
 /// A sum, compared with another one or alone (6.10).
 #[cycle(expr)]
-#[tactic(auto, unfolding(expression_reading::specs::Reading::comparison, expression_reading::specs::Reading::compared))]
+#[tactic(auto, unfolding(expression_reading::specs::Reading::comparison))]
 fn comparison(
     alloc: Global,
     tokens: &[Lexeme],
@@ -357,10 +378,7 @@ fn comparison(
     ensures shorter { Shortens tokens.now result }
 {
     let (left, rest) = chain(alloc, tokens, room, Level::Sum)?;
-    if strength(rest) != 3 {
-        return Ok((left, rest));
-    }
-    compare_with(alloc, left, rest, room)
+    compared(alloc, left, rest, room)
 }
 
 /// A comparison with its `not`s (6.11).

@@ -1,9 +1,10 @@
 //! Single tokens of expressions.
 
-ghost use Rattle.std.specs.Prelude.{◌≡◌, ◌<◌, ◌≤◌, length, IfOk, Ok};
+ghost use Rattle.std.specs.Prelude.{◌≡◌, ◌==◌, ◌<◌, ◌≤◌, length, IfOk, Ok};
 ghost use Rattle.token_reading.specs.Reading.{head_of};
 ghost use Rattle.token_reading.specs.Outcome.{GivesAt, GivesRest, Shortens, StaysWithin};
 ghost use Rattle.expression_reading.specs.Reading as reading;
+ghost use Rattle.py_syntax.specs.declared.expr.Expr.TheVariants as exprs;
 
 use base_types::NoMemory;
 use py_syntax::{BinaryOp, Comparison, Expr, Level, Lexeme};
@@ -33,7 +34,7 @@ pub fn starts(tokens: &[Lexeme]) -> bool
 
 /// How strongly the token ahead binds what stands before it; 0 where it does not go on with an expression.
 #[tactic(auto, unfolding(expression_reading::specs::Reading::strength))]
-pub fn strength(tokens: &[Lexeme]) -> u32
+fn strength(tokens: &[Lexeme]) -> u32
     ensures { result ≡ reading.strength (head_of tokens.now) }
 {
     match tokens {
@@ -60,8 +61,29 @@ pub fn strength(tokens: &[Lexeme]) -> u32
     }
 }
 
+/// Whether what follows an atom stands here.
+pub fn begins_trailer(tokens: &[Lexeme]) -> bool
+    ensures { result ≡ (reading.strength (head_of tokens.now) == 6) }
+{
+    strength(tokens) == 6
+}
+
+/// Whether a comparing operator stands here.
+pub fn begins_comparison(tokens: &[Lexeme]) -> bool
+    ensures { result ≡ reading.begins_comparison (head_of tokens.now) }
+{
+    strength(tokens) == 3
+}
+
+/// Whether an operator of this level stands here.
+pub fn begins_join(level: Level, tokens: &[Lexeme]) -> bool
+    ensures { result ≡ (reading.strength (head_of tokens.now) == reading.strength_of level) }
+{
+    strength(tokens) == strength_of(level)
+}
+
 /// How strongly the operators of a level bind.
-pub fn strength_of(level: Level) -> u32
+fn strength_of(level: Level) -> u32
     ensures { result ≡ reading.strength_of level }
 {
     match level {
@@ -170,7 +192,7 @@ pub fn join(alloc: Global, operator: &Lexeme, left: Expr, right: Expr) -> Result
 }
 
 fn binary(alloc: Global, op: BinaryOp, left: Expr, right: Expr) -> Result<Expr, NoMemory>
-    ensures { IfOk result (λ expr. expr ≡ Expr.Binary op left right) }
+    ensures { IfOk result (λ expr. expr ≡ exprs.Binary op left right) }
 {
     Ok(Expr::Binary(op, Boxed::new(alloc, left)?, Boxed::new(alloc, right)?))
 }

@@ -37,6 +37,9 @@ decreases-chain l = l.room * 23 + rank l.level + 2
 abbrev pub decreases-compare_with : goal.decreases-compare_with
 decreases-compare_with l = l.room * 23 + 9
 
+abbrev pub decreases-compared : goal.decreases-compared
+decreases-compared l = l.room * 23 + 10
+
 abbrev pub decreases-comparison : goal.decreases-comparison
 decreases-comparison l = l.room * 23 + 11
 
