@@ -1,3 +1,4 @@
 pub mod Families
 pub mod Right
 pub mod Tries
+pub mod Defs

@@ -162,10 +162,13 @@ handler_rounds inner room h c = record {
 abbrev IsWhole : Context → ℕ → ℕ → List Lexeme → Handlers → Type 0
 IsWhole c n room ts t = IsHandlers c n room ts (t.found, t.next)
 
+abbrev handler_pair : List Handler → ℕ → List Handler × ℕ
+handler_pair hs n = (hs, n)
+
 whole_handlers : (c : Context) (n room : ℕ) (xs ys : List Lexeme) (s t : Handlers) → IsNextHandler c (some_handlers [] n) room xs s → IsAllHandlers c s room ys t → IsWhole c n room (xs ++ ys) t
-whole_handlers c n room xs ys s t (kinds_named h) no_handlers = subst (λ (l : List Lexeme). IsHandlers c n room l (_, _)) (sym (append-nil xs)) (grammar.last_handler h)
+whole_handlers c n room xs ys s t (kinds_named {h = hd} h) no_handlers = subst (λ (l : List Lexeme). IsHandlers c n room l (handler_pair (hd.0 ∷ []) hd.1)) (sym (append-nil xs)) (grammar.last_handler h)
 whole_handlers c n room xs ys s t (kinds_named h) (some_more k) = grammar.more_handlers h k
-whole_handlers c n room xs ys s t (all_taken {ts = us} h) no_handlers = subst (λ (l : List Lexeme). IsHandlers c n room (token.Except ∷ token.Colon ∷ l) (_, _)) (sym (append-nil us)) (grammar.takes_all h)
+whole_handlers c n room xs ys s t (all_taken {b = b} {ts = us} h) no_handlers = subst (λ (l : List Lexeme). IsHandlers c n room (token.Except ∷ token.Colon ∷ l) (handler_pair (handler_of None None b ∷ []) b.1)) (sym (append-nil us)) (grammar.takes_all h)
 
 pub right_handlers : (inner : Reader) (room : ℕ) → IsInner inner room → (c : Context) (n : ℕ) → AllRight (handlers inner room c n) (IsWhole c n) room
 unfolding handlers
@@ -193,7 +196,7 @@ right_ends inner room h c n ts =
 -- what stands behind the block of `try`
 pub data IsAfterTry : Context → Stmts → ℕ → List Lexeme → Stmts → Type 0 where
   only_finally : {c : Context} {b fs : Stmts} {room : ℕ} {ts : List Lexeme} → IsColonBlock (within_finally c) b.1 room ts fs → IsAfterTry c b room (token.Finally ∷ ts) (tree.Try b.0 [] [] fs.0 ∷ [], fs.1)
-  with_handlers : {c : Context} {b : Stmts} {room : ℕ} {xs ys : List Lexeme} {hs : Handlers} {e : Ends} → IsWhole c b.1 room xs hs → IsEnds c hs.next room ys e → IsAfterTry c b room (xs ++ ys) (tree.Try b.0 hs.found e.0 e.1 ∷ [], e.2)
+  with_handlers : {c : Context} {b : Stmts} {room : ℕ} {xs ys : List Lexeme} {hs : List Handler × ℕ} {e : Ends} → IsHandlers c b.1 room xs hs → IsEnds c hs.1 room ys e → IsAfterTry c b room (xs ++ ys) (tree.Try b.0 hs.0 e.0 e.1 ∷ [], e.2)
 
 abbrev caught_try : Reader → ℕ → Context → Stmts → List Lexeme → Read Lexeme Stmts
 caught_try inner room c b ts = handlers inner room c b.1 ts >>= λ h. try_ends inner room c h.0.next h.1 >>= λ e. given (tree.Try b.0 h.0.found e.0.0 e.0.1 ∷ [], e.0.2) e.1
@@ -202,7 +205,7 @@ right_caught_try : (inner : Reader) (room : ℕ) → IsInner inner room → (c :
 right_caught_try inner room h c b ts =
     sequence {p = []} {F = handlers inner room c b.1} {IsA = IsWhole c b.1} {G = λ hs. try_ends inner room c hs.next} {IsB = λ hs. IsEnds c hs.next} {f = λ hs e. (tree.Try b.0 hs.found e.0 e.1 ∷ [], e.2)} {H = caught_try inner room c b} {IsC = IsAfterTry c b} (record {
       computes = λ us. refl;
-      builds = λ k xs ys hs e q r. with_handlers q r;
+      builds = λ k xs ys hs e q r. with_handlers {hs = handler_pair hs.found hs.next} q r;
       grows = λ k xs hs q. grows_handlers q;
       finishes = λ k hs. record { more = []; value = ([], [], hs.next); spelled = is_ends grammar.no_else grammar.no_finally };
     }) room ts (right_handlers inner room h c b.1 ts) (λ hs rest k. right_ends inner room h c hs.next rest)
@@ -227,6 +230,9 @@ pub right_try : (inner : Reader) (room : ℕ) → IsInner inner room → (c : Co
 unfolding try_rest
 right_try inner room h c n = right_then (colon_block inner room c n) (IsColonBlock c n) (after_try inner room c) (IsAfterTry c) (try_rest inner room c n) (IsTry c n) (λ us. refl) (λ k xs ys b ss q r. is_try q r) (grows_colon_block c n) (λ k b. after_try_goes_on c b k) room (right_colon_block inner room h c n) (λ b ts. right_after_try inner room h c b ts)
 
+after_try_by : (c : Context) (n room : ℕ) (xs ys : List Lexeme) (b ss : Stmts) → IsBlock c n room xs b → IsAfterTry c b room ys ss → IsStmt c n (suc room) (token.Try ∷ token.Colon ∷ (xs ++ ys)) ss
+after_try_by c n room xs ys b ss h (only_finally (colon_before k)) = grammar.try_finally h k
+after_try_by c n room xs ys b ss h (with_handlers k (is_ends q r)) = grammar.try_except h k q r
+
 pub try_by : (c : Context) (n room : ℕ) (ts : List Lexeme) (ss : Stmts) → IsTry c n room ts ss → IsStmt c n (suc room) (token.Try ∷ ts) ss
-try_by c n room ts ss (is_try (colon_before {ts = xs} h) (only_finally (colon_before {ts = ys} k))) = grammar.try_finally h k
-try_by c n room ts ss (is_try {b = b} (colon_before {ts = xs} h) (with_handlers {xs = hs} {hs = handlers} k (is_ends {xs = ys} {ys = zs} q r))) = grammar.try_except h k q r
+try_by c n room ts ss (is_try {ys = ys} {b = b} (colon_before {ts = xs} h) k) = after_try_by c n room xs ys b ss h k
