@@ -385,3 +385,9 @@ right_def inner room h n ts =
 pub def_by : (c : Context) (n room : ℕ) (ts : List Lexeme) (ss : Stmts) → c.in_function ≡ false → IsDef n room ts ss → IsStmt c n (suc room) (token.Def ∷ ts) ss
 def_by c n room ts ss f (is_def (is_signature m (in_brackets (to_paren {ts = us} {s = ps} h))) (colon_then {ts = vs} {b = b} k)) =
     subst (λ (l : List Lexeme). IsStmt c n (suc room) (token.Def ∷ token.Name m ∷ token.OpenParen ∷ l) (function n (m, ps.0) b)) (sym (append_assoc us (token.CloseParen ∷ []) (token.Colon ∷ vs))) (grammar.def_stmt m f h k)
+
+grows_colon_body : (names : List (List ℕ)) (n : ℕ) → Grows (IsColonBody names n)
+grows_colon_body names n room ts b (colon_then h) = colon_then (grows_body h)
+
+pub grows_def : (n : ℕ) → Grows (IsDef n)
+grows_def n room ts ss (is_def {xs = xs} {ys = ys} {f = f} {b = b} h k) = is_def (grows_signature room xs f h) (grows_colon_body f.1 (suc n) room ys b k)

@@ -236,3 +236,10 @@ after_try_by c n room xs ys b ss h (with_handlers k (is_ends q r)) = grammar.try
 
 pub try_by : (c : Context) (n room : ℕ) (ts : List Lexeme) (ss : Stmts) → IsTry c n room ts ss → IsStmt c n (suc room) (token.Try ∷ ts) ss
 try_by c n room ts ss (is_try {ys = ys} {b = b} (colon_before {ts = xs} h) k) = after_try_by c n room xs ys b ss h k
+
+grows_after_try : (c : Context) (b : Stmts) → Grows (IsAfterTry c b)
+grows_after_try c b n ts ss (only_finally {fs = fs} {ts = us} k) = only_finally (grows_colon_block (within_finally c) b.1 n us fs k)
+grows_after_try c b n ts ss (with_handlers k (is_ends q r)) = with_handlers (grows_handlers k) (is_ends (grows_else q) (grows_finally r))
+
+pub grows_try : (c : Context) (n : ℕ) → Grows (IsTry c n)
+grows_try c n room ts ss (is_try {xs = xs} {ys = ys} {b = b} h k) = is_try (grows_colon_block c n room xs b h) (grows_after_try c b room ys ss k)
