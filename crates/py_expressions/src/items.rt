@@ -27,7 +27,7 @@ pub fn with_item(items: Items, expr: Expr, is_open: bool) -> Result<Items, NoMem
 
 /// What items in parentheses stand for: one without a comma for itself, and all others for a tuple (Language Reference
 /// 6.2.3).
-#[tactic(auto, using(crate::proofs::Brackets::open_tuple, crate::proofs::Brackets::not_one, crate::proofs::Brackets::one_alone))]
+#[tactic(auto, using(crate::proofs::Parentheses::open_tuple, crate::proofs::Parentheses::not_one, crate::proofs::Parentheses::one_alone))]
 pub fn parenthesised(items: Items) -> Spelled
     ensures { result ≡ reading.parenthesised items }
 {

@@ -2,7 +2,7 @@ use Rattle.py_syntax.specs.Expressions.{IsExpr}
 use Rattle.token_reading.proofs.Theorem.{gives_spelled, gives_refused}
 use Rattle.expression_reading.specs.Reading.{expr}
 use Rattle.expression_reading.proofs.Whole.{expr_reader, front_read}
-use Rattle.py_expressions.proofs.expression.expression.Goals as goal
+use Rattle.py_expressions.proofs.whole.expression.Goals as goal
 
 pub returns-clause-spelled : goal.returns-clause-spelled
 returns-clause-spelled c = gives_spelled expr IsExpr expr_reader c.args.room c.args.tokens.now c.expr.result c.expr.ensures.value
