@@ -4,3 +4,6 @@ pub mod Tries
 pub mod Defs
 pub mod Scripts
 pub mod Agrees
+pub mod Begins
+pub mod Complete
+pub mod Whole

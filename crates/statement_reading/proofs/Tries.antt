@@ -120,7 +120,7 @@ right_open_handler inner room h c found n [] = refuses_end (next_handler inner r
 right_open_handler inner room h c found n (token.Except ∷ ts) = right_except inner room h c found n ts
 right_open_handler inner room h c found n (t ∷ ts) = refuses (next_handler inner room c (some_handlers found n)) (IsNextHandler c (some_handlers found n)) room t ts (handler_goes_on c found n room) (λ tail. refl)
 
-abbrev handlers_by : List Handler → ℕ → Bool → Handlers
+abbrev pub handlers_by : List Handler → ℕ → Bool → Handlers
 handlers_by found n is_open = record { found = found; next = n; is_open = is_open }
 
 right_next_handler : (inner : Reader) (room : ℕ) → IsInner inner room → (c : Context) (found : List Handler) (n : ℕ) (is_open : Bool) (ts : List Lexeme) → begins_handler (handlers_by found n is_open) (head_of ts) ≡ true → Right (next_handler inner room c (handlers_by found n is_open)) (IsNextHandler c (handlers_by found n is_open)) room ts (next_handler inner room c (handlers_by found n is_open) ts)
