@@ -323,9 +323,9 @@ mutual
   complete_stmt (grammar.if_stmt {c = c} {n = n} {m = m} {k = k} {room = room} {xs = xs} {ys = ys} {zs = zs} {b = b} {bs = bs} {ss = ss} h q r) rest e =
       ap (λ (l : List Lexeme). stmt (suc room) c n (token.If ∷ l)) (append_assoc xs (ys ++ zs) rest ∙ ap (λ (l : List Lexeme). xs ++ l) (append_assoc ys zs rest))
       ∙ if_read room c n (xs ++ (ys ++ (zs ++ rest))) (ys ++ (zs ++ rest)) (zs ++ rest) rest (b, m) (branches_by (b ∷ bs) k) (pair ss _)
-          (complete_branch h (ys ++ (zs ++ rest)))
-          (complete_elifs q (b ∷ []) (zs ++ rest) (λ s. else_no_elif r s rest e))
-          (complete_else r rest e)
+      (complete_branch h (ys ++ (zs ++ rest)))
+      (complete_elifs q (b ∷ []) (zs ++ rest) (λ s. else_no_elif r s rest e))
+      (complete_else r rest e)
   complete_stmt (grammar.while_stmt {c = c} {n = n} {m = m} {room = room} {ts = ts} {b = b} h) rest e = while_read room c n (ts ++ rest) rest (b, m) (complete_branch h rest)
   complete_stmt (grammar.try_finally {c = c} {n = n} {m = m} {k = k} {room = room} {xs = xs} {ys = ys} {ss = ss} {fs = fs} h q) rest e =
       ap (λ (l : List Lexeme). stmt (suc room) c n (token.Try ∷ token.Colon ∷ l)) (append_assoc xs (token.Finally ∷ token.Colon ∷ ys) rest)
@@ -334,10 +334,10 @@ mutual
       let behind = complete_handlers q (ys ++ (zs ++ rest)) (else_no_except r (zs ++ rest) (finally_no_except w rest e)) in
       ap (λ (z : List Lexeme). stmt (suc room) c n (token.Try ∷ token.Colon ∷ z)) (append_assoc xs (hs ++ (ys ++ zs)) rest ∙ ap (λ (z : List Lexeme). xs ++ z) (append_assoc hs (ys ++ zs) rest ∙ ap (λ (z : List Lexeme). hs ++ z) (append_assoc ys zs rest)))
       ∙ try_except_read room c n (xs ++ (hs ++ (ys ++ (zs ++ rest)))) (hs ++ (ys ++ (zs ++ rest))) (ys ++ (zs ++ rest)) rest (pair ss m) (handlers_by handlers_found k behind.0) (es, fs, p)
-          (complete_block h (hs ++ (ys ++ (zs ++ rest))))
-          (handlers_begin q (ys ++ (zs ++ rest)))
-          (behind.1)
-          (ends_read room c k (ys ++ (zs ++ rest)) (zs ++ rest) rest (pair es l) (pair fs p) (complete_else_before r (zs ++ rest) (λ f d. finally_no_else w f room d k rest e)) (complete_finally w rest e))
+      (complete_block h (hs ++ (ys ++ (zs ++ rest))))
+      (handlers_begin q (ys ++ (zs ++ rest)))
+      (behind.1)
+      (ends_read room c k (ys ++ (zs ++ rest)) (zs ++ rest) rest (pair es l) (pair fs p) (complete_else_before r (zs ++ rest) (λ f d. finally_no_else w f room d k rest e)) (complete_finally w rest e))
   complete_stmt (grammar.def_stmt {c = c} {n = n} {m = m} {room = room} {ts = ts} {us = us} {parameters = ps} {is_open = o} {b = b} name f h k) rest e =
       ap (λ (l : List Lexeme). stmt (suc room) c n (token.Def ∷ token.Name name ∷ token.OpenParen ∷ l)) (append_assoc ts (token.CloseParen ∷ token.Colon ∷ us) rest)
       ∙ def_read room c n (token.Name name ∷ token.OpenParen ∷ (ts ++ token.CloseParen ∷ token.Colon ∷ (us ++ rest))) (us ++ rest) rest (name, ps) (b, m) f (signature_read name room ts (names_by ps o) (token.Colon ∷ (us ++ rest)) h) (complete_body k rest)
@@ -401,21 +401,23 @@ mutual
   complete_more_handlers (grammar.last_handler {c = c} {n = n} {m = m} {room = room} {h = hd} h) found rest e = (true, handler_round_by h found rest (complete_handler h found rest) ∙ handlers_stop room c (found ++ hd ∷ []) m true rest e)
   complete_more_handlers (grammar.takes_all {c = c} {n = n} {m = m} {room = room} {ts = ts} {ss = ss} h) found rest e = (false, handler_round room c found n (with_handler found None None (pair ss m) false) (token.Colon ∷ (ts ++ rest)) rest (all_read room c found n (ts ++ rest) rest (pair ss m) (complete_block h rest)) ∙ handlers_stop room c (found ++ (record { kinds = None; bound = None; body = ss }) ∷ []) m false rest e)
   complete_more_handlers (grammar.more_handlers {c = c} {n = n} {m = m} {k = k} {room = room} {xs = xs} {ys = ys} {h = hd} {hs = hs} h q) found rest e =
-      let behind = complete_more_handlers q (found ++ hd ∷ []) rest e in
-      (behind.0,
+      let behind = complete_more_handlers q (found ++ hd ∷ []) rest e in (
+        behind.0,
         ap (handler_loop room c (open_handlers found n)) (append_assoc xs ys rest)
-        ∙ handler_round_by h found (ys ++ rest) (complete_handler h found (ys ++ rest))
-        ∙ behind.1
-        ∙ ap (λ (l : List Handler). given (handlers_by l k behind.0) rest) (append_assoc found (hd ∷ []) hs))
+            ∙ handler_round_by h found (ys ++ rest) (complete_handler h found (ys ++ rest))
+            ∙ behind.1
+            ∙ ap (λ (l : List Handler). given (handlers_by l k behind.0) rest) (append_assoc found (hd ∷ []) hs),
+      )
 
   complete_handlers : {c : Context} {n room : ℕ} {ts : List Lexeme} {hs : List Handler × ℕ} → IsHandlers c n room ts hs → (rest : List Lexeme) → except_ahead (head_of rest) ≡ false → (o : Bool) × (handlers (stmt room) room c n (ts ++ rest) ≡ given (handlers_by hs.0 hs.1 o) rest)
   complete_handlers (grammar.last_handler {c = c} {n = n} {m = m} {room = room} {ts = ts} {h = hd} h) rest e = (true, first_handler room c n (open_handlers (hd ∷ []) m) (open_handlers (hd ∷ []) m) (ts ++ rest) rest rest (complete_handler h [] rest) (handlers_stop room c (hd ∷ []) m true rest e))
   complete_handlers (grammar.takes_all {c = c} {n = n} {m = m} {room = room} {ts = ts} {ss = ss} h) rest e = (false, first_handler room c n (with_handler [] None None (pair ss m) false) (with_handler [] None None (pair ss m) false) (token.Except ∷ token.Colon ∷ (ts ++ rest)) rest rest (all_read room c [] n (ts ++ rest) rest (pair ss m) (complete_block h rest)) (handlers_stop room c ((record { kinds = None; bound = None; body = ss }) ∷ []) m false rest e))
   complete_handlers (grammar.more_handlers {c = c} {n = n} {m = m} {k = k} {room = room} {xs = xs} {ys = ys} {h = hd} {hs = hs} h q) rest e =
-      let behind = complete_more_handlers q (hd ∷ []) rest e in
-      (behind.0,
+      let behind = complete_more_handlers q (hd ∷ []) rest e in (
+        behind.0,
         ap (handlers (stmt room) room c n) (append_assoc xs ys rest)
-        ∙ first_handler room c n (open_handlers (hd ∷ []) m) (handlers_by (hd ∷ hs) k behind.0) (xs ++ (ys ++ rest)) (ys ++ rest) rest (complete_handler h [] (ys ++ rest)) (behind.1))
+            ∙ first_handler room c n (open_handlers (hd ∷ []) m) (handlers_by (hd ∷ hs) k behind.0) (xs ++ (ys ++ rest)) (ys ++ rest) rest (complete_handler h [] (ys ++ rest)) (behind.1),
+      )
 
   complete_body : {names : List (List ℕ)} {n room : ℕ} {ts : List Lexeme} {b : Body × ℕ} → IsBody names n room ts b → (rest : List Lexeme) → function_body (stmt room) room names n (ts ++ rest) ≡ given b rest
   complete_body (grammar.line_body {parameters = names} {n = n} {room = room} {ts = ts} {ss = ss} h) rest = line_body_read room names n ts rest ss h

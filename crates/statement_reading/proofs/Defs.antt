@@ -137,11 +137,11 @@ grows_parameter n s t ts (a_parameter {us = us} {b = b} m e k) = a_parameter m e
 
 pub parameter_rounds : (room : ℕ) → IsRounds begins_parameter parameter IsParameter IsAllParameters room
 parameter_rounds room = record {
-    right = λ s ts e. right_parameter s.0 s.1 room ts e;
-    takes = takes_parameter room;
-    grows = grows_parameter;
-    none = λ n s. no_others;
-    more = more_parameters;
+  right = λ s ts e. right_parameter s.0 s.1 room ts e;
+  takes = takes_parameter room;
+  grows = grows_parameter;
+  none = λ n s. no_others;
+  more = more_parameters;
 }
 
 from_none : (n : ℕ) (ts : List Lexeme) (s : Names) → IsMoreParameters [] true n ts s → IsParameters [] n ts s
@@ -155,7 +155,7 @@ parameters_as_rounds us = refl
 pub right_parameters : (room : ℕ) → AllRight parameters (IsParameters []) room
 right_parameters room =
     as_named (rounds begins_parameter parameter ([], true)) parameters (IsParameters []) room parameters_as_rounds
-      (widened (rounds begins_parameter parameter ([], true)) (IsAllParameters ([], true)) (IsParameters []) room from_none (λ ts. right_many (parameter_rounds room) ([], true) ts))
+    (widened (rounds begins_parameter parameter ([], true)) (IsAllParameters ([], true)) (IsParameters []) room from_none (λ ts. right_many (parameter_rounds room) ([], true) ts))
 
 -- ---- `global` lines
 
@@ -177,7 +177,7 @@ no_more_globals names n found = subst (λ (l : List (List ℕ)). IsMoreGlobals n
 more_globals : (names : List (List ℕ)) (n : ℕ) (s t u : List (List ℕ)) (xs ys : List Lexeme) → IsNextGlobal names s n xs t → IsMoreGlobals names t n ys u → IsMoreGlobals names s n (xs ++ ys) u
 more_globals names n s t u xs ys (a_global_line {ns = ns} {ts = ts} h) (more_lines {ns = ms} k) =
     subst (λ (l : List Lexeme). IsMoreGlobals names s n (token.Global ∷ l) ((s ++ ns) ++ ms)) (sym (append_assoc ts (token.Newline ∷ []) ys))
-      (subst (λ (l : List (List ℕ)). IsMoreGlobals names s n (token.Global ∷ (ts ++ token.Newline ∷ ys)) l) (sym (append_assoc s ns ms)) (more_lines (grammar.global_line h k)))
+    (subst (λ (l : List (List ℕ)). IsMoreGlobals names s n (token.Global ∷ (ts ++ token.Newline ∷ ys)) l) (sym (append_assoc s ns ms)) (more_lines (grammar.global_line h k)))
 
 takes_global : (names : List (List ℕ)) (n : ℕ) (s t : List (List ℕ)) (ts : List Lexeme) → IsNextGlobal names s n ts t → 0 < length ts
 takes_global names n s t ts (a_global_line {ts = us} h) = omega arith
@@ -187,11 +187,11 @@ grows_next_global names n s t ts (a_global_line {ns = ns} {ts = us} h) = a_globa
 
 pub global_rounds : (names : List (List ℕ)) (room : ℕ) → IsRounds global_ahead (next_global names) (IsNextGlobal names) (IsMoreGlobals names) room
 global_rounds names room = record {
-    right = λ found ts e. right_next_global names found room ts e;
-    takes = takes_global names room;
-    grows = grows_next_global names;
-    none = no_more_globals names;
-    more = more_globals names;
+  right = λ found ts e. right_next_global names found room ts e;
+  takes = takes_global names room;
+  grows = grows_next_global names;
+  none = no_more_globals names;
+  more = more_globals names;
 }
 
 globals_as_rounds : (names : List (List ℕ)) (us : List Lexeme) → globals names us ≡ rounds global_ahead (next_global names) [] us
@@ -204,7 +204,7 @@ from_no_globals names n ts ns (more_lines k) = k
 pub right_globals : (names : List (List ℕ)) (room : ℕ) → AllRight (globals names) (IsGlobalLines names) room
 right_globals names room =
     as_named (rounds global_ahead (next_global names) []) (globals names) (IsGlobalLines names) room (globals_as_rounds names)
-      (widened (rounds global_ahead (next_global names) []) (IsMoreGlobals names []) (IsGlobalLines names) room (from_no_globals names) (λ ts. right_many (global_rounds names room) [] ts))
+    (widened (rounds global_ahead (next_global names) []) (IsMoreGlobals names []) (IsGlobalLines names) room (from_no_globals names) (λ ts. right_many (global_rounds names room) [] ts))
 
 -- ---- bodies
 

@@ -103,11 +103,11 @@ right_next inner room h c s ts = prefixed [] (inner c s.1) (IsStmt c s.1) (λ x.
 
 pub stmt_rounds : (inner : Reader) (room : ℕ) → IsInner inner room → (c : Context) → IsRounds begins_stmt (next_stmt inner c) (IsNext c) (IsOthers c) room
 stmt_rounds inner room h c = record {
-    right = λ s ts e. right_next inner room h c s ts;
-    takes = takes_next c room;
-    grows = grows_next c;
-    none = λ n s. no_others;
-    more = all_next c;
+  right = λ s ts e. right_next inner room h c s ts;
+  takes = takes_next c room;
+  grows = grows_next c;
+  none = λ n s. no_others;
+  more = all_next c;
 }
 
 stmts_of : (c : Context) (n room : ℕ) (xs ys : List Lexeme) (x y : Stmts) → IsStmt c n room xs x → IsOthers c x room ys y → IsStmts c n room (xs ++ ys) y
@@ -237,11 +237,11 @@ grows_next_elif c n s t ts (next_branch h) = next_branch (grows_branch h)
 
 pub elif_rounds : (inner : Reader) (room : ℕ) → IsInner inner room → (c : Context) → IsRounds elif_ahead (next_elif inner room c) (IsNextElif c) (IsMoreElifs c) room
 elif_rounds inner room h c = record {
-    right = right_next_elif inner room h c;
-    takes = takes_elif c room;
-    grows = grows_next_elif c;
-    none = λ n s. no_more_elifs c n s;
-    more = more_elifs c;
+  right = right_next_elif inner room h c;
+  takes = takes_elif c room;
+  grows = grows_next_elif c;
+  none = λ n s. no_more_elifs c n s;
+  more = more_elifs c;
 }
 
 -- a branch and those behind it

@@ -51,27 +51,27 @@ right_if_stmt : (room : ℕ) (c : Context) (n : ℕ) → IsInner (stmt room) roo
 unfolding stmt
 right_if_stmt room c n h ts =
     level (stmt (suc room) c n) (IsStmt c n) room (token.If ∷ ts) (stmt (suc room) c n (token.If ∷ ts))
-      (prefixed (token.If ∷ []) (if_rest (stmt room) room c n) (IsIf c n) (λ x. x) (stmt (suc room) c n) (λ k. IsStmt c n (suc k)) (λ us. again (if_rest (stmt room) room c n us)) (λ k xs x q. if_by c n k xs x q) (grows_if c n) room ts (right_if (stmt room) room h c n ts))
+    (prefixed (token.If ∷ []) (if_rest (stmt room) room c n) (IsIf c n) (λ x. x) (stmt (suc room) c n) (λ k. IsStmt c n (suc k)) (λ us. again (if_rest (stmt room) room c n us)) (λ k xs x q. if_by c n k xs x q) (grows_if c n) room ts (right_if (stmt room) room h c n ts))
 
 right_while_stmt : (room : ℕ) (c : Context) (n : ℕ) → IsInner (stmt room) room → (ts : List Lexeme) → Right (stmt (suc room) c n) (IsStmt c n) (suc room) (token.While ∷ ts) (stmt (suc room) c n (token.While ∷ ts))
 unfolding stmt while_rest
 right_while_stmt room c n h ts =
     level (stmt (suc room) c n) (IsStmt c n) room (token.While ∷ ts) (stmt (suc room) c n (token.While ∷ ts))
-      (prefixed (token.While ∷ []) (branch (stmt room) room (within_loop c) n) (IsBranch (within_loop c) n) (λ b. (tree.While b.0.test b.0.body ∷ [], b.1)) (stmt (suc room) c n) (λ k. IsStmt c n (suc k)) (λ us. refl) (λ k xs b q. while_by c n k xs b q) (λ k xs b q. grows_branch q) room ts (right_branch (stmt room) room h (within_loop c) n ts))
+    (prefixed (token.While ∷ []) (branch (stmt room) room (within_loop c) n) (IsBranch (within_loop c) n) (λ b. (tree.While b.0.test b.0.body ∷ [], b.1)) (stmt (suc room) c n) (λ k. IsStmt c n (suc k)) (λ us. refl) (λ k xs b q. while_by c n k xs b q) (λ k xs b q. grows_branch q) room ts (right_branch (stmt room) room h (within_loop c) n ts))
 
 right_try_stmt : (room : ℕ) (c : Context) (n : ℕ) → IsInner (stmt room) room → (ts : List Lexeme) → Right (stmt (suc room) c n) (IsStmt c n) (suc room) (token.Try ∷ ts) (stmt (suc room) c n (token.Try ∷ ts))
 unfolding stmt
 right_try_stmt room c n h ts =
     level (stmt (suc room) c n) (IsStmt c n) room (token.Try ∷ ts) (stmt (suc room) c n (token.Try ∷ ts))
-      (prefixed (token.Try ∷ []) (try_rest (stmt room) room c n) (IsTry c n) (λ x. x) (stmt (suc room) c n) (λ k. IsStmt c n (suc k)) (λ us. again (try_rest (stmt room) room c n us)) (λ k xs x q. try_by c n k xs x q) (grows_try c n) room ts (right_try (stmt room) room h c n ts))
+    (prefixed (token.Try ∷ []) (try_rest (stmt room) room c n) (IsTry c n) (λ x. x) (stmt (suc room) c n) (λ k. IsStmt c n (suc k)) (λ us. again (try_rest (stmt room) room c n us)) (λ k xs x q. try_by c n k xs x q) (grows_try c n) room ts (right_try (stmt room) room h c n ts))
 
 right_def_stmt : (room : ℕ) (c : Context) (n : ℕ) → IsInner (stmt room) room → (ts : List Lexeme) (b : Bool) → c.in_function ≡ b → Right (stmt (suc room) c n) (IsStmt c n) (suc room) (token.Def ∷ ts) (if b then refused (token.Def ∷ ts) else def_rest (stmt room) room n ts)
 unfolding stmt
 right_def_stmt room c n h ts true e = refuses (stmt (suc room) c n) (IsStmt c n) (suc room) token.Def ts (pass_goes_on c n (suc room)) (λ tail. rw e refl)
 right_def_stmt room c n h ts false e =
     subst (Right (stmt (suc room) c n) (IsStmt c n) (suc room) (token.Def ∷ ts)) (rw e refl)
-      (level (stmt (suc room) c n) (IsStmt c n) room (token.Def ∷ ts) (stmt (suc room) c n (token.Def ∷ ts))
-        (prefixed (token.Def ∷ []) (def_rest (stmt room) room n) (IsDef n) (λ x. x) (stmt (suc room) c n) (λ k. IsStmt c n (suc k)) (λ us. rw e (again (def_rest (stmt room) room n us))) (λ k xs x q. def_by c n k xs x e q) (grows_def n) room ts (right_def (stmt room) room h n ts)))
+    (level (stmt (suc room) c n) (IsStmt c n) room (token.Def ∷ ts) (stmt (suc room) c n (token.Def ∷ ts))
+    (prefixed (token.Def ∷ []) (def_rest (stmt room) room n) (IsDef n) (λ x. x) (stmt (suc room) c n) (λ k. IsStmt c n (suc k)) (λ us. rw e (again (def_rest (stmt room) room n us))) (λ k xs x q. def_by c n k xs x e q) (grows_def n) room ts (right_def (stmt room) room h n ts)))
 
 def_at_bottom : (c : Context) (n : ℕ) (ts : List Lexeme) (b : Bool) → c.in_function ≡ b → Right (stmt 0 c n) (IsStmt c n) 0 (token.Def ∷ ts) (if b then refused (token.Def ∷ ts) else too_deep (token.Def ∷ ts))
 unfolding stmt
@@ -102,10 +102,13 @@ unfolding end
 right_end room [] = refuses_end end (IsToken token.End) room (token_goes_on token.End room) refl
 right_end room (token.End ∷ []) = record { front = token.End ∷ []; parts = refl; spelled = refl; again = λ more e. at_end (λ m. end (token.End ∷ m) ≡ given tt m) more e refl }
 right_end room (token.End ∷ t ∷ ts) = record {
-    front = token.End ∷ []; rest = t ∷ ts; parts = refl; left = refl;
-    before = record { more = []; value = tt; spelled = refl };
-    deep = λ k. absurd cc;
-    again = λ more e. at_head (λ m. end (token.End ∷ m) ≡ refused m) t more e (λ tail. refl);
+  front = token.End ∷ [];
+  rest = t ∷ ts;
+  parts = refl;
+  left = refl;
+  before = record { more = []; value = tt; spelled = refl };
+  deep = λ k. absurd cc;
+  again = λ more e. at_head (λ m. end (token.End ∷ m) ≡ refused m) t more e (λ tail. refl);
 }
 right_end room (t ∷ ts) = refuses end (IsToken token.End) room t ts (token_goes_on token.End room) (λ tail. refl)
 

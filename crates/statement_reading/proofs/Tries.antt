@@ -152,11 +152,11 @@ takes_handler c n s t ts (all_taken h) = omega arith
 
 pub handler_rounds : (inner : Reader) (room : ℕ) → IsInner inner room → (c : Context) → IsRounds begins_handler (next_handler inner room c) (IsNextHandler c) (IsAllHandlers c) room
 handler_rounds inner room h c = record {
-    right = λ s ts e. right_next_handler inner room h c s.found s.next s.is_open ts e;
-    takes = takes_handler c room;
-    grows = grows_next_handler c;
-    none = λ n s. no_handlers;
-    more = all_handlers c;
+  right = λ s ts e. right_next_handler inner room h c s.found s.next s.is_open ts e;
+  takes = takes_handler c room;
+  grows = grows_next_handler c;
+  none = λ n s. no_handlers;
+  more = all_handlers c;
 }
 
 abbrev IsWhole : Context → ℕ → ℕ → List Lexeme → Handlers → Type 0
