@@ -1,0 +1,4 @@
+pub mod Families
+pub mod Right
+pub mod Complete
+pub mod Agrees

@@ -1,0 +1,79 @@
+//! Statements.
+
+use crate::expr::{BinaryOp, Expr};
+use base_types::{Seq, Text, Texts};
+
+/// `a.b` or `a.b as c` of `import` (Language Reference 7.11), with the parts of the dotted name.
+#[derive(Drop)]
+pub struct Alias {
+    pub parts: Texts,
+    pub bound: Option<Text>,
+}
+
+/// What `from .. import` names: `*`, or names with their new names. An item's dotted name has one part.
+#[derive(Drop)]
+pub enum ImportedNames {
+    All,
+    Listed(Seq<Alias>),
+}
+
+/// A test with its block: `if` or `elif` (8.1).
+#[cycle(stmt)]
+#[derive(Drop)]
+pub struct Branch {
+    pub test: Expr,
+    pub body: Seq<Stmt>,
+}
+
+/// `except kinds as bound:` with its block (8.4). Without kinds it takes each error, and stands last.
+#[cycle(stmt)]
+#[derive(Drop)]
+pub struct Handler {
+    pub kinds: Option<Expr>,
+    pub bound: Option<Text>,
+    pub body: Seq<Stmt>,
+}
+
+/// A function (8.7), numbered from 0 in the order of the `def` tokens of its source.
+#[cycle(stmt)]
+#[derive(Drop)]
+pub struct FuncDef {
+    pub number: u32,
+    pub name: Text,
+    pub parameters: Texts,
+    /// The names of its `global` lines (7.12).
+    pub globals: Texts,
+    pub body: Seq<Stmt>,
+}
+
+/// A statement (chapters 7 and 8).
+#[cycle(stmt)]
+#[derive(Drop)]
+pub enum Stmt {
+    Evaluate(Expr),
+    /// `target = value`.
+    Assign(Expr, Expr),
+    /// `name op= value`.
+    Augment(Text, BinaryOp, Expr),
+    Delete(Expr),
+    Pass,
+    Break,
+    Continue,
+    Return(Option<Expr>),
+    Raise(Option<Expr>),
+    Import(Seq<Alias>),
+    /// `from` as many dots and these parts `import` these names. Without dots there are parts.
+    From(u32, Texts, ImportedNames),
+    /// The branches in order, of which there is one at least, and the block of `else`, empty where there is none.
+    If(Seq<Branch>, Seq<Stmt>),
+    While(Expr, Seq<Stmt>),
+    /// The block, its handlers, and the blocks of `else` and `finally`, each empty where there is none.
+    Try(Seq<Stmt>, Seq<Handler>, Seq<Stmt>, Seq<Stmt>),
+    Def(FuncDef),
+}
+
+/// A script.
+#[derive(Drop)]
+pub struct Script {
+    pub body: Seq<Stmt>,
+}

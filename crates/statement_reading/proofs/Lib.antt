@@ -1,0 +1,9 @@
+pub mod Families
+pub mod Right
+pub mod Tries
+pub mod Defs
+pub mod Scripts
+pub mod Agrees
+pub mod Begins
+pub mod Complete
+pub mod Whole

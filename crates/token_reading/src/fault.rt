@@ -1,0 +1,72 @@
+//! A refused token.
+
+ghost use Rattle.std.specs.Prelude.{◌≡◌, length};
+
+use base_types::NoMemory;
+use std::alloc::{AllocError, AllocFailed};
+
+/// How a token is refused.
+#[derive(Clone, Copy, Debug, PartialEq, Eq)]
+pub enum Refusal {
+    /// Only the limit on open levels refuses it.
+    TooDeep,
+    Syntax,
+}
+
+/// The first token that cannot follow the tokens before it.
+#[derive(Clone, Copy, Debug, PartialEq, Eq)]
+pub struct Fault {
+    pub kind: Refusal,
+    /// How many tokens are left from the refused one on.
+    pub left: usize,
+}
+
+/// Why nothing is read.
+#[derive(Clone, Copy, Debug, PartialEq, Eq)]
+pub enum ReadError {
+    NoMemory,
+    Refused(Fault),
+}
+
+/// Refused at the first of these tokens.
+pub fn refused<T>(kind: Refusal, tokens: &[T]) -> ReadError
+    ensures { result ≡ ReadError.Refused (record { kind = kind; left = length tokens.now }) }
+{
+    ReadError::Refused(Fault {
+        kind,
+        left: tokens.len(),
+    })
+}
+
+impl From<NoMemory> for ReadError {
+    ghost use Rattle.std.specs.Prelude.{◌≡◌};
+    ghost use Rattle.token_reading.specs.declared.fault.ReadError.TheVariants.{NoMemory};
+
+    ghost from_gives = { λ _ e. e ≡ NoMemory };
+
+    fn from(_: NoMemory) -> ReadError {
+        ReadError::NoMemory
+    }
+}
+
+impl From<AllocError> for ReadError {
+    ghost use Rattle.std.specs.Prelude.{◌≡◌};
+    ghost use Rattle.token_reading.specs.declared.fault.ReadError.TheVariants.{NoMemory};
+
+    ghost from_gives = { λ _ e. e ≡ NoMemory };
+
+    fn from(_: AllocError) -> ReadError {
+        ReadError::NoMemory
+    }
+}
+
+impl<T: Drop> From<AllocFailed<T>> for ReadError {
+    ghost use Rattle.std.specs.Prelude.{◌≡◌};
+    ghost use Rattle.token_reading.specs.declared.fault.ReadError.TheVariants.{NoMemory};
+
+    ghost from_gives = { λ _ e. e ≡ NoMemory };
+
+    fn from(_: AllocFailed<T>) -> ReadError {
+        ReadError::NoMemory
+    }
+}
