@@ -1,0 +1,9 @@
+//! The path of a namespace package, which is computed again where what it was computed from has
+//! changed.
+#![tactic(auto)]
+
+mod recompute;
+#[cfg(test)]
+mod tests;
+
+pub use recompute::{fresh, recomputed};
