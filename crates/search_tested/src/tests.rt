@@ -1,13 +1,13 @@
 ghost use Rattle.std.specs.Prelude.{◌≡◌, IfSome};
 ghost use Rattle.path_finder.specs.Looking.{input_kind, want_kind};
 
-use base_types::{Text, TreePath};
+use base_types::{Seq, Text, TreePath};
 use path_finder::{Found, Look, LookIn, LookWant, Probe, load_text};
 use py_value::{Items, Value};
 use spec_core::{Dotted, SpecKind};
 use std::fs;
 use std::test::Fail;
-use tree_files::{MemTree, RealTree, Tree};
+use tree_files::{MemTree, RealTree, Stamp, Tree};
 
 /// The files of a tree, the entries of a path with `:` between, a name, and what importlib's
 /// PathFinder of CPython 3.12 answers for the same folders. A `/` ends the name of a folder, and `#`
@@ -183,15 +183,24 @@ fn a_kept_listing_is_believed_at_its_time_alone(rt: HostRuntime) -> Result<(), F
     Ok(())
 }
 
+/// The text of a file.
+fn text_at<T: Tree>(rt: &HostRuntime, tree: &mut T, file: &TreePath) -> Result<Seq<u8>, Fail> {
+    match tree.stamp(file)? {
+        Stamp::File(_) => match load_text(rt.alloc(), tree, file) {
+            Ok(text) => Ok(text),
+            Err(_) => Err("the text was not loaded".into()),
+        },
+        _ => Err("no file stands there".into()),
+    }
+}
+
 #[test]
 fn a_text_is_loaded(rt: HostRuntime) -> Result<(), Fail> {
     let mut tree = MemTree::new(rt.alloc())?;
     put(&rt, &mut tree, "c.py")?;
     let file = path(&rt, "c.py")?;
-    match load_text(rt.alloc(), &mut tree, &file) {
-        Ok(text) => assert_eq!(rt; text.as_slice(), b"pass\n".as_slice()),
-        Err(_) => return Err("the text was not loaded".into()),
-    }
+    let text = text_at(&rt, &mut tree, &file)?;
+    assert_eq!(rt; text.as_slice(), b"pass\n".as_slice());
     Ok(())
 }
 
