@@ -5,11 +5,13 @@ use std::alloc::Global;
 use std::test::Fail;
 use tree_files::{MemSink, MemTree};
 
-/// The words between the blanks of a line.
+/// The words between the blanks of a line; an empty line has none.
 fn words_of(alloc: Global, line: &str) -> Result<Vec<String>, NoMemory> {
     let mut words = Vec::new(alloc);
     for word in line.split(' ') {
-        words.push(String::from_str(alloc, word)?)?;
+        if !word.is_empty() {
+            words.push(String::from_str(alloc, word)?)?;
+        }
     }
     Ok(words)
 }
@@ -98,6 +100,7 @@ fn runs_write_what_they_print_and_how_they_end(rt: HostRuntime) -> Result<(), Fa
             "pyimport-trace 2\n0 ask a -> missing\n0 take a -> mine 0\n0 pathget -> path [\"\"]\n0 add a file(\"a.py\") \"\" -> load 1 4\n0 finish 1 good -> kept module(4,a,\"a.py\")\n0 ask a -> module module(4,a,\"a.py\")\n0 set 0 a module(4,a,\"a.py\") raw -> done\n0 end normal 1000000 -> done\n",
             "",
         ),
+        ("", "main.py ", 2, "", USAGE),
         ("run", "main.py ", 2, "", USAGE),
         ("run --fuel 0 main.py", "main.py ", 2, "", USAGE),
         (
