@@ -11,7 +11,7 @@ use Rattle.thread_knowledge.specs.Own.{HasEnded, Ready}
 use Rattle.machine_book.specs.Sight.{Sight, Telling, KeepsUp, IsReady, Continues}
 use Rattle.machine_book.specs.Outgo.{Outgo, Pieces, Kept, text_of, Appends, AppendsPart, Flows, FlowsFrom}
 
-appends_then : (a b c : Option (List ℕ)) (x y : List ℕ) → Appends a b x → Appends b c y → Appends a c (x ++ y)
+pub appends_then : (a b c : Option (List ℕ)) (x y : List ℕ) → Appends a b x → Appends b c y → Appends a c (x ++ y)
 appends_then None None None x y p q = tt
 appends_then (Some a) (Some b) (Some c) x y p q = q ∙ (ap (λ w. w ++ y) p ∙ append_assoc a x y)
 appends_then None None (Some c) x y p q = absurd q
@@ -19,7 +19,7 @@ appends_then None (Some b) c x y p q = absurd p
 appends_then (Some a) None c x y p q = absurd p
 appends_then (Some a) (Some b) None x y p q = absurd q
 
-part_then : (a b c : Option (List ℕ)) (x y : List ℕ) → Appends a b x → AppendsPart b c y → AppendsPart a c (x ++ y)
+pub part_then : (a b c : Option (List ℕ)) (x y : List ℕ) → Appends a b x → AppendsPart b c y → AppendsPart a c (x ++ y)
 part_then a b c x y p q = record {
   part = x ++ q.part;
   rest = q.rest;
@@ -27,7 +27,7 @@ part_then a b c x y p q = record {
   gained = appends_then a b c x q.part p q.gained;
 }
 
-part_still : (a b c : Option (List ℕ)) (x y : List ℕ) → AppendsPart a b x → Appends b c [] → AppendsPart a c (x ++ y)
+pub part_still : (a b c : Option (List ℕ)) (x y : List ℕ) → AppendsPart a b x → Appends b c [] → AppendsPart a c (x ++ y)
 part_still a b c x y p q = record {
   part = p.part ++ [];
   rest = p.rest ++ y;

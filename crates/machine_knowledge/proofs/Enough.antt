@@ -36,9 +36,9 @@ use Rattle.import_machine.proofs.Lists.{within}
 use Rattle.import_machine.proofs.Same.{get_map, map_at}
 use Rattle.import_machine.proofs.Leave.{opens_of}
 use Rattle.thread_knowledge.specs.Holdings.{Holding, Taken, Loading, Reloading}
-use Rattle.thread_knowledge.specs.Shown.{Shown, modules_in}
-use Rattle.thread_knowledge.specs.Knowing.{Has, HasAll, HasMid, HasName, KnowsSlot, MayBeSearched, MayAdd, MayBeLazy, MayBeMain, Enough}
-use Rattle.machine_knowledge.proofs.Values.{names_are, items_are, mapped_items, all_has}
+use Rattle.thread_knowledge.specs.Shown.{Shown, modules_in, loads_in}
+use Rattle.thread_knowledge.specs.Knowing.{Has, HasAll, HasMid, HasName, KnowsAll, KnowsItems, KnowsSlot, MayBeSearched, MayAdd, MayBeLazy, MayBeMain, Enough}
+use Rattle.machine_knowledge.proofs.Values.{all_there, all_made, names_are, items_are, mapped_items, all_has, made_all}
 use Rattle.machine_knowledge.proofs.Times.{times, has_times}
 use Rattle.machine_knowledge.proofs.Maps.{any_value, any_found}
 use Rattle.machine_knowledge.proofs.Spaces.{same_path}
@@ -149,11 +149,14 @@ module _ (s : State) (w : Whole s) (t : ℕ) (k : Shown) (g : Agrees (bones s) t
       let o = module_at m (x.modules m has) in
       ap (λ z. has_name (slice_get s.table.objects z) n) (sym same) ∙ ap (λ z. has_name z n) o.1 ∙ ap (λ z. pointwise nat_eq z n) (o.2 ∙ named) ∙ nat_list_eq_equiv.refl n
 
-  names_from : (v : Value) → HasAll k.modules (modules_in v) → names_modules s.table v ≡ true
-  names_from v h = names_are s.table v ∙ all_has (is_module s.table) k.modules (modules_in v) x.modules h
+  there_from : (ms : List ModRef) (ls : List ℕ) → HasAll k.modules ms × HasAll k.loads ls → all_there s.table ms && all_made s.table ls ≡ true
+  there_from ms ls h = and_from (all_there s.table ms) (all_made s.table ls) (all_has (is_module s.table) k.modules ms x.modules h.0) (made_all s.table k.loads ls x.loads h.1)
 
-  items_from : (items : List Value) → HasAll k.modules (flat_map modules_in items) → list_all (λ b. b) (map (names_modules s.table) items) ≡ true
-  items_from items h = mapped_items s.table items ∙ items_are s.table items ∙ all_has (is_module s.table) k.modules (flat_map modules_in items) x.modules h
+  names_from : (v : Value) → KnowsAll k v → names_modules s.table v ≡ true
+  names_from v h = names_are s.table v ∙ there_from (modules_in v) (loads_in v) h
+
+  items_from : (items : List Value) → KnowsItems k items → list_all (λ b. b) (map (names_modules s.table) items) ≡ true
+  items_from items h = mapped_items s.table items ∙ items_are s.table items ∙ there_from (flat_map modules_in items) (flat_map loads_in items) h
 
   slot_from : (slot : Slot) → KnowsSlot k slot → not (is_absent slot) && slot_names_module s.table slot ≡ true
   slot_from slots.Absent h = absurd h

@@ -1,6 +1,6 @@
 -- What an event answers names modules and loads that exist, and it keeps each value of the table naming modules of the table.
 use Rattle.std.proofs.Common.{◌≡◌, ◌⊎◌, ◌<◌, ℕ, zero, suc, Bool, true, false, cond, ◌&&◌, List, [], ◌∷◌, ◌++◌, take, drop, map, length, Option, Some, None, refl, sym, ap, subst, ◌∙◌, inl, inr}
-use Rattle.std.specs.Prelude.{ℤ, slice_get, slice_set, nat_eq, nat_lt, is_some, not}
+use Rattle.std.specs.Prelude.{ℤ, slice_get, slice_set, nat_eq, nat_lt, is_some, not, flat_map}
 use Rattle.std.specs.List.{list_all}
 use Rattle.std.specs.Cmp.Lexicographic.{pointwise, nat_list_eq_equiv, nat_list_cmp_total}
 use Rattle.std.specs.FinMap.{get, get-insert, get-remove}
@@ -50,12 +50,12 @@ use Rattle.machine_state.specs.Step.{step}
 use Rattle.machine_state.specs.Allowed.{allowed, has_object, is_ns_path, is_path_item, is_absent, has_ns, has_text, has_name, is_reloading, reloads_object}
 use Rattle.import_machine.proofs.Same.{either}
 use Rattle.import_machine.proofs.Holds.{same_text}
-use Rattle.import_machine.proofs.Lists.{pushed_at, pushed_last, within}
+use Rattle.import_machine.proofs.Lists.{pushed_at, pushed_last, pushed_keeps, within}
 use Rattle.import_machine.proofs.Leave.{fitting}
-use Rattle.thread_knowledge.specs.Shown.{named, numbered, load_numbered, slot_modules}
+use Rattle.thread_knowledge.specs.Shown.{named, numbered, load_numbered, slot_modules, modules_in, loads_in}
 use Rattle.thread_knowledge.specs.Knowing.{Has}
-use Rattle.machine_knowledge.proofs.Values.{all_there, names_are, items_are, mapped_items}
-use Rattle.machine_knowledge.proofs.Grow.{Grow, Stays, grow_same, grow_pushed, grow_then, grow_changed, all_grow, names_grow, items_grow, longer}
+use Rattle.machine_knowledge.proofs.Values.{all_there, all_made, names_are, items_are, mapped_items, made_each}
+use Rattle.machine_knowledge.proofs.Grow.{Grow, More, Stays, at_some, grow_same, grow_pushed, grow_then, grow_changed, all_grow, names_grow, items_grow, longer}
 use Rattle.machine_knowledge.proofs.Named.{FitsVar, FitsState, EachVar, HasNames, AreNamed, each_set, each_deleted, each_found, slot_fits, restarted_named, main_fits, has_grow, named_grown, changed_at}
 
 pub record Fine (s : State) (p : Reply × State) : Type 0 where
@@ -86,15 +86,19 @@ plain s r s' p g keeps = record {
 still : (s : State) → AreNamed s.table → (r : Reply) (s' : State) → Plain r → s'.table ≡ s.table → Fine s (r, s')
 still s keeps r s' p same = plain s r s' p (subst (λ (z : Table). Grow s.table.objects z.objects) (sym same) (grow_same s.table.objects)) (subst AreNamed (sym same) keeps)
 
--- and the reply names modules
-tells : (s : State) → AreNamed s.table → (r : Reply) (s' : State) → all_there s.table (named r) ≡ true → (numbered r ≡ []) × (load_numbered r ≡ []) → s'.table ≡ s.table → Fine s (r, s')
-tells s keeps r s' there p same = record {
+-- and the reply names modules and loads
+tells_loads : (s : State) → AreNamed s.table → (r : Reply) (s' : State) → all_there s.table (named r) ≡ true → (numbered r ≡ []) × ((i : ℕ) → Has (load_numbered r) i → i < length s.table.loads) → s'.table ≡ s.table → Fine s (r, s')
+tells_loads s keeps r s' there p same = record {
   grow = subst (λ (z : Table). Grow s.table.objects z.objects) (sym same) (grow_same s.table.objects);
   there = subst (λ (z : Table). all_there z (named r) ≡ true) (sym same) there;
   mids = λ i h. absurd (none_in (numbered r) p.0 i h);
-  loads = λ i h. absurd (none_in (load_numbered r) p.1 i h);
+  loads = λ i h. subst (λ (z : Table). i < length z.loads) (sym same) (p.1 i h);
   keeps = subst AreNamed (sym same) keeps;
 }
+
+-- or modules alone
+tells : (s : State) → AreNamed s.table → (r : Reply) (s' : State) → all_there s.table (named r) ≡ true → (numbered r ≡ []) × (load_numbered r ≡ []) → s'.table ≡ s.table → Fine s (r, s')
+tells s keeps r s' there p same = tells_loads s keeps r s' there (p.0, λ i h. absurd (none_in (load_numbered r) p.1 i h)) same
 
 -- the table then changes once more
 further : (s : State) (r : Reply) (s' s'' : State) → Fine s (r, s') → Grow s'.table.objects s''.table.objects → ((i : ℕ) → i < length s'.table.loads → i < length s''.table.loads) → AreNamed s''.table → Fine s (r, s'')
@@ -136,6 +140,12 @@ entry_there : (table : Table) → AreNamed table → (n : List ℕ) (o : Option 
 entry_there table keeps n None is = refl
 entry_there table keeps n (Some slot) is = slot_there table slot (cached table keeps n slot is)
 
+-- the modules and the loads in values that are named
+items_there : (table : Table) (items : List Value) → list_all (names_modules table) items ≡ true → (all_there table (flat_map modules_in items) ≡ true) × ((i : ℕ) → Has (flat_map loads_in items) i → i < length table.loads)
+items_there table items h =
+    let parts = and_parts (all_there table (flat_map modules_in items)) (all_made table (flat_map loads_in items)) (sym (items_are table items) ∙ h) in
+    (parts.0, made_each table (flat_map loads_in items) parts.1)
+
 -- Tables that change.
 
 changed_length : {X : Type 0} (f : X → X) (xs : List X) (i : ℕ) → length (changed f xs i) ≡ length xs
@@ -159,11 +169,15 @@ module _ (table : Table) (keeps : AreNamed table) (f : Object → Object) (same 
   moved_grow = grow_changed f same table.objects mid
 
   moved_named : ((o : Object) → HasNames moved o → HasNames moved (f o)) → AreNamed moved
-  moved_named h = named_grown table moved keeps moved_grow (λ n m is. inl is) (inl refl)
+  moved_named h = named_grown table moved keeps moved_grow (λ i less. less) (λ n m is. inl is) (inl refl)
       (λ i o is. elim (changed_at f table.objects mid i o is) [
         | inl old ↦ inl old
-        | inr new ↦ inr (subst (HasNames moved) (sym new.2) (h new.0 (has_grow table moved moved_grow new.0 (keeps.objects i new.0 new.1))))
+        | inr new ↦ inr (subst (HasNames moved) (sym new.2) (h new.0 (has_grow table moved moved_grow (λ i less. less) new.0 (keeps.objects i new.0 new.1))))
       ])
+
+-- one more load
+more_pushed : {X : Type 0} (xs : List X) (x : X) (i : ℕ) → i < length xs → i < length (xs ++ x ∷ [])
+more_pushed xs x i less = let at = at_some xs i less in within (xs ++ x ∷ []) i at.0 (pushed_keeps xs x i at.0 at.1)
 
 stays : (o : Object) → Stays o o
 stays o = (refl, λ h. h)
@@ -176,7 +190,7 @@ module _ (table : Table) (keeps : AreNamed table) where
   set_named mid x v fits =
       moved_named table keeps (λ object. record object { vars = with_var object.vars x v }) (λ o. (refl, λ h. h)) mid
       (λ o has. record {
-        vars = each_set (FitsVar (with_set table mid x v) o.ns) o.vars x v has.vars (names_grow table (with_set table mid x v) (set_grow mid x v) v (fits o.ns).0, (fits o.ns).1);
+        vars = each_set (FitsVar (with_set table mid x v) o.ns) o.vars x v has.vars (names_grow table (with_set table mid x v) (set_grow mid x v) (λ i less. less) v (fits o.ns).0, (fits o.ns).1);
         state = has.state;
       })
 
@@ -197,7 +211,7 @@ module _ (table : Table) (keeps : AreNamed table) where
   ns_named mid state h =
       let after : Table = with_ns table mid state in
       moved_named table keeps (λ object. record object { ns = Some state }) (λ o. (refl, λ h. refl)) mid
-      (λ o has. record { vars = any_state after o.ns state o.vars has.vars; state = items_grow table after (ns_grow_set mid state) state.parent_path h })
+      (λ o has. record { vars = any_state after o.ns state o.vars has.vars; state = items_grow table after (ns_grow_set mid state) (λ i less. less) state.parent_path h })
     where
       any_state : (after : Table) (ns : Option NsState) (state : NsState) (vars : List (List ℕ × Value)) → EachVar (FitsVar after ns) vars → EachVar (FitsVar after (Some state)) vars
       any_state after ns state [] each = tt
@@ -205,7 +219,7 @@ module _ (table : Table) (keeps : AreNamed table) where
 
   -- the cache changes
   entry_named : (n : List ℕ) (slot : Slot) → slot_names_module table slot ≡ true → AreNamed (with_entry table n slot)
-  entry_named n slot h = named_grown table (with_entry table n slot) keeps (grow_same table.objects)
+  entry_named n slot h = named_grown table (with_entry table n slot) keeps (grow_same table.objects) (λ i less. less)
       (λ k m is.
       elim (same_text k n) as (λ c. cond c (Some slot) (get table.cache k) ≡ Some (slots.Module m) → (get table.cache k ≡ Some (slots.Module m)) ⊎ (is_module table m ≡ true)) [
         | true ↦ λ e. inr (let same : slot ≡ slots.Module m = cc in sym (ap (slot_names_module table) same) ∙ h)
@@ -215,7 +229,7 @@ module _ (table : Table) (keeps : AreNamed table) where
       (λ i o is. inl is)
 
   dropped_named : (n : List ℕ) → AreNamed (without_entry table n)
-  dropped_named n = named_grown table (without_entry table n) keeps (grow_same table.objects)
+  dropped_named n = named_grown table (without_entry table n) keeps (grow_same table.objects) (λ i less. less)
       (λ k m is.
       elim (same_text k n) as (λ c. cond c None (get table.cache k) ≡ Some (slots.Module m) → (get table.cache k ≡ Some (slots.Module m)) ⊎ (is_module table m ≡ true)) [
         | true ↦ λ e. cc
@@ -233,7 +247,7 @@ module _ (table : Table) (keeps : AreNamed table) where
       and_from (names_modules table x) (list_all (names_modules table) (take k items ++ v ∷ drop k items)) parts.0 (inserted items k v parts.1 n)
 
   item_named : (k : ℕ) (v : Value) → names_modules table v ≡ true → AreNamed (with_path_item table k v)
-  item_named k v h = named_grown table (with_path_item table k v) keeps (grow_same table.objects) (λ n m is. inl is) (inr (inserted table.path k v keeps.path h)) (λ i o is. inl is)
+  item_named k v h = named_grown table (with_path_item table k v) keeps (grow_same table.objects) (λ i less. less) (λ n m is. inl is) (inr (inserted table.path k v keeps.path h)) (λ i o is. inl is)
 
   -- the next module, with its load, and in the cache
   module _ (spec : Spec) (phase : Phase) (kind : LoadKind) (t : ℕ) (text : List ℕ) (stage : LoadStage) where
@@ -262,7 +276,7 @@ module _ (table : Table) (keeps : AreNamed table) where
         subst (λ (ns : Option NsState). HasNames made (record fresh { ns = ns })) (first_state spec.kind) has
 
     pub made_named : AreNamed made
-    made_named = named_grown table made keeps made_grow
+    made_named = named_grown table made keeps made_grow (more_pushed table.loads _)
         (λ k m is.
         let new : Slot = slots.Module (module_of spec (length table.objects)) in
         elim (same_text k spec.name) as (λ c. cond c (Some new) (get table.cache k) ≡ Some (slots.Module m) → (get table.cache k ≡ Some (slots.Module m)) ⊎ (is_module made m ≡ true)) [
@@ -359,7 +373,10 @@ module _ (s : State) (keeps : AreNamed s.table) (t : ℕ) where
 
   -- a load that ends changes nothing that is named
   ended_named : (table : Table) → AreNamed table → (load : ℕ) → AreNamed (with_end table load)
-  ended_named table keeps load = record { cache = keeps.cache; path = keeps.path; objects = λ i o is. let h = keeps.objects i o is in record { vars = h.vars; state = h.state } }
+  ended_named table keeps load =
+      named_grown table (with_end table load) keeps (grow_same table.objects)
+      (λ i less. subst (λ k. i < k) (sym (changed_length (λ load. record load { stage = stages.Ended }) table.loads load)) less)
+      (λ n m is. inl is) (inl refl) (λ i o is. inl is)
 
   closes_load : (load mid : ℕ) (n : List ℕ) (p : Reply × State) → Fine s p → Fine s (p.0, closed t load mid n p.1)
   closes_load load mid n p fine =
@@ -389,7 +406,8 @@ module _ (s : State) (keeps : AreNamed s.table) (t : ℕ) where
   reads o None x each is = still s keeps (replies.Unset (is_initialising o.phase)) s (refl, refl, refl) refl
   reads o (Some v) x each is =
       let fits : FitsVar s.table o.ns v = each_found (FitsVar s.table o.ns) o.vars x v each is in
-      tells s keeps (replies.Value v) s (sym (names_are s.table v) ∙ fits.0) (refl, refl) refl
+      let parts = and_parts (all_there s.table (modules_in v)) (all_made s.table (loads_in v)) (sym (names_are s.table v) ∙ fits.0) in
+      tells_loads s keeps (replies.Value v) s parts.0 (refl, made_each s.table (loads_in v) parts.1) refl
 
   gets : (mid : ℕ) (x : List ℕ) (raw : Bool) (o : Option Object) → slice_get s.table.objects mid ≡ o → Fine s (get_reply s t x raw o, s)
   gets mid x raw None is = still s keeps (replies.Unset false) s (refl, refl, refl) refl
@@ -429,7 +447,9 @@ module _ (s : State) (keeps : AreNamed s.table) (t : ℕ) where
 
   ns_told : (ns : Option NsState) → FitsState s.table ns → Fine s (ns_of ns s.table.epoch, s)
   ns_told None h = still s keeps replies.Done s (refl, refl, refl) refl
-  ns_told (Some state) h = tells s keeps (replies.Ns state s.table.epoch) s (sym (items_are s.table state.parent_path) ∙ h) (refl, refl) refl
+  ns_told (Some state) h =
+      let parts = items_there s.table state.parent_path h in
+      tells_loads s keeps (replies.Ns state s.table.epoch) s parts.0 (refl, parts.1) refl
 
   ns_reads : (mid : ℕ) (o : Option Object) → slice_get s.table.objects mid ≡ o → Fine s (ns_reply o s.table.epoch, s)
   ns_reads mid None is = still s keeps replies.Done s (refl, refl, refl) refl
@@ -453,10 +473,10 @@ module _ (s : State) (keeps : AreNamed s.table) (t : ℕ) where
       (grow_same s.table.objects) (λ i less. less) (dropped_named s.table keeps n))
 
   -- Reloads.
-  same_named : (table : Table) → table.cache ≡ s.table.cache → table.path ≡ s.table.path → table.objects ≡ s.table.objects → AreNamed table
-  same_named table cache path objects =
+  same_named : (table : Table) → More s.table table → table.cache ≡ s.table.cache → table.path ≡ s.table.path → table.objects ≡ s.table.objects → AreNamed table
+  same_named table more cache path objects =
       let g : Grow s.table.objects table.objects = subst (Grow s.table.objects) (sym objects) (grow_same s.table.objects) in
-      named_grown s.table table keeps g (λ n m is. inl (ap (λ c. get c n) (sym cache) ∙ is)) (inl path) (λ i o is. inl (ap (λ os. slice_get os i) (sym objects) ∙ is))
+      named_grown s.table table keeps g more (λ n m is. inl (ap (λ c. get c n) (sym cache) ∙ is)) (inl path) (λ i o is. inl (ap (λ os. slice_get os i) (sym objects) ∙ is))
 
   busy : (mid : ℕ) (o : Option Object) → slice_get s.table.objects mid ≡ o → Fine s (busy_of mid o, s)
   busy mid None is = still s keeps replies.NotThere s (refl, refl, refl) refl
@@ -492,10 +512,10 @@ module _ (s : State) (keeps : AreNamed s.table) (t : ℕ) where
   again_named mid spec text table cache path =
       let after : Table = again mid spec text table in
       let g : Grow s.table.objects after.objects = grow_changed (restarted_object spec) (restart_stays spec) s.table.objects mid in
-      named_grown s.table after keeps g (λ n m is. inl (ap (λ c. get c n) (sym cache) ∙ is)) (inl path)
+      named_grown s.table after keeps g (more_pushed s.table.loads _) (λ n m is. inl (ap (λ c. get c n) (sym cache) ∙ is)) (inl path)
       (λ i o is. elim (changed_at (restarted_object spec) s.table.objects mid i o is) [
         | inl old ↦ inl old
-        | inr new ↦ inr (subst (HasNames after) (sym new.2) (restarted_named after spec new.0 (has_grow s.table after g new.0 (keeps.objects i new.0 new.1))))
+        | inr new ↦ inr (subst (HasNames after) (sym new.2) (restarted_named after spec new.0 (has_grow s.table after g (more_pushed s.table.loads _) new.0 (keeps.objects i new.0 new.1))))
       ])
 
   opened_cache : (n : List ℕ) (load : ℕ) (o : Option Reload) → ((reload_opened s.table n load o).cache ≡ s.table.cache) × ((reload_opened s.table n load o).path ≡ s.table.path)
@@ -525,12 +545,12 @@ module _ (s : State) (keeps : AreNamed s.table) (t : ℕ) where
   kept_or n (Some slot) is = tells s keeps (replies.Kept slot) s (slot_there s.table slot (cached s.table keeps n slot is)) (refl, refl) refl
 
   leaves : (n : List ℕ) (load : Option ℕ) → Fine s (reload_leave s t n load)
-  leaves n None = plain s replies.Done (record s { table = without_reload s.table n }) (refl, refl, refl) (grow_same s.table.objects) (same_named (without_reload s.table n) refl refl refl)
+  leaves n None = plain s replies.Done (record s { table = without_reload s.table n }) (refl, refl, refl) (grow_same s.table.objects) (same_named (without_reload s.table n) (λ i less. less) refl refl refl)
   leaves n (Some load) =
       let after : State = record s { table = with_end (without_reload s.table n) load; locks = given s.locks t n } in
       further s (kept_or_lost (get s.table.cache n)) s after (kept_or n (get s.table.cache n) refl) (grow_same s.table.objects)
       (λ i less. subst (λ k. i < k) (sym (changed_length (λ load. record load { stage = stages.Ended }) s.table.loads load)) less)
-      (same_named after.table refl refl refl)
+      (same_named after.table (λ i less. subst (λ k. i < k) (sym (changed_length (λ load. record load { stage = stages.Ended }) s.table.loads load)) less) refl refl refl)
 
   ends_again : (load : Option ℕ) (o : Option Object) → Fine s (reload_end_on s t load o)
   ends_again load None = still s keeps replies.Done s (refl, refl, refl) refl
@@ -541,7 +561,7 @@ module _ (s : State) (keeps : AreNamed s.table) (t : ℕ) where
   opens_lazy mid n load None is = still s keeps replies.Ready s (refl, refl, refl) refl
   opens_lazy mid n load (Some l) is =
       let middle : Table = with_open s.table load t in
-      let open_named : AreNamed middle = same_named middle refl refl refl in
+      let open_named : AreNamed middle = same_named middle (λ i less. subst (λ k. i < k) (sym (changed_length (λ load. record load { stage = stages.Open; thread = t }) s.table.loads load)) less) refl refl refl in
       record {
         grow = grow_changed (λ object. record object { phase = phases.Initialising }) (λ o. (refl, λ h. h)) s.table.objects mid;
         there = refl;
@@ -573,10 +593,10 @@ module _ (s : State) (keeps : AreNamed s.table) (t : ℕ) where
       let f : Object → Object = λ object. record object { vars = main_vars spec object.vars } in
       let g : Grow s.table.objects after.table.objects = grow_changed f (λ o. (refl, λ h. h)) s.table.objects t in
       plain s replies.Done after (refl, refl, refl) g
-      (named_grown s.table after.table keeps g (λ n m is. inl is) (inl refl)
+      (named_grown s.table after.table keeps g (λ i less. less) (λ n m is. inl is) (inl refl)
       (λ i o is. elim (changed_at f s.table.objects t i o is) [
         | inl old ↦ inl old
-        | inr new ↦ inr (let has = has_grow s.table after.table g new.0 (keeps.objects i new.0 new.1) in subst (HasNames after.table) (sym new.2) (record { vars = main_fits after.table new.0.ns spec new.0.vars has.vars; state = has.state }))
+        | inr new ↦ inr (let has = has_grow s.table after.table g (λ i less. less) new.0 (keeps.objects i new.0 new.1) in subst (HasNames after.table) (sym new.2) (record { vars = main_fits after.table new.0.ns spec new.0.vars has.vars; state = has.state }))
       ]))
 
 untrue : (b : Bool) → not b ≡ true → b ≡ false
@@ -608,12 +628,12 @@ fine_step s keeps t (events.DelVar mid x raw) h = deletes_on s keeps t mid x raw
 fine_step s keeps t (events.Names mid) h = lists s keeps t (slice_get s.table.objects mid)
 fine_step s keeps t (events.Source load) h = loads_by s keeps t (slice_get s.table.loads load)
 fine_step s keeps t (events.Print text) h = still s keeps replies.Done s (refl, refl, refl) refl
-fine_step s keeps t events.PathGet h = tells s keeps (replies.Path s.table.path) s (sym (items_are s.table s.table.path) ∙ keeps.path) (refl, refl) refl
+fine_step s keeps t events.PathGet h = let parts = items_there s.table s.table.path keeps.path in tells_loads s keeps (replies.Path s.table.path) s parts.0 (refl, parts.1) refl
 fine_step s keeps t (events.PathAdd at v) h = adds_path s keeps t at v (and_parts (is_path_item v) (names_modules s.table v) (fitting s t (events.PathAdd at v) h refl)).1
 fine_step s keeps t (events.DirGet dir part) h = listed s keeps t part (get s.listings dir)
 fine_step s keeps t (events.DirSet dir listing) h = still s keeps replies.Done (step s t (events.DirSet dir listing)).1 (refl, refl, refl) refl
 fine_step s keeps t events.Invalidate h =
-    plain s replies.Done (step s t events.Invalidate).1 (refl, refl, refl) (grow_same s.table.objects) (same_named s keeps t (step s t events.Invalidate).1.table refl refl refl)
+    plain s replies.Done (step s t events.Invalidate).1 (refl, refl, refl) (grow_same s.table.objects) (same_named s keeps t (step s t events.Invalidate).1.table (λ i less. less) refl refl refl)
 fine_step s keeps t (events.NsGet mid) h = ns_reads s keeps t mid (slice_get s.table.objects mid) refl
 fine_step s keeps t (events.NsSet mid state) h =
     let fits = fitting s t (events.NsSet mid state) h refl in
@@ -632,4 +652,4 @@ fine_step s keeps t (events.ReloadEnd mid load) h = ends_again s keeps t load (s
 fine_step s keeps t (events.AddLazy spec text) h = adds_lazy s keeps t spec text
 fine_step s keeps t (events.Rouse mid) h = rouses_on s keeps t mid (slice_get s.table.objects mid) refl
 fine_step s keeps t (events.Main spec text) h = runs_main s keeps t spec text
-fine_step s keeps t (events.End outcome spent) h = plain s replies.Done (step s t (events.End outcome spent)).1 (refl, refl, refl) (grow_same s.table.objects) (same_named s keeps t (step s t (events.End outcome spent)).1.table refl refl refl)
+fine_step s keeps t (events.End outcome spent) h = plain s replies.Done (step s t (events.End outcome spent)).1 (refl, refl, refl) (grow_same s.table.objects) (same_named s keeps t (step s t (events.End outcome spent)).1.table (λ i less. less) refl refl refl)

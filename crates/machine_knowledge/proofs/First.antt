@@ -102,7 +102,7 @@ cached_named : (table : Table) → AreNamed table → (object : Object) → HasN
 cached_named table keeps object has =
     let after : Table = with_cached table object in
     let new : Slot = slots.Module (module_of object.spec (length table.objects)) in
-    named_grown table after keeps (grow_pushed table.objects object)
+    named_grown table after keeps (grow_pushed table.objects object) (λ i less. less)
     (λ n m is.
     elim (same_text n object.spec.name) as (λ c. cond c (Some new) (get table.cache n) ≡ Some (slots.Module m) → (get table.cache n ≡ Some (slots.Module m)) ⊎ (slot_names_module after (slots.Module m) ≡ true)) [
       | true ↦ λ e. inr (let same : new ≡ slots.Module m = cc in sym (ap (slot_names_module after) same) ∙ object_there after (length table.objects) object (pushed_last table.objects object))

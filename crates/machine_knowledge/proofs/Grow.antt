@@ -1,9 +1,9 @@
 -- Modules are never taken away, and keep their names, places and namespace states.
 use Rattle.std.proofs.Common.{◌≡◌, ◌<◌, ℕ, zero, suc, true, false, ◌&&◌, List, [], ◌∷◌, ◌++◌, length, Option, Some, None, refl, sym, ap, ◌∙◌, arith, eqb}
-use Rattle.std.specs.Prelude.{slice_get, slice_set, nat_eq, is_some}
+use Rattle.std.specs.Prelude.{slice_get, slice_set, nat_eq, nat_lt, is_some}
 use Rattle.std.specs.List.{list_all}
 use Rattle.std.specs.Cmp.Lexicographic.{pointwise}
-use Rattle.std.proofs.lemmas.Bool.{false≢true, eqb-true, eqb-false}
+use Rattle.std.proofs.lemmas.Bool.{false≢true, and_parts, and_from, eqb-true, eqb-false, ltb-true, lt-ltb}
 use Rattle.py_value.specs.declared.value.ModRef.{ModRef}
 use Rattle.py_value.specs.declared.value.Value.{Value}
 use Rattle.spec_core.specs.declared.spec.Spec.{Spec}
@@ -13,7 +13,8 @@ use Rattle.module_table.specs.declared.table.Table.{Table}
 use Rattle.machine_state.specs.Known.{is_module, is_module_of, is_place_of, names_modules}
 use Rattle.machine_state.specs.Allowed.{has_ns}
 use Rattle.import_machine.proofs.Lists.{pushed_keeps, set_there, set_elsewhere, within}
-use Rattle.machine_knowledge.proofs.Values.{all_there, names_are, all_more}
+use Rattle.thread_knowledge.specs.Shown.{modules_in, loads_in}
+use Rattle.machine_knowledge.proofs.Values.{all_there, all_made, names_are, all_more}
 
 -- after a module stands another under its number, of the same spec, which has a namespace state where the first had one
 abbrev pub Stays : Object → Object → Type 0
@@ -53,6 +54,10 @@ grow_changed f same a i = by (slice_get a i) refl
     by None is = grow_same a
     by (Some x) is = record { kept = at_set x is }
 
+-- no load is taken away
+abbrev pub More : Table → Table → Type 0
+More a b = (i : ℕ) → i < length a.loads → i < length b.loads
+
 -- an item below the length is there
 pub at_some : {X : Type 0} (xs : List X) (i : ℕ) → i < length xs → (x : X) × (slice_get xs i ≡ Some x)
 at_some [] i less = absurd (omega arith)
@@ -78,11 +83,18 @@ module _ (a b : Table) (g : Grow a.objects b.objects) where
   pub all_grow : (ms : List ModRef) → all_there a ms ≡ true → all_there b ms ≡ true
   all_grow ms h = all_more (is_module a) (is_module b) ms there_grow h
 
-  pub names_grow : (v : Value) → names_modules a v ≡ true → names_modules b v ≡ true
-  names_grow v h = names_are b v ∙ all_grow _ (sym (names_are a v) ∙ h)
+  pub made_grow : More a b → (ls : List ℕ) → all_made a ls ≡ true → all_made b ls ≡ true
+  made_grow more ls h =
+      all_more (λ l. nat_lt l (length a.loads)) (λ l. nat_lt l (length b.loads)) ls
+      (λ l less. lt-ltb l (length b.loads) (more l (ltb-true l (length a.loads) less))) h
 
-  pub items_grow : (items : List Value) → list_all (names_modules a) items ≡ true → list_all (names_modules b) items ≡ true
-  items_grow items h = all_more (names_modules a) (names_modules b) items names_grow h
+  pub names_grow : More a b → (v : Value) → names_modules a v ≡ true → names_modules b v ≡ true
+  names_grow more v h =
+      let parts = and_parts (all_there a (modules_in v)) (all_made a (loads_in v)) (sym (names_are a v) ∙ h) in
+      names_are b v ∙ and_from (all_there b (modules_in v)) (all_made b (loads_in v)) (all_grow (modules_in v) parts.0) (made_grow more (loads_in v) parts.1)
+
+  pub items_grow : More a b → (items : List Value) → list_all (names_modules a) items ≡ true → list_all (names_modules b) items ≡ true
+  items_grow more items h = all_more (names_modules a) (names_modules b) items (names_grow more) h
 
   pub ns_grow : (i : ℕ) → has_ns (slice_get a.objects i) ≡ true → has_ns (slice_get b.objects i) ≡ true
   ns_grow i h = by (slice_get a.objects i) refl h

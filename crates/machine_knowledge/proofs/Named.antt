@@ -30,7 +30,7 @@ use Rattle.machine_state.specs.Parts.{value_of}
 use Rattle.machine_state.specs.Known.{is_module, names_modules, names_modules_at, slot_names_module}
 use Rattle.machine_state.specs.Allowed.{is_ns_path}
 use Rattle.import_machine.proofs.Lists.{set_at}
-use Rattle.machine_knowledge.proofs.Grow.{Grow, names_grow, items_grow, there_grow}
+use Rattle.machine_knowledge.proofs.Grow.{Grow, More, names_grow, items_grow, there_grow}
 
 -- a value of a module with or without a namespace state
 abbrev pub FitsVar : Table → Option NsState → Value → Type 0
@@ -178,26 +178,26 @@ module _ (table : Table) where
 
 -- Modules of a table that has grown.
 
-state_grow : (a b : Table) → Grow a.objects b.objects → (ns : Option NsState) → FitsState a ns → FitsState b ns
-state_grow a b g None h = tt
-state_grow a b g (Some state) h = items_grow a b g state.parent_path h
+state_grow : (a b : Table) → Grow a.objects b.objects → More a b → (ns : Option NsState) → FitsState a ns → FitsState b ns
+state_grow a b g more None h = tt
+state_grow a b g more (Some state) h = items_grow a b g more state.parent_path h
 
-pub has_grow : (a b : Table) → Grow a.objects b.objects → (o : Object) → HasNames a o → HasNames b o
-has_grow a b g o named = record {
-  vars = each_more (FitsVar a o.ns) (FitsVar b o.ns) o.vars (λ v h. (names_grow a b g v h.0, h.1)) named.vars;
-  state = state_grow a b g o.ns named.state;
+pub has_grow : (a b : Table) → Grow a.objects b.objects → More a b → (o : Object) → HasNames a o → HasNames b o
+has_grow a b g more o named = record {
+  vars = each_more (FitsVar a o.ns) (FitsVar b o.ns) o.vars (λ v h. (names_grow a b g more v h.0, h.1)) named.vars;
+  state = state_grow a b g more o.ns named.state;
 }
 
 -- a table that has grown is named where its new entries, its new path and its new modules are
-pub named_grown : (a b : Table) → AreNamed a → Grow a.objects b.objects
+pub named_grown : (a b : Table) → AreNamed a → Grow a.objects b.objects → More a b
     → ((n : List ℕ) (m : ModRef) → get b.cache n ≡ Some (slots.Module m) → (get a.cache n ≡ Some (slots.Module m)) ⊎ (is_module b m ≡ true))
     → (b.path ≡ a.path) ⊎ (list_all (names_modules b) b.path ≡ true)
     → ((i : ℕ) (o : Object) → slice_get b.objects i ≡ Some o → (slice_get a.objects i ≡ Some o) ⊎ HasNames b o)
     → AreNamed b
-named_grown a b named g cache path objects = record {
+named_grown a b named g more cache path objects = record {
   cache = λ n m is. elim (cache n m is) [ inl old ↦ there_grow a b g m (named.cache n m old) | inr new ↦ new ];
-  path = elim path [ inl same ↦ ap (list_all (names_modules b)) same ∙ items_grow a b g a.path named.path | inr new ↦ new ];
-  objects = λ i o is. elim (objects i o is) [ inl old ↦ has_grow a b g o (named.objects i o old) | inr new ↦ new ];
+  path = elim path [ inl same ↦ ap (list_all (names_modules b)) same ∙ items_grow a b g more a.path named.path | inr new ↦ new ];
+  objects = λ i o is. elim (objects i o is) [ inl old ↦ has_grow a b g more o (named.objects i o old) | inr new ↦ new ];
 }
 
 -- a changed module

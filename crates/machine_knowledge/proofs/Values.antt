@@ -1,8 +1,8 @@
--- The modules in values and in lists of values.
-use Rattle.std.proofs.Common.{◌≡◌, Bool, true, false, ◌&&◌, List, [], ◌∷◌, ◌++◌, map, refl, sym, ap, subst, ◌∙◌, ◌⊎◌, inl, inr}
-use Rattle.std.specs.Prelude.{flat_map}
+-- The modules in values and in lists of values, and the loads of their functions.
+use Rattle.std.proofs.Common.{◌≡◌, ◌<◌, ℕ, length, Bool, true, false, ◌&&◌, List, [], ◌∷◌, ◌++◌, map, refl, sym, ap, subst, ◌∙◌, ◌⊎◌, inl, inr}
+use Rattle.std.specs.Prelude.{flat_map, nat_lt}
 use Rattle.std.specs.List.{list_all}
-use Rattle.std.proofs.lemmas.Bool.{and_parts, and_from}
+use Rattle.std.proofs.lemmas.Bool.{and_parts, and_from, ltb-true, lt-ltb}
 use Rattle.std.proofs.lemmas.List.Folds.{list_all-append}
 use Rattle.py_value.specs.declared.value.ModRef.{ModRef}
 use Rattle.py_value.specs.declared.value.Value.{Value, roll-Value, map-Value}
@@ -10,11 +10,21 @@ use Rattle.py_value.specs.declared.value.Value.TheFolds.{fold-roll-Value, ind-Va
 use Rattle.py_value.specs.declared.value.Value.TheOpen.{Value-F}
 use Rattle.module_table.specs.declared.table.Table.{Table}
 use Rattle.machine_state.specs.Known.{is_module, names_modules, names_modules_at}
-use Rattle.thread_knowledge.specs.Shown.{modules_in, modules_at}
+use Rattle.thread_knowledge.specs.Shown.{modules_in, modules_at, loads_in, loads_at}
 use Rattle.thread_knowledge.specs.Knowing.{Has, HasAll}
 
 abbrev pub all_there : Table → List ModRef → Bool
 all_there table ms = list_all (is_module table) ms
+
+abbrev pub all_made : Table → List ℕ → Bool
+all_made table ls = list_all (λ l. nat_lt l (length table.loads)) ls
+
+-- what is told of a list's first part and of its rest, twice
+both_parts : (a b c d : Bool) → (a && b) && (c && d) ≡ (a && c) && (b && d)
+both_parts true true c d = refl
+both_parts true false true d = refl
+both_parts true false false d = refl
+both_parts false b c d = refl
 
 and_true : (b : Bool) → b ≡ b && true
 and_true true = refl
@@ -25,19 +35,28 @@ induct P each = ind-Value P (λ x y is. subst (λ z. P (roll-Value z)) is (each 
 
 module _ (table : Table) where
   abbrev Same : Value → Type 0
-  Same v = names_modules table v ≡ all_there table (modules_in v)
+  Same v = names_modules table v ≡ all_there table (modules_in v) && all_made table (loads_in v)
 
-  same_items : (xs : List ((v : Value) × Same v)) → list_all (λ b. b) (map (names_modules table) (map (λ e. e.0) xs)) ≡ all_there table (flat_map (λ ms. ms) (map modules_in (map (λ e. e.0) xs)))
+  -- two lists one after the other
+  joined : (ms ms' : List ModRef) (ls ls' : List ℕ) → (all_there table ms && all_made table ls) && (all_there table ms' && all_made table ls') ≡ all_there table (ms ++ ms') && all_made table (ls ++ ls')
+  joined ms ms' ls ls' =
+      both_parts (all_there table ms) (all_made table ls) (all_there table ms') (all_made table ls')
+      ∙ ap (λ b. b && (all_made table ls && all_made table ls')) (sym (list_all-append (is_module table) ms ms'))
+      ∙ ap (λ b. all_there table (ms ++ ms') && b) (sym (list_all-append (λ l. nat_lt l (length table.loads)) ls ls'))
+
+  same_items : (xs : List ((v : Value) × Same v)) → list_all (λ b. b) (map (names_modules table) (map (λ e. e.0) xs)) ≡ all_there table (flat_map (λ ms. ms) (map modules_in (map (λ e. e.0) xs))) && all_made table (flat_map (λ ls. ls) (map loads_in (map (λ e. e.0) xs)))
   same_items [] = refl
   same_items (x ∷ xs) =
-      ap (λ b. b && list_all (λ b. b) (map (names_modules table) (map (λ e. e.0) xs))) x.1
-      ∙ ap (λ b. all_there table (modules_in x.0) && b) (same_items xs)
-      ∙ sym (list_all-append (is_module table) (modules_in x.0) (flat_map (λ ms. ms) (map modules_in (map (λ e. e.0) xs))))
+      let rest : List Value = map (λ e. e.0) xs in
+      ap (λ b. b && list_all (λ b. b) (map (names_modules table) rest)) x.1
+      ∙ ap (λ b. (all_there table (modules_in x.0) && all_made table (loads_in x.0)) && b) (same_items xs)
+      ∙ joined (modules_in x.0) (flat_map (λ ms. ms) (map modules_in rest)) (loads_in x.0) (flat_map (λ ls. ls) (map loads_in rest))
 
   abbrev Layer : Value-F ((v : Value) × Same v) → Type 0
   Layer y =
       names_modules_at table (map-Value Value Bool (names_modules table) (map-Value ((v : Value) × Same v) Value (λ e. e.0) y))
       ≡ all_there table (modules_at (map-Value Value (List ModRef) modules_in (map-Value ((v : Value) × Same v) Value (λ e. e.0) y)))
+      && all_made table (loads_at (map-Value Value (List ℕ) loads_in (map-Value ((v : Value) × Same v) Value (λ e. e.0) y)))
 
   layer : (y : Value-F ((v : Value) × Same v)) → Layer y
   layer Value-F.Nothing = refl
@@ -46,27 +65,31 @@ module _ (table : Table) where
   layer (Value-F.Text text) = refl
   layer (Value-F.List items) = same_items items
   layer (Value-F.Tuple items) = same_items items
-  layer (Value-F.Func load index name) = refl
+  layer (Value-F.Func load index name) = and_true (nat_lt load (length table.loads))
   layer (Value-F.Native native) = refl
   layer (Value-F.Kind kind) = refl
-  layer (Value-F.Module m) = and_true (is_module table m)
+  layer (Value-F.Module m) = and_true (is_module table m) ∙ and_true (is_module table m && true)
   layer (Value-F.Error error) = refl
   layer Value-F.SysModules = refl
   layer Value-F.SysPath = refl
   layer Value-F.NsPath = refl
 
-  -- a value names modules of the table where each module in it is one of the table's
+  -- a value names modules and loads of the table where each module in it is one of the table's, and each load
   pub names_are : (v : Value) → Same v
   names_are =
       induct Same
-      (λ y. fold-roll-Value Bool (names_modules_at table) (map-Value ((v : Value) × Same v) Value (λ e. e.0) y) ∙ layer y
-      ∙ ap (all_there table) (sym (fold-roll-Value (List ModRef) modules_at (map-Value ((v : Value) × Same v) Value (λ e. e.0) y))))
+      (λ y.
+      let inner : Value-F Value = map-Value ((v : Value) × Same v) Value (λ e. e.0) y in
+      fold-roll-Value Bool (names_modules_at table) inner ∙ layer y
+      ∙ ap (λ ms. all_there table ms && all_made table (loads_at (map-Value Value (List ℕ) loads_in inner))) (sym (fold-roll-Value (List ModRef) modules_at inner))
+      ∙ ap (λ ls. all_there table (modules_in (roll-Value inner)) && all_made table ls) (sym (fold-roll-Value (List ℕ) loads_at inner)))
 
-  pub items_are : (items : List Value) → list_all (names_modules table) items ≡ all_there table (flat_map modules_in items)
+  pub items_are : (items : List Value) → list_all (names_modules table) items ≡ all_there table (flat_map modules_in items) && all_made table (flat_map loads_in items)
   items_are [] = refl
   items_are (v ∷ items) =
-      ap (λ b. b && list_all (names_modules table) items) (names_are v) ∙ ap (λ b. all_there table (modules_in v) && b) (items_are items)
-      ∙ sym (list_all-append (is_module table) (modules_in v) (flat_map modules_in items))
+      ap (λ b. b && list_all (names_modules table) items) (names_are v)
+      ∙ ap (λ b. (all_there table (modules_in v) && all_made table (loads_in v)) && b) (items_are items)
+      ∙ joined (modules_in v) (flat_map modules_in items) (loads_in v) (flat_map loads_in items)
 
   pub mapped_items : (items : List Value) → list_all (λ b. b) (map (names_modules table) items) ≡ list_all (names_modules table) items
   mapped_items [] = refl
@@ -90,3 +113,10 @@ pub has_split : {X : Type 0} (xs ys : List X) (x : X) → Has (xs ++ ys) x → H
 has_split [] ys x h = inr h
 has_split (z ∷ xs) ys x (inl e) = inl (inl e)
 has_split (z ∷ xs) ys x (inr h) = elim (has_split xs ys x h) [ inl old ↦ inl (inr old) | inr new ↦ inr new ]
+
+-- the loads of a table, one by one
+pub made_each : (table : Table) (ls : List ℕ) → all_made table ls ≡ true → (i : ℕ) → Has ls i → i < length table.loads
+made_each table ls h i has = ltb-true i (length table.loads) (has_all (λ l. nat_lt l (length table.loads)) ls h i has)
+
+pub made_all : (table : Table) (known ls : List ℕ) → ((i : ℕ) → Has known i → i < length table.loads) → HasAll known ls → all_made table ls ≡ true
+made_all table known ls each h = all_has (λ l. nat_lt l (length table.loads)) known ls (λ i has. lt-ltb i (length table.loads) (each i has)) h

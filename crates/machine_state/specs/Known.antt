@@ -1,5 +1,5 @@
--- The modules that a value names, at any depth.
-use Rattle.std.specs.Prelude.{ℕ, ◌&&◌, nat_eq, Bool, true, false, List, Option, Some, None, slice_get}
+-- The modules that a value names, at any depth, and the loads of its functions.
+use Rattle.std.specs.Prelude.{ℕ, ◌&&◌, nat_eq, nat_lt, length, Bool, true, false, List, Option, Some, None, slice_get}
 use Rattle.std.specs.List.{list_all}
 use Rattle.std.specs.Cmp.Lexicographic.{pointwise}
 use Rattle.py_value.specs.declared.value.ModRef.{ModRef}
@@ -48,11 +48,12 @@ is_module table m = is_module_of m (slice_get table.objects m.mid)
 -- one layer of a value, for which each item below is already told
 abbrev pub names_modules_at : Table → Value-F Bool → Bool
 names_modules_at table (Value-F.Module m) = is_module table m
+names_modules_at table (Value-F.Func load index name) = nat_lt load (length table.loads)
 names_modules_at table (Value-F.List items) = list_all (λ b. b) items
 names_modules_at table (Value-F.Tuple items) = list_all (λ b. b) items
 names_modules_at table _ = true
 
--- each module in the value is one of the table's
+-- each module in the value is one of the table's, and so is the load of each function in it
 abbrev pub names_modules : Table → Value → Bool
 names_modules table = fold-Value Bool (names_modules_at table)
 

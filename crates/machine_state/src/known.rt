@@ -1,4 +1,4 @@
-//! The modules that a value names.
+//! The modules that a value names, and the loads of its functions.
 ghost use Rattle.std.specs.Prelude.{◌≡◌, Some, slice_get, map};
 ghost use Rattle.std.specs.List.{list_all};
 ghost use Rattle.machine_state.specs.Known.{is_file, is_namespace, is_built_in_there, is_place_of, is_module_of, is_module, names_modules, slot_names_module};
@@ -63,13 +63,14 @@ pub(crate) fn is_module(table: &Table, module: &ModRef) -> bool
     }
 }
 
-/// Whether each module in the value is one of the table's.
+/// Whether each module in the value is one of the table's, and the load of each function in it exists.
 #[cycle(names)]
 pub(crate) fn names_modules(table: &Table, value: &Value) -> bool
     ensures { result ≡ names_modules table.now value.now }
 {
     match value {
         Value::Module(module) => is_module(table, module),
+        Value::Func { load, .. } => (*load as u64) < table.loads(),
         Value::List(items) => all_name_modules(table, items),
         Value::Tuple(items) => all_name_modules(table, items),
         _ => true,

@@ -15,7 +15,7 @@ use Rattle.machine_events.specs.declared.event.Event.TheVariants as e
 use Rattle.machine_events.specs.declared.event.Reply.{Reply}
 use Rattle.machine_events.specs.declared.event.Reply.TheVariants as r
 use Rattle.thread_knowledge.specs.Holdings.{Holding, Taken, Loading, without, becoming}
-use Rattle.thread_knowledge.specs.Shown.{Shown, Running, shown_first, shown_more, holds, does, modules_at, modules_in, named, numbered}
+use Rattle.thread_knowledge.specs.Shown.{Shown, Running, shown_first, shown_more, holds, does, modules_at, modules_in, loads_at, loads_in, named, numbered}
 use Rattle.thread_knowledge.specs.Knowing.{Has, HasAll}
 use Rattle.meanings.specs.Runs.{Run, Safe, Pays, Makes, Looks, StampOf}
 use Rattle.py_parser.specs.Sources.{script_of}
@@ -334,12 +334,22 @@ safe_asks body safe_body (suc turns) s n k run safe =
 one_module : (m : ModRef) → modules_in (values.Module m) ≡ m ∷ []
 one_module m = ap modules_in (sym (rolls-Module m)) ∙ fold-roll-Value (List ModRef) modules_at (Value-F.Module m)
 
+none_loaded : (m : ModRef) → loads_in (values.Module m) ≡ []
+none_loaded m = ap loads_in (sym (rolls-Module m)) ∙ fold-roll-Value (List ℕ) loads_at (Value-F.Module m)
+
 safe_binds : (s : Shown) (mid : ℕ) (n : List ℕ) (k : Onward) → Has s.mids mid → SafeOn s k → SafeOn s (binds mid n k)
 safe_binds s mid n k has safe s' f On known = safe s' f On tt
 safe_binds s mid n k has safe s' f (Found m) known = (
   f.runs,
   (
-    (f.runs, (inl (f.mids mid has), refl, subst (λ (ms : List ModRef). HasAll s'.modules ms) (sym (one_module m)) (known, tt))),
+    (
+      f.runs,
+      (
+        inl (f.mids mid has),
+        refl,
+        (subst (λ (ms : List ModRef). HasAll s'.modules ms) (sym (one_module m)) (known, tt), subst (λ (ls : List ℕ). HasAll s'.loads ls) (sym (none_loaded m)) tt),
+      ),
+    ),
     λ reply.
         safe (shown_more s' (e.SetVar mid n (values.Module m) true, reply)) (later_more s s' s.held s.held (e.SetVar mid n (values.Module m) true) reply f refl f.runs) On tt,
   ),

@@ -1,11 +1,12 @@
 -- What is left in the sinks.
 use Rattle.std.proofs.Common.{◌≡◌, ◌≤◌, ℕ, Bool, List, [], ◌∷◌, ◌++◌, Option, Some, None, Result, Ok, Err, IfOk, refl, sym, subst, ◌∙◌, ap, arith, take, drop, length}
-use Rattle.std.proofs.lemmas.List.{append-nil, append_assoc, take-append-drop}
+use Rattle.std.proofs.lemmas.List.{append-nil, take-append-drop}
 use Rattle.base_types.specs.declared.no_memory.NoMemory.{NoMemory}
 use Rattle.tree_files.specs.Writing.{appended, HasPrefixOf}
 use Rattle.machine_events.specs.declared.event.Entry.{Entry}
 use Rattle.machine_book.specs.declared.outlet.Flow.{Flow}
 use Rattle.machine_book.specs.declared.outlet.Flow.TheVariants.{Open, Failed, Short}
+use Rattle.machine_book.proofs.Keeping.{appends_then, part_then, part_still}
 use Rattle.machine_book.specs.Outgo.{Outgo, Kept, Flows, FlowsFrom, Appends, AppendsPart, text_of}
 use Rattle.thread_knowledge.specs.Own.{own}
 use Rattle.py_run.specs.declared.script.Ending.{Ending}
@@ -22,30 +23,6 @@ appends_none (Some a) = sym (append-nil a)
 
 pub gets_none : (a : At) → Gets a [] a Open
 gets_none a = appends_none a.written
-
-appends_then : (a b c : Option (List ℕ)) (x y : List ℕ) → Appends a b x → Appends b c y → Appends a c (x ++ y)
-appends_then None None None x y p q = tt
-appends_then (Some a) (Some b) (Some c) x y p q = q ∙ (ap (λ w. w ++ y) p ∙ append_assoc a x y)
-appends_then None None (Some c) x y p q = absurd q
-appends_then None (Some b) c x y p q = absurd p
-appends_then (Some a) None c x y p q = absurd p
-appends_then (Some a) (Some b) None x y p q = absurd q
-
-part_then : (a b c : Option (List ℕ)) (x y : List ℕ) → Appends a b x → AppendsPart b c y → AppendsPart a c (x ++ y)
-part_then a b c x y p q = record {
-  part = x ++ q.part;
-  rest = q.rest;
-  whole = append_assoc x q.part q.rest ∙ ap (λ w. x ++ w) q.whole;
-  gained = appends_then a b c x q.part p q.gained;
-}
-
-part_still : (a b c : Option (List ℕ)) (x y : List ℕ) → AppendsPart a b x → Appends b c [] → AppendsPart a c (x ++ y)
-part_still a b c x y p q = record {
-  part = p.part ++ [];
-  rest = p.rest ++ y;
-  whole = ap (λ w. w ++ (p.rest ++ y)) (append-nil p.part) ∙ (sym (append_assoc p.part p.rest y) ∙ ap (λ w. w ++ y) p.whole);
-  gained = appends_then a b c p.part [] p.gained q;
-}
 
 -- a sink that got a first text and was then an outlet for some entries, by how it stood between and stands now
 module _ (a : At) (s b : Outgo) (x y : List ℕ) (up : a.faults ≤ s.faults) (grows : s.faults ≤ b.faults) where

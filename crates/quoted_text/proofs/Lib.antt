@@ -2,4 +2,4 @@ mod Pieces
 mod Escapes
 mod Sources
 mod Decoding
-mod Takes
+pub mod Takes

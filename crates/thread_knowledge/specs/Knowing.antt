@@ -11,7 +11,7 @@ use Rattle.machine_events.specs.declared.event.Event.{Event}
 use Rattle.machine_events.specs.declared.event.Event.TheVariants as e
 use Rattle.machine_events.specs.declared.event.Reply.{Reply}
 use Rattle.thread_knowledge.specs.Holdings.{Taken, Loading, Reloading}
-use Rattle.thread_knowledge.specs.Shown.{Shown, Running, Waiting, shown, modules_in, is_namespace_path}
+use Rattle.thread_knowledge.specs.Shown.{Shown, Running, Waiting, shown, modules_in, loads_in, is_namespace_path}
 
 -- some item of a list is this one
 abbrev pub Has : {X : Type 0} → List X → X → Type 0
@@ -30,12 +30,12 @@ HasMid s mid = Has s.mids mid ⊎ ((m : ModRef) × Has s.modules m × (m.mid ≡
 abbrev pub HasName : Shown → ℕ → List ℕ → Type 0
 HasName s mid n = (m : ModRef) × Has s.modules m × (m.mid ≡ mid) × (m.name ≡ n)
 
--- each module that the value holds exists, with this name and place
+-- each module that the value holds exists, with this name and place, and each load whose function it holds exists
 abbrev pub KnowsAll : Shown → Value → Type 0
-KnowsAll s v = HasAll s.modules (modules_in v)
+KnowsAll s v = HasAll s.modules (modules_in v) × HasAll s.loads (loads_in v)
 
 abbrev pub KnowsItems : Shown → List Value → Type 0
-KnowsItems s items = HasAll s.modules (flat_map modules_in items)
+KnowsItems s items = HasAll s.modules (flat_map modules_in items) × HasAll s.loads (flat_map loads_in items)
 
 -- an entry for the cache
 abbrev pub KnowsSlot : Shown → Slot → Type 0

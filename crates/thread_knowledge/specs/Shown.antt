@@ -48,6 +48,16 @@ modules_at _ = []
 abbrev pub modules_in : Value → List ModRef
 modules_in = fold-Value (List ModRef) modules_at
 
+-- the loads whose functions a value holds, at any depth
+abbrev pub loads_at : Value-F (List ℕ) → List ℕ
+loads_at (Value-F.List items) = flat_map (λ ls. ls) items
+loads_at (Value-F.Tuple items) = flat_map (λ ls. ls) items
+loads_at (Value-F.Func load index name) = load ∷ []
+loads_at _ = []
+
+abbrev pub loads_in : Value → List ℕ
+loads_in = fold-Value (List ℕ) loads_at
+
 abbrev pub slot_modules : Slot → List ModRef
 slot_modules (slots.Module m) = m ∷ []
 slot_modules slot = []
@@ -71,10 +81,13 @@ abbrev pub numbered : Reply → List ℕ
 numbered (r.Load load mid) = mid ∷ []
 numbered reply = []
 
--- the number of a load that a reply gives
+-- the numbers of the loads that a reply gives, those of the functions in its values among them
 abbrev pub load_numbered : Reply → List ℕ
 load_numbered (r.Load load mid) = load ∷ []
 load_numbered (r.Yours load text) = load ∷ []
+load_numbered (r.Value v) = loads_in v
+load_numbered (r.Path items) = flat_map loads_in items
+load_numbered (r.Ns state epoch) = flat_map loads_in state.parent_path
 load_numbered reply = []
 
 abbrev pub is_namespace_path : Value → Bool
