@@ -1,0 +1,6 @@
+mod Cuts
+mod Kinds
+mod Steps
+mod Found
+mod Only
+mod Refused
