@@ -1,3 +1,9 @@
-pub mod Places
+mod Places
 mod Fronts
 mod Steps
+mod Cuts
+mod Sayings
+mod Going
+mod Found
+mod Only
+mod Refused

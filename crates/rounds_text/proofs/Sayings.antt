@@ -21,8 +21,8 @@ use Rattle.rounds_text.specs.Lines.{behind, cut, parts, has_no_blank, named_in, 
 use Rattle.rounds_text.specs.declared.line.Line.{Line}
 use Rattle.rounds_text.specs.declared.line.Line.TheVariants as lines
 use Rattle.rounds_text.proofs.Places.{named, read_is, has_parts}
-use Rattle.rounds_laws.specs.Grammar.{IsPlace, IsEdit, IsScript, in_line}
-use Rattle.rounds_laws.proofs.Cuts.{if_some, behind_front, behind_taken, cut_found, cut_taken, blank_before}
+use Rattle.rounds_text.specs.Grammar.{IsPlace, IsEdit, IsScript, in_line}
+use Rattle.rounds_text.proofs.Cuts.{if_some, behind_front, behind_taken, cut_found, cut_taken, blank_before}
 
 -- Paths.
 
@@ -107,10 +107,10 @@ edit_found (edits.Remove path) line (name, place, is) =
 
 -- What is read is spelled.
 
-abbrev pub Says : Line → List ℕ → Type 0
-Says lines.Round line = line ≡ codes "round"
-Says (lines.Edit edit) line = IsEdit edit line
-Says (lines.Script script) line = IsScript script line
+abbrev pub Means : Line → List ℕ → Type 0
+Means lines.Round line = line ≡ codes "round"
+Means (lines.Edit edit) line = IsEdit edit line
+Means (lines.Script script) line = IsScript script line
 
 map_some : {X Y : Type 0} (f : X → Y) (o : Option X) (y : Y) → option_map f o ≡ Some y → (x : X) × (o ≡ Some x) × (f x ≡ y)
 map_some f None y h = cc
@@ -168,31 +168,31 @@ edit_taken line edit clean h =
       ]
     ]
 
-script_taken : (line rest : List ℕ) (said : Line) → in_line line ≡ true → line ≡ codes "script " ++ rest → script_in rest ≡ Some said → Says said line
+script_taken : (line rest : List ℕ) (said : Line) → in_line line ≡ true → line ≡ codes "script " ++ rest → script_in rest ≡ Some said → Means said line
 script_taken line rest said clean is h =
     let both = if_some (is_some (path_in rest)) (Some (lines.Script rest)) said h in
     let same : lines.Script rest ≡ said = let e : Some (lines.Script rest) ≡ Some said = both.1 in cc in
     let some = there (path_in rest) both.0 in
     let behind_word = (blank_before line (codes "script ") rest clean is).1 in
-    subst (λ s. Says s line) same (some.0, place_taken rest some.0 behind_word some.1, is)
+    subst (λ s. Means s line) same (some.0, place_taken rest some.0 behind_word some.1, is)
   where
     there : (o : Option Path) → is_some o ≡ true → (path : Path) × (o ≡ Some path)
     there None h = cc
     there (Some path) h = (path, refl)
 
-pub line_taken : (line : List ℕ) (said : Line) → in_line line ≡ true → line_in line ≡ Some said → Says said line
+pub line_taken : (line : List ℕ) (said : Line) → in_line line ≡ true → line_in line ≡ Some said → Means said line
 unfolding line_in
 line_taken line said clean h = by (bytes_eq line (codes "round")) refl h
   where
-    other : taken (behind (codes "script ") line) script_in (option_map lines.Edit (edit_in line)) ≡ Some said → Says said line
+    other : taken (behind (codes "script ") line) script_in (option_map lines.Edit (edit_in line)) ≡ Some said → Means said line
     other h =
         elim (taken_some (behind (codes "script ") line) script_in (option_map lines.Edit (edit_in line)) said h) [
           | inl (rest, at, is) ↦ script_taken line rest said clean (behind_taken (codes "script ") line rest at) is
-          | inr h ↦ let e = map_some lines.Edit (edit_in line) said h in subst (λ s. Says s line) e.2 (edit_taken line e.0 clean e.1)
+          | inr h ↦ let e = map_some lines.Edit (edit_in line) said h in subst (λ s. Means s line) e.2 (edit_taken line e.0 clean e.1)
         ]
 
-    by : (c : Bool) → bytes_eq line (codes "round") ≡ c → cond c (Some lines.Round) (taken (behind (codes "script ") line) script_in (option_map lines.Edit (edit_in line))) ≡ Some said → Says said line
-    by true p e = let same : lines.Round ≡ said = cc in subst (λ s. Says s line) same ((bytes_eq-Decides line (codes "round")).0 p)
+    by : (c : Bool) → bytes_eq line (codes "round") ≡ c → cond c (Some lines.Round) (taken (behind (codes "script ") line) script_in (option_map lines.Edit (edit_in line))) ≡ Some said → Means said line
+    by true p e = let same : lines.Round ≡ said = cc in subst (λ s. Means s line) same ((bytes_eq-Decides line (codes "round")).0 p)
     by false p e = other e
 
 -- Lines have no LF within them.

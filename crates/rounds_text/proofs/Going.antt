@@ -5,8 +5,8 @@ use Rattle.rounds_text.specs.declared.draft.Stage.TheVariants as stages
 use Rattle.rounds_text.specs.declared.rounds.Round.{Round}
 use Rattle.rounds_text.specs.Reading.{next, goes, read_on, pieces}
 use Rattle.tree_files.specs.declared.edit.Edit.{Edit}
-use Rattle.rounds_laws.specs.Grammar.{in_line}
-use Rattle.rounds_laws.proofs.Cuts.{pieces_line, pieces_some}
+use Rattle.rounds_text.specs.Grammar.{in_line}
+use Rattle.rounds_text.proofs.Cuts.{pieces_line, pieces_some}
 
 -- one line and its end are read
 pub step : (at : ℕ) (d : Draft) (line rest : List ℕ) → in_line line ≡ true → read_on at d (pieces (line ++ 10 ∷ rest)) ≡ goes (next line d) at (λ e. read_on (at + 1) e (pieces rest))

@@ -38,15 +38,15 @@ abbrev pub IsScript : List ℕ → List ℕ → Type 0
 IsScript script line = (path : Path) × IsPlace script path × (line ≡ codes "script " ++ script)
 
 -- the items in order, each on a line of its own
-abbrev pub Lines : {X : Type 0} → (X → List ℕ → Type 0) → List X → List ℕ → Type 0
-Lines IsLine [] text = text ≡ []
-Lines IsLine (x ∷ xs) text = (line : List ℕ) × (rest : List ℕ) × IsLine x line × Lines IsLine xs rest × (text ≡ line ++ 10 ∷ rest)
+abbrev pub OnLines : {X : Type 0} → (X → List ℕ → Type 0) → List X → List ℕ → Type 0
+OnLines IsLine [] text = text ≡ []
+OnLines IsLine (x ∷ xs) text = (line : List ℕ) × (rest : List ℕ) × IsLine x line × OnLines IsLine xs rest × (text ≡ line ++ 10 ∷ rest)
 
 pub record IsRound (round : Round) (text : List ℕ) : Type 0 where
   pub edits : List ℕ
   pub scripts : List ℕ
-  pub are_edits : Lines IsEdit round.edits edits
-  pub are_scripts : Lines IsScript round.scripts scripts
+  pub are_edits : OnLines IsEdit round.edits edits
+  pub are_scripts : OnLines IsScript round.scripts scripts
   pub some : 1 ≤ length round.scripts
   pub whole : text ≡ codes "round" ++ 10 ∷ (edits ++ scripts)
 

@@ -10,7 +10,7 @@ use Rattle.std.specs.Option.{option_map}
 use Rattle.std.specs.Str.{bytes_eq}
 use Rattle.rounds_text.specs.Lines.{behind, cut, has_no_blank}
 use Rattle.rounds_text.specs.Reading.{pieces}
-use Rattle.rounds_laws.specs.Grammar.{in_line}
+use Rattle.rounds_text.specs.Grammar.{in_line}
 
 pub if_some : {X : Type 0} (b : Bool) (o : Option X) (x : X) → cond b o None ≡ Some x → (b ≡ true) × (o ≡ Some x)
 if_some true o x h = (refl, h)
@@ -34,34 +34,39 @@ blank_place : (name text : List ℕ) → has_no_blank name ≡ true → position
 blank_place [] text h = refl
 blank_place (b ∷ name) text h =
     let both = and_parts (not (eqb b 32)) (has_no_blank name) h in
-    cond-true _ _ _ both.0 ∙ ap (λ n. 1 + n) (blank_place name text both.1)
+    cond-true _ _ _ both.0 ∙ (let e = blank_place name text both.1 in omega arith)
 
 drop_blank : (name text : List ℕ) → drop (length name + 1) (name ++ 32 ∷ text) ≡ text
 drop_blank [] text = refl
-drop_blank (b ∷ name) text = drop_blank name text
+drop_blank (b ∷ name) text = ap (λ n. drop n (b ∷ (name ++ 32 ∷ text))) (let e : length (b ∷ name) + 1 ≡ suc (length name + 1) = omega arith in e) ∙ drop_blank name text
 
 pub cut_found : (name text : List ℕ) → has_no_blank name ≡ true → cut (name ++ 32 ∷ text) ≡ Some (name, text)
 cut_found name text h =
     let all : List ℕ = name ++ 32 ∷ text in
     let less : ltb (length name) (length all) ≡ true = lt-ltb (length name) (length all) (omega (arith, length-append name (32 ∷ text))) in
-    ap (λ i. option_map (λ i. (take i all, drop (i + 1) all)) (cond (ltb i (length all)) (Some i) None)) (blank_place name text h)
-    ∙ ap (option_map (λ i. (take i all, drop (i + 1) all))) (cond-true _ _ _ less)
+    ap (λ i. option_map {U = List ℕ × List ℕ} (λ i. (take i all, drop (i + 1) all)) (cond (ltb i (length all)) (Some i) None)) (blank_place name text h)
+    ∙ ap (option_map {U = List ℕ × List ℕ} (λ i. (take i all, drop (i + 1) all))) (cond-true _ _ _ less)
     ∙ ap (λ t. Some (t, drop (length name + 1) all)) (take-append_seam name (32 ∷ text))
     ∙ ap (λ t. Some (name, t)) (drop_blank name text)
+
+shifted : (b : ℕ) (text : List ℕ) (n : ℕ) → take (1 + n) (b ∷ text) ++ 32 ∷ drop (1 + n + 1) (b ∷ text) ≡ b ∷ (take n text ++ 32 ∷ drop (n + 1) text)
+shifted b text n =
+    ap (λ k. take k (b ∷ text) ++ 32 ∷ drop (1 + n + 1) (b ∷ text)) (let e : 1 + n ≡ suc n = omega arith in e)
+    ∙ ap (λ k. b ∷ take n text ++ 32 ∷ drop k (b ∷ text)) (let e : 1 + n + 1 ≡ suc (n + 1) = omega arith in e)
 
 at_blank : (text : List ℕ) → position_or_len (λ b. eqb b 32) text < length text → text ≡ take (position_or_len (λ b. eqb b 32) text) text ++ 32 ∷ drop (position_or_len (λ b. eqb b 32) text + 1) text
 at_blank [] less = absurd (omega arith)
 at_blank (b ∷ text) less =
-    elim (eqb b 32) as (λ c. eqb b 32 ≡ c → cond (not c) (1 + position_or_len (λ b. eqb b 32) text) 0 < 1 + length text
+    elim (eqb b 32) as (λ c. eqb b 32 ≡ c → cond (not c) (1 + position_or_len (λ b. eqb b 32) text) 0 < suc (length text)
     → b ∷ text ≡ take (cond (not c) (1 + position_or_len (λ b. eqb b 32) text) 0) (b ∷ text) ++ 32 ∷ drop (cond (not c) (1 + position_or_len (λ b. eqb b 32) text) 0 + 1) (b ∷ text)) [
       | true ↦ λ p _. ap (λ z. z ∷ text) (eqb-true b 32 p)
-      | false ↦ λ _ low. ap (λ z. b ∷ z) (at_blank text (omega arith))
+      | false ↦ λ _ low. ap (λ z. b ∷ z) (at_blank text (omega arith)) ∙ sym (shifted b text (position_or_len (λ b. eqb b 32) text))
     ] refl less
 
 pub cut_taken : (text name rest : List ℕ) → cut text ≡ Some (name, rest) → text ≡ name ++ 32 ∷ rest
 cut_taken text name rest h = by (ltb (position_or_len (λ b. eqb b 32) text) (length text)) refl h
   where
-    by : (c : Bool) → ltb (position_or_len (λ b. eqb b 32) text) (length text) ≡ c → option_map (λ i. (take i text, drop (i + 1) text)) (cond c (Some (position_or_len (λ b. eqb b 32) text)) None) ≡ Some (name, rest) → text ≡ name ++ 32 ∷ rest
+    by : (c : Bool) → ltb (position_or_len (λ b. eqb b 32) text) (length text) ≡ c → option_map {U = List ℕ × List ℕ} (λ i. (take i text, drop (i + 1) text)) (cond c (Some (position_or_len (λ b. eqb b 32) text)) None) ≡ Some (name, rest) → text ≡ name ++ 32 ∷ rest
     by true p e =
         let i : ℕ = position_or_len (λ b. eqb b 32) text in
         let pair : (take i text, drop (i + 1) text) ≡ (name, rest) = cc in

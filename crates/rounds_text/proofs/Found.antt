@@ -11,9 +11,9 @@ use Rattle.rounds_text.specs.declared.line.Line.TheVariants as lines
 use Rattle.rounds_text.specs.declared.rounds.Round.{Round}
 use Rattle.rounds_text.specs.Spelling.{first_line}
 use Rattle.rounds_text.specs.Reading.{start, next, further, with_script, read_on, rounds_in, pieces}
-use Rattle.rounds_laws.specs.Grammar.{IsEdit, IsScript, Lines, IsRound, AreRounds, scripts_in, IsFile}
-use Rattle.rounds_laws.proofs.Kinds.{round_found, script_found, edit_found, script_clean, edit_clean}
-use Rattle.rounds_laws.proofs.Steps.{Goes, goes_refl, goes_then, goes_line, goes_text, edits_draft, scripts_draft}
+use Rattle.rounds_text.specs.Grammar.{IsEdit, IsScript, OnLines, IsRound, AreRounds, scripts_in, IsFile}
+use Rattle.rounds_text.proofs.Sayings.{round_found, script_found, edit_found, script_clean, edit_clean}
+use Rattle.rounds_text.proofs.Going.{Goes, goes_refl, goes_then, goes_line, goes_text, edits_draft, scripts_draft}
 
 -- a text of one line more, and what stands behind it
 behind_line : (text line more rest : List ℕ) → text ≡ line ++ 10 ∷ more → text ++ rest ≡ line ++ 10 ∷ (more ++ rest)
@@ -31,11 +31,14 @@ next_script done edits scripts count script line rest is few =
     goes_line (scripts_draft done edits scripts count) (scripts_draft done edits (scripts ++ script ∷ []) (count + 1)) line rest (script_clean script line is)
     (ap (option_and_then (λ l. further stages.Scripts l (scripts_draft done edits scripts count))) (script_found script line is) ∙ cond-true _ _ _ (lt-ltb count 16 few))
 
-found_scripts : (done : List Round) (edits : List Edit) (scripts : List (List ℕ)) (count : ℕ) (more : List (List ℕ)) (text rest : List ℕ) → Lines IsScript more text → count + length more ≤ 16
+found_scripts : (done : List Round) (edits : List Edit) (scripts : List (List ℕ)) (count : ℕ) (more : List (List ℕ)) (text rest : List ℕ) → OnLines IsScript more text → count + length more ≤ 16
     → Goes (scripts_draft done edits scripts count) (text ++ rest) (scripts_draft done edits (scripts ++ more) (count + length more)) rest
 found_scripts done edits scripts count [] text rest are few =
-    subst (λ s. Goes (scripts_draft done edits scripts count) (text ++ rest) (scripts_draft done edits s count) rest) (sym (append-nil scripts))
-    (goes_text (scripts_draft done edits scripts count) (scripts_draft done edits scripts count) (text ++ rest) rest rest (ap (λ t. t ++ rest) are) (goes_refl (scripts_draft done edits scripts count) rest))
+    let here : Draft = scripts_draft done edits scripts count in
+    let same : count ≡ count + length {A = List ℕ} [] = omega arith in
+    subst (λ n. Goes here (text ++ rest) (scripts_draft done edits (scripts ++ []) n) rest) same
+    (subst (λ s. Goes here (text ++ rest) (scripts_draft done edits s count) rest) (sym (append-nil scripts))
+    (goes_text here here (text ++ rest) rest rest (ap (λ t. t ++ rest) are) (goes_refl here rest)))
 found_scripts done edits scripts count (script ∷ more) text rest (line, others, is, are, whole) few =
     let here : Draft = scripts_draft done edits scripts count in
     let middle : Draft = scripts_draft done edits (scripts ++ script ∷ []) (count + 1) in
@@ -53,7 +56,7 @@ next_edit done edits count edit line rest is =
     goes_line (edits_draft done edits count) (edits_draft done (edits ++ edit ∷ []) count) line rest (edit_clean edit line is)
     (ap (option_and_then (λ l. further stages.Edits l (edits_draft done edits count))) (edit_found edit line is))
 
-found_edits : (done : List Round) (edits : List Edit) (count : ℕ) (more : List Edit) (text rest : List ℕ) → Lines IsEdit more text → Goes (edits_draft done edits count) (text ++ rest) (edits_draft done (edits ++ more) count) rest
+found_edits : (done : List Round) (edits : List Edit) (count : ℕ) (more : List Edit) (text rest : List ℕ) → OnLines IsEdit more text → Goes (edits_draft done edits count) (text ++ rest) (edits_draft done (edits ++ more) count) rest
 found_edits done edits count [] text rest are =
     subst (λ es. Goes (edits_draft done edits count) (text ++ rest) (edits_draft done es count) rest) (sym (append-nil edits))
     (goes_text (edits_draft done edits count) (edits_draft done edits count) (text ++ rest) rest rest (ap (λ t. t ++ rest) are) (goes_refl (edits_draft done edits count) rest))
@@ -68,7 +71,7 @@ found_edits done edits count (edit ∷ more) text rest (line, others, is, are, w
     (found_edits done (edits ++ edit ∷ []) count more others rest are)))
 
 -- the scripts of a round that has at least one
-found_all_scripts : (done : List Round) (edits : List Edit) (count : ℕ) (scripts : List (List ℕ)) (text rest : List ℕ) → Lines IsScript scripts text → 1 ≤ length scripts → count + length scripts ≤ 16
+found_all_scripts : (done : List Round) (edits : List Edit) (count : ℕ) (scripts : List (List ℕ)) (text rest : List ℕ) → OnLines IsScript scripts text → 1 ≤ length scripts → count + length scripts ≤ 16
     → Goes (edits_draft done edits count) (text ++ rest) (scripts_draft done edits scripts (count + length scripts)) rest
 found_all_scripts done edits count [] text rest are some few = absurd (omega arith)
 found_all_scripts done edits count (script ∷ more) text rest (line, others, is, are, whole) some few =
@@ -83,7 +86,7 @@ found_all_scripts done edits count (script ∷ more) text rest (line, others, is
     (found_scripts done edits (script ∷ []) (count + 1) more others rest are (omega arith))))
 
 -- a round, from behind its first line
-found_round : (done : List Round) (count : ℕ) (round : Round) (edits scripts rest : List ℕ) → Lines IsEdit round.edits edits → Lines IsScript round.scripts scripts → 1 ≤ length round.scripts → count + length round.scripts ≤ 16
+found_round : (done : List Round) (count : ℕ) (round : Round) (edits scripts rest : List ℕ) → OnLines IsEdit round.edits edits → OnLines IsScript round.scripts scripts → 1 ≤ length round.scripts → count + length round.scripts ≤ 16
     → Goes (edits_draft done [] count) ((edits ++ scripts) ++ rest) (scripts_draft done round.edits round.scripts (count + length round.scripts)) rest
 found_round done count round edits scripts rest es ss some few =
     let here : Draft = edits_draft done [] count in

@@ -4,26 +4,29 @@ use Rattle.std.proofs.lemmas.Bool.{and_parts, and_from, ltb-true, lt-ltb, cond-t
 use Rattle.std.proofs.lemmas.List.{append-nil, append_assoc}
 use Rattle.std.proofs.lemmas.List.Folds.{list_all-append}
 use Rattle.std.proofs.lemmas.List.Splits.{join_with_byte-slice_split}
-use Rattle.std.proofs.lemmas.Str.{IsUtf8-from_is_utf8}
+use Rattle.std.proofs.lemmas.Str.{IsUtf8-from_ascii}
 use Rattle.std.specs.List.{list_all, join_with_byte}
 use Rattle.std.specs.Option.{option_and_then, ok_or}
-use Rattle.std.specs.Str.{bytes_eq}
+use Rattle.std.specs.Str.{bytes_eq, IsAscii}
 use Rattle.rounds_text.specs.declared.draft.Draft.{Draft}
 use Rattle.rounds_text.specs.declared.draft.Stage.{Stage}
 use Rattle.rounds_text.specs.declared.draft.Stage.TheVariants as stages
 use Rattle.rounds_text.specs.declared.line.Line.{Line}
 use Rattle.rounds_text.specs.declared.line.Line.TheVariants as lines
 use Rattle.rounds_text.specs.declared.rounds.Round.{Round}
+use Rattle.rounds_text.specs.declared.rounds.Rounds.{Rounds}
+use Rattle.rounds_text.specs.declared.rounds.RoundsError.{RoundsError}
+use Rattle.rounds_text.specs.declared.rounds.RoundsError.TheVariants as error
 use Rattle.rounds_text.specs.Spelling.{first_line}
 use Rattle.rounds_text.specs.Lines.{line_in}
-use Rattle.rounds_text.specs.Reading.{start, further, goes, next, next_at, ends, read_on, rounds_in, pieces}
-use Rattle.rounds_laws.specs.Grammar.{in_line, IsPlace, IsScript, IsFile}
-use Rattle.rounds_laws.specs.Refusing.{joined_lines, Begins, StopsAt, IsRefusedAt}
-use Rattle.rounds_laws.proofs.Cuts.{if_some, pieces_clean}
-use Rattle.rounds_laws.proofs.Kinds.{round_found, script_found, script_clean}
-use Rattle.rounds_laws.proofs.Steps.{step, Goes, goes_refl, goes_then, goes_line, goes_text}
-use Rattle.rounds_laws.proofs.Found.{file_found}
-use Rattle.rounds_laws.proofs.Only.{file_only}
+use Rattle.rounds_text.specs.Reading.{start, further, goes, next, next_at, ends, read_on, rounds_in, pieces, Reads}
+use Rattle.rounds_text.specs.Grammar.{in_line, IsPlace, IsScript, IsFile}
+use Rattle.rounds_text.specs.Refusing.{joined_lines, Begins, StopsAt, IsRefusedAt, Says}
+use Rattle.rounds_text.proofs.Cuts.{if_some, pieces_clean}
+use Rattle.rounds_text.proofs.Sayings.{round_found, script_found, script_clean}
+use Rattle.rounds_text.proofs.Going.{step, Goes, goes_refl, goes_then, goes_line, goes_text}
+use Rattle.rounds_text.proofs.Found.{file_found}
+use Rattle.rounds_text.proofs.Only.{file_only}
 
 -- Each draft on the way can be completed.
 
@@ -41,8 +44,12 @@ completion stages.Rounds = codes "round" ++ 10 ∷ (codes "script a" ++ 10 ∷ [
 completion stages.Edits = codes "script a" ++ 10 ∷ []
 completion stages.Scripts = []
 
+a_is_ascii : IsAscii (codes "a")
+a_is_ascii zero = omega arith
+a_is_ascii (suc i) = omega arith
+
 place_a : IsPlace (codes "a") (codes "a" ∷ [])
-place_a = record { text = IsUtf8-from_is_utf8 (codes "a") refl; names = (refl, inl refl); some = omega arith; blank = refl; line = refl }
+place_a = record { text = IsUtf8-from_ascii (codes "a") a_is_ascii; names = (refl, inl refl); some = omega arith; blank = refl; line = refl }
 
 script_a : IsScript (codes "a") (codes "script a")
 script_a = (codes "a" ∷ [], place_a, refl)
@@ -200,19 +207,22 @@ module _ (bytes : List ℕ) (n : ℕ) (none : (rounds : List Round) → IsFile r
       by : (o : Option (List Round)) → ok_or o at ≡ Err n → IsRefusedAt n bytes
       by (Some rounds) k = cc
       by None k = refused_here before at d reach room are number line whole (let e : at ≡ n = cc in e) (inl (and_parts (in_line line) true clean).0)
-  refused_on (line ∷ more ∷ ls) before at d reach room are number whole clean h = by (next line d) refl h
+  refused_on (line ∷ more ∷ ls) before at d reach room are number whole clean h =
+      let both = and_parts (in_line line) (list_all in_line (more ∷ ls)) clean in
+      by (next line d) refl
+      (λ e is k.
+      refused_on (more ∷ ls) (before ++ line ∷ []) (at + 1) e (reach_next before at d reach room are number line e both.0 is) (room_next line d e room is)
+      (clean_more before line are both.0) (let many = length-append before (line ∷ []) in omega (arith, number, many))
+      (whole ∙ sym (lines_more before line (join (more ∷ ls)))) both.1 k)
+      h
     where
-      both : (in_line line ≡ true) × (list_all in_line (more ∷ ls) ≡ true)
-      both = and_parts (in_line line) (list_all in_line (more ∷ ls)) clean
-
-      by : (o : Option Draft) → next line d ≡ o → goes o at (λ e. read_on (at + 1) e (more ∷ ls)) ≡ Err n → IsRefusedAt n bytes
-      by None is k =
+      by : (o : Option Draft) → next line d ≡ o → ((e : Draft) → next line d ≡ Some e → read_on (at + 1) e (more ∷ ls) ≡ Err n → IsRefusedAt n bytes)
+          → goes o at (λ e. read_on (at + 1) e (more ∷ ls)) ≡ Err n → IsRefusedAt n bytes
+      by None is later k =
+          let clean_line = (and_parts (in_line line) (list_all in_line (more ∷ ls)) clean).0 in
           refused_here before at d reach room are number (line ++ 10 ∷ join (more ∷ ls)) whole (let e : at ≡ n = cc in e)
-          (inr (line, join (more ∷ ls), both.0, refl, stops_line before at d reach room are number line both.0 is))
-      by (Some e) is k =
-          refused_on (more ∷ ls) (before ++ line ∷ []) (at + 1) e (reach_next before at d reach room are number line e both.0 is) (room_next line d e room is)
-          (clean_more before line are both.0) (let many = length-append before (line ∷ []) in omega (arith, number, many))
-          (whole ∙ sym (lines_more before line (join (more ∷ ls)))) both.1 k
+          (inr (line, join (more ∷ ls), clean_line, refl, stops_line before at d reach room are number line clean_line is))
+      by (Some e) is later k = later e is k
 
 not_ok : (n : ℕ) (bytes : List ℕ) → rounds_in bytes ≡ Err n → (rounds : List Round) → IsFile rounds bytes → ⊥
 not_ok n bytes h rounds file = let bad : Err n ≡ Ok rounds = sym h ∙ file_found rounds bytes file in cc
@@ -223,3 +233,9 @@ refused_at n bytes h =
 
 pub one_list : (a b : List Round) (bytes : List ℕ) → IsFile a bytes → IsFile b bytes → a ≡ b
 one_list a b bytes f g = let same : Ok a ≡ Ok b = sym (file_found a bytes f) ∙ file_found b bytes g in cc
+
+-- what reading line by line answers, said by the grammar
+pub says_from : (bytes : List ℕ) (r : Result Rounds RoundsError) → Reads (rounds_in bytes) r → Says bytes r
+says_from bytes (Ok rounds) h = file_only rounds.list bytes h
+says_from bytes (Err (error.At line)) (n, is, number) = (n, refused_at n bytes is, number)
+says_from bytes (Err error.NoMemory) h = tt

@@ -16,11 +16,11 @@ use Rattle.rounds_text.specs.declared.rounds.Round.{Round}
 use Rattle.rounds_text.specs.Spelling.{first_line}
 use Rattle.rounds_text.specs.Lines.{line_in}
 use Rattle.rounds_text.specs.Reading.{start, further, goes, ends, read_on, rounds_in, pieces}
-use Rattle.rounds_laws.specs.Grammar.{in_line, IsEdit, IsScript, Lines, IsRound, AreRounds, scripts_in, IsFile}
-use Rattle.rounds_laws.proofs.Cuts.{pieces_clean}
-use Rattle.rounds_laws.proofs.Kinds.{Says, line_taken}
-use Rattle.rounds_laws.proofs.Steps.{edits_draft, scripts_draft}
-use Rattle.rounds_laws.proofs.Found.{rounds_draft}
+use Rattle.rounds_text.specs.Grammar.{in_line, IsEdit, IsScript, OnLines, IsRound, AreRounds, scripts_in, IsFile}
+use Rattle.rounds_text.proofs.Cuts.{pieces_clean}
+use Rattle.rounds_text.proofs.Sayings.{line_taken}
+use Rattle.rounds_text.proofs.Going.{edits_draft, scripts_draft}
+use Rattle.rounds_text.proofs.Found.{rounds_draft}
 
 -- what a text spells where a round has no script yet
 record EditsTail (done : List Round) (edits : List Edit) (count : ℕ) (text : List ℕ) (rounds : List Round) : Type 0 where
@@ -30,8 +30,8 @@ record EditsTail (done : List Round) (edits : List Edit) (count : ℕ) (text : L
   a : List ℕ
   b : List ℕ
   c : List ℕ
-  are_edits : Lines IsEdit more a
-  are_scripts : Lines IsScript scripts b
+  are_edits : OnLines IsEdit more a
+  are_scripts : OnLines IsScript scripts b
   are_rounds : AreRounds others c
   some : 1 ≤ length scripts
   few : count + length scripts + scripts_in others ≤ 16
@@ -44,7 +44,7 @@ record ScriptsTail (done : List Round) (edits : List Edit) (scripts : List (List
   others : List Round
   b : List ℕ
   c : List ℕ
-  are_scripts : Lines IsScript more b
+  are_scripts : OnLines IsScript more b
   are_rounds : AreRounds others c
   few : count + length more + scripts_in others ≤ 16
   whole : text ≡ b ++ c
@@ -238,7 +238,7 @@ file_of rounds bytes text more whole begins t =
         begins ∙ ap (λ z. codes "round" ++ 10 ∷ z) (t.whole ∙ sym (append_assoc t.a t.b t.c)),
       );
       some = omega arith;
-      few = t.few;
+      few = let few = t.few in omega arith;
       whole = whole;
     })
 

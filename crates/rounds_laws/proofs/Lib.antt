@@ -1,6 +1,0 @@
-mod Cuts
-mod Kinds
-mod Steps
-mod Found
-mod Only
-mod Refused
