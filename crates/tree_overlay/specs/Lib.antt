@@ -1,0 +1,5 @@
+pub mod Fates
+pub mod Gathered
+pub mod Kinds
+pub mod Names
+pub mod Seen
