@@ -32,6 +32,10 @@ same_by p q = (eq_by_cmp_equiv path_total).symm p q ∙ sym (lists_ties (slice_c
 pub same_is : (p q : Path) → is_same q p ≡ true → p ≡ q
 same_is p q e = path_exact p q (equal (path_cmp p q) (same_by p q ∙ e))
 
+pub same_refl : (p : Path) → is_same p p ≡ true
+same_refl [] = refl
+same_refl (x ∷ p) = ap (λ b. b && is_same p p) (nat_list_eq_equiv.refl x) ∙ same_refl p
+
 pub node_at-insert : (f : Files) (q : Path) (x : Node) (p : Path) → node_at (insert f q x) p ≡ cond (is_same q p) (Some x) (node_at f p)
 node_at-insert f q x p = get-insert path_total f q x p ∙ ap (λ b. cond b (Some x) (node_at f p)) (same_by p q)
 

@@ -1,11 +1,12 @@
 -- Prefixes of paths, and fates one edit after another.
-use Rattle.std.proofs.Common.{◌≡◌, ◌∙◌, refl, sym, ap, ℕ, suc, List, [], ◌∷◌, ◌++◌, Bool, true, false, ◌&&◌, length, take, nat_eq, Option, Some, None, if◌then◌else◌}
+use Rattle.std.proofs.Common.{◌≡◌, ◌∙◌, refl, sym, ap, ℕ, suc, List, [], ◌∷◌, ◌++◌, ◌+◌, ◌<◌, get_or, Bool, true, false, ◌&&◌, length, take, nat_eq, Option, Some, None, if◌then◌else◌}
+use Rattle.std.proofs.lemmas.List.{take_more}
 use Rattle.std.specs.List.{starts_with, slice_get}
 use Rattle.std.specs.Cmp.Lexicographic.{pointwise}
 use Rattle.base_types.specs.Path.{Path}
 use Rattle.tree_files.specs.Edits.{is_within}
 use Rattle.tree_files.specs.declared.edit.Edit.{Edit}
-use Rattle.tree_overlay.specs.Fates.{Fate, after, fate_from}
+use Rattle.tree_overlay.specs.Fates.{Fate, Kept, after, fate_from, fate_of}
 use Rattle.tree_overlay.specs.Names.{part_after}
 
 pub within_taken : (above path : Path) → starts_with (pointwise nat_eq) path above ≡ is_within above path
@@ -35,3 +36,8 @@ no_part (x ∷ dir) (y ∷ path) e = no_part_more (pointwise nat_eq x y) _ (is_w
 pub fate_from-append : (fate : Fate) (es more : List Edit) (p : Path) → fate_from fate (es ++ more) p ≡ fate_from (fate_from fate es p) more p
 fate_from-append fate [] more p = refl
 fate_from-append fate (e ∷ es) more p = fate_from-append (after e p fate) es more p
+
+-- the fate after one edit more
+pub fate_next : (es : List Edit) (p : Path) (i : ℕ) (e : Edit) → i < length es → e ≡ get_or es i e → fate_of (take (i + 1) es) p ≡ after e p (fate_of (take i es) p)
+fate_next es p i e lt is =
+    ap (λ l. fate_of l p) (take_more es i e lt) ∙ fate_from-append Kept (take i es) (get_or es i e ∷ []) p ∙ ap (λ x. after x p (fate_of (take i es) p)) (sym is)

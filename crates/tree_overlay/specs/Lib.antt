@@ -3,3 +3,4 @@ pub mod Gathered
 pub mod Kinds
 pub mod Names
 pub mod Seen
+pub mod Told

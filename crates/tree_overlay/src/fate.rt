@@ -1,7 +1,7 @@
 //! What edits make of one path.
-ghost use Rattle.std.specs.Prelude.{◌≡◌, Option};
+ghost use Rattle.std.specs.Prelude.{◌≡◌, Option, MatchOption};
 ghost use Rattle.tree_files.specs.Edits.{is_within};
-ghost use Rattle.tree_files.specs.Files.{stamp_of};
+ghost use Rattle.tree_files.specs.Files.{stamp_of, bytes_of};
 ghost use Rattle.tree_files.specs.declared.tree.Node.{Node};
 ghost use Rattle.tree_files.specs.declared.edit.Edit.TheVariants as edits;
 ghost use Rattle.tree_overlay.specs.Fates as fates;
@@ -151,5 +151,17 @@ pub fn is_no_dir(seen: Seen<'_>) -> bool
         Seen::File(_) => true,
         Seen::Gone => true,
         _ => false,
+    }
+}
+
+/// The bytes that edits put at a path, and none where they put no file; None where what stands
+/// there is that of the tree inside.
+pub fn bytes_put<'a>(seen: Seen<'a>) -> Option<&'a [u8]>
+    ensures { MatchOption result (fate_in seen.entry ≡ fates.Kept) (λ bytes. (before : Option Node) → bytes_of (node_by (fate_in seen.entry) before) ≡ bytes.now) }
+{
+    match seen {
+        Seen::Kept => None,
+        Seen::File(bytes) => Some(bytes.as_slice()),
+        _ => Some(&[]),
     }
 }

@@ -1,12 +1,12 @@
 //! A tree after edits.
 ghost use Rattle.std.specs.Prelude.{◌≡◌, ◌≤◌, ◌+◌, ℕ, List, [], ◌∷◌, ◌++◌, length, is_some, IfOk, IfSome, IsErrOf, OnOk, OnErr, Option};
-ghost use Rattle.std.specs.Option.{option_map, ForSome};
+ghost use Rattle.std.specs.Option.{ForSome};
 ghost use Rattle.tree_files.specs.Count.{Rose, raised};
-ghost use Rattle.tree_files.specs.Edits.{edited};
 ghost use Rattle.tree_files.specs.Files.{IsTree, IsDirAt, IsFileAt, IsListing, IsRead, node_at, has_name, stamp_of, bytes_of};
 ghost use Rattle.tree_overlay.specs.Kinds.{IsBelowRoot, IsNoDir, IsNoFile};
+ghost use Rattle.tree_overlay.specs.Told.{edited_told};
 
-use crate::fate::{Seen, fate_of, is_no_dir, stamp_by};
+use crate::fate::{bytes_put, fate_of, is_no_dir, stamp_by};
 use crate::names::merged;
 use base_types::{Exact, NoMemory, Seq, Texts, TreePath};
 use std::alloc::Global;
@@ -28,7 +28,7 @@ impl<T: Tree> Overlay<T> {
     /// that of the tree inside, which stops at the greatest u64.
     pub fn open(alloc: Global, tree: T, edits: &[Edit]) -> Result<Overlay<T>, NoMemory>
         requires { IsBelowRoot edits.now }
-        ensures files { IfOk result (λ o. ⟦<Overlay<T> as Tree>⟧.files o ≡ option_map (λ f. edited f edits.now) (T.files tree)) }
+        ensures files { IfOk result (λ o. ⟦<Overlay<T> as Tree>⟧.files o ≡ edited_told edits.now (T.files tree)) }
         ensures faults { IfOk result (λ o. ⟦<Overlay<T> as Tree>⟧.faults o ≡ T.faults tree) }
         ensures lists { IfOk result (λ o. ⟦<Overlay<T> as Tree>⟧.lists o ≡ raised (T.lists tree) 0) }
         ensures tree { IfOk result (λ o. o.tree ≡ tree) }
@@ -45,7 +45,7 @@ impl<T: Tree> Overlay<T> {
     /// Further edits, each of which has a path of at least one part. An `Err` changes nothing.
     pub fn edit(&mut self, edits: &[Edit]) -> Result<(), NoMemory>
         requires { IsBelowRoot edits.now }
-        ensures files { OnOk result (⟦<Overlay<T> as Tree>⟧.files self.new ≡ option_map (λ f. edited f edits.now) (⟦<Overlay<T> as Tree>⟧.files self.old)) }
+        ensures files { OnOk result (⟦<Overlay<T> as Tree>⟧.files self.new ≡ edited_told edits.now (⟦<Overlay<T> as Tree>⟧.files self.old)) }
         ensures edits { OnOk result (self.new.edits ≡ self.old.edits ++ edits.now) }
         ensures err { OnErr result (self.new.edits ≡ self.old.edits) }
         ensures tree { self.new.tree ≡ self.old.tree }
@@ -89,7 +89,7 @@ impl<T: Tree> Overlay<T> {
 }
 
 impl<T: Tree> Tree for Overlay<T> {
-    ghost files = { λ o. option_map (λ f. edited f o.edits) (T.files o.tree) };
+    ghost files = { λ o. edited_told o.edits (T.files o.tree) };
 
     ghost faults = { λ o. T.faults o.tree };
 
@@ -100,7 +100,19 @@ impl<T: Tree> Tree for Overlay<T> {
         Ok(stamp_by(fate_of(&self.edits, path.parts()), stamp))
     }
 
-    fn list(&mut self, dir: &TreePath) -> Result<Texts, TreeFault> {
+    fn list(&mut self, dir: &TreePath) -> Result<Texts, TreeFault>
+        requires { ForSome (edited_told self.old.edits (T.files self.old.tree)) (λ f. IsDirAt f dir.now) }
+        ensures told { IfSome (edited_told self.old.edits (T.files self.old.tree)) (λ f. IfOk result (IsListing f dir.now)) }
+        ensures wrong_kind { IsNoDir self.old.edits dir.now → IfOk result (λ names. names ≡ []) }
+        ensures failed { IsErrOf result TreeFault.Failed → Rose (T.faults self.old.tree) (T.faults self.new.tree) }
+        ensures is_tree { IfSome (edited_told self.old.edits (T.files self.old.tree)) IsTree }
+        ensures files_stay { edited_told self.new.edits (T.files self.new.tree) ≡ edited_told self.old.edits (T.files self.old.tree) }
+        ensures faults_grow { T.faults self.old.tree ≤ T.faults self.new.tree }
+        ensures listed { OnOk result (raised (T.lists self.new.tree) self.new.more ≡ raised (raised (T.lists self.old.tree) self.old.more) 1) }
+        ensures lists_grow { raised (T.lists self.old.tree) self.old.more ≤ raised (T.lists self.new.tree) self.new.more }
+        ensures lists_bound { raised (T.lists self.new.tree) self.new.more ≤ raised (T.lists self.old.tree) self.old.more + 1 }
+        ensures not_listed { IsErrOf result TreeFault.Failed → raised (T.lists self.new.tree) self.new.more ≡ raised (T.lists self.old.tree) self.old.more }
+    {
         let inner = self.names_inside(dir)?;
         if is_no_dir(fate_of(&self.edits, dir.parts())) {
             return Ok(Texts::new(dir.parts().alloc()));
@@ -108,16 +120,22 @@ impl<T: Tree> Tree for Overlay<T> {
         Ok(merged(&self.edits, dir, &inner)?)
     }
 
-    fn read(&mut self, file: &TreePath, at: u64, into: &mut [u8]) -> Result<usize, TreeFault> {
-        match fate_of(&self.edits, file.parts()) {
-            Seen::Kept => self.tree.read(file, at, into),
-            Seen::File(bytes) => {
+    fn read(&mut self, file: &TreePath, at: u64, into: &mut [u8]) -> Result<usize, TreeFault>
+        requires { ForSome (edited_told self.old.edits (T.files self.old.tree)) (λ f. IsFileAt f file.now) }
+        ensures told { IfSome (edited_told self.old.edits (T.files self.old.tree)) (λ f. IfOk result (IsRead (bytes_of (node_at f file.now)) at into.old into.new)) }
+        ensures count { IfOk result (λ n. n ≤ length into.old) }
+        ensures wrong_kind { IsNoFile self.old.edits file.now → IfOk result (λ n. n ≡ 0) }
+        ensures failed { IsErrOf result TreeFault.Failed → Rose (T.faults self.old.tree) (T.faults self.new.tree) }
+        ensures is_tree { IfSome (edited_told self.old.edits (T.files self.old.tree)) IsTree }
+        ensures files_stay { edited_told self.new.edits (T.files self.new.tree) ≡ edited_told self.old.edits (T.files self.old.tree) }
+        ensures faults_grow { T.faults self.old.tree ≤ T.faults self.new.tree }
+        ensures lists_stay { raised (T.lists self.new.tree) self.new.more ≡ raised (T.lists self.old.tree) self.old.more }
+    {
+        match bytes_put(fate_of(&self.edits, file.parts())) {
+            None => self.tree.read(file, at, into),
+            Some(bytes) => {
                 self.tree.stamp(file)?;
-                Ok(copy_from(bytes.as_slice(), at, into))
-            }
-            _ => {
-                self.tree.stamp(file)?;
-                Ok(0)
+                Ok(copy_from(bytes, at, into))
             }
         }
     }
