@@ -3,7 +3,7 @@ use Rattle.std.proofs.Common.{◌≡◌, ◌∙◌, refl, sym, ap, ℕ, List, []
 use Rattle.std.specs.Cmp.Lexicographic.{pointwise, nat_list_eq_equiv}
 use Rattle.std.specs.List.{cons_option}
 use Rattle.base_types.specs.Path.{Path}
-use Rattle.tree_files.specs.Files.{Files, node_at, has_name, is_dir, IsListing}
+use Rattle.tree_files.specs.Files.{Files, node_at, has_name, IsListing}
 use Rattle.tree_files.specs.Edits.{is_within, edited}
 use Rattle.tree_files.specs.declared.tree.Node.{Node}
 use Rattle.tree_files.specs.declared.tree.Node.TheVariants.{File, Dir}
@@ -17,9 +17,9 @@ abbrev is_it : List ℕ → Option (List ℕ) → Bool
 is_it name None = false
 is_it name (Some other) = pointwise nat_eq other name
 
-below_part : (a b : Bool) (name : List ℕ) (o : Option (List ℕ)) (w : Bool) → (w ≡ true → is_it name o ≡ true) → a && w ≡ true → is_it name (if a then o else None) ≡ true
-below_part true b name o w below e = below e
-below_part false b name o w below e = cc
+below_part : (a : Bool) (name : List ℕ) (o : Option (List ℕ)) (w : Bool) → (w ≡ true → is_it name o ≡ true) → a && w ≡ true → is_it name (if a then o else None) ≡ true
+below_part true name o w below e = below e
+below_part false name o w below e = cc
 
 left : (a b : Bool) → a && b ≡ true → a ≡ true
 left true b e = refl
@@ -30,7 +30,7 @@ below_name : (dir : Path) (name : List ℕ) (p : Path) → is_within (dir ++ nam
 below_name [] name [] e = cc
 below_name [] name (y ∷ p) e = nat_list_eq_equiv.symm y name ∙ left _ _ e
 below_name (x ∷ dir) name [] e = cc
-below_name (x ∷ dir) name (y ∷ p) e = below_part (pointwise nat_eq x y) true name (part_after dir p) _ (below_name dir name p) e
+below_name (x ∷ dir) name (y ∷ p) e = below_part (pointwise nat_eq x y) name (part_after dir p) _ (below_name dir name p) e
 
 -- the same path lies within it
 same_within : (p q : Path) → is_same q p ≡ true → is_within p q ≡ true

@@ -1,5 +1,5 @@
 -- Names that are gathered one after another.
-use Rattle.std.proofs.Common.{◌≡◌, ◌∙◌, refl, sym, ap, ℕ, ◌+◌, ◌<◌, List, [], ◌∷◌, ◌++◌, Bool, true, false, cond, ◌&&◌, ◌||◌, length, take, get_or, nat_eq, Option, Some, None}
+use Rattle.std.proofs.Common.{◌≡◌, ◌∙◌, refl, sym, ap, ℕ, ◌+◌, ◌<◌, List, [], ◌∷◌, Bool, true, false, cond, ◌&&◌, ◌||◌, length, take, get_or, nat_eq}
 use Rattle.std.proofs.lemmas.List.{take_more}
 use Rattle.std.proofs.lemmas.List.Elements.{filter_map-append}
 use Rattle.std.proofs.lemmas.List.Folds.{list_any-append}
@@ -7,7 +7,7 @@ use Rattle.std.specs.List.{list_any}
 use Rattle.std.specs.Ordering.{nat_cmp, is_eq}
 use Rattle.std.specs.BTreeMap.{is_at}
 use Rattle.std.specs.BTreeSet.{BTreeSet, Updates, contains}
-use Rattle.std.specs.Cmp.Lexicographic.{pointwise, slice_cmp, bytes_decides, nat_list_eq_equiv, texts_ties}
+use Rattle.std.specs.Cmp.Lexicographic.{pointwise, slice_cmp, nat_list_eq_equiv, texts_ties}
 use Rattle.base_types.specs.Path.{Path}
 use Rattle.tree_files.specs.Files.{has_name}
 use Rattle.tree_files.specs.declared.edit.Edit.{Edit}
@@ -38,32 +38,10 @@ pub holds-added : (s n : BTreeSet (List ℕ)) (key name : List ℕ) (wanted : Bo
 holds-added s n key name true w same u other = holds-insert s n key u other ∙ ap (λ k. holds s other || pointwise nat_eq k other) same
 holds-added s n key name false w same u other = cc
 
-wanted_by : (P : List ℕ → Bool) (name other : List ℕ) (b : Bool) → (b ≡ true → name ≡ other) → P name && b ≡ P other && (b || false)
-wanted_by P name other true same = ap (λ x. P x && true) (same refl)
-wanted_by P name other false same = none (P name) (P other) where
-  none : (a b : Bool) → a && false ≡ b && false
-  none true true = refl
-  none true false = refl
-  none false true = refl
-  none false false = refl
-
--- a test of one name, asked of the other that is the same
-pub wanted_there : (P : List ℕ → Bool) (name other : List ℕ) → P name && pointwise nat_eq name other ≡ P other && has_name (name ∷ []) other
-wanted_there P name other = wanted_by P name other (pointwise nat_eq name other) (bytes_decides name other).0
-
 or_later : (first w a b c : Bool) → c ≡ (a || b) → (first || (w && a)) || (w && b) ≡ first || (w && c)
 or_later true w a b c e = refl
 or_later false true a b c e = sym e
 or_later false false a b c e = refl
-
--- one more name
-pub names_next : (names : List (List ℕ)) (i : ℕ) (name other : List ℕ) (first wanted old new : Bool) → i < length names → name ≡ get_or names i name
-    → old ≡ (first || (wanted && has_name (take i names) other)) → new ≡ (old || (wanted && has_name (name ∷ []) other))
-    → new ≡ (first || (wanted && has_name (take (i + 1) names) other))
-names_next names i name other first wanted old new lt is was now =
-    let all : has_name (take (i + 1) names) other ≡ (has_name (take i names) other || has_name (name ∷ []) other) =
-    ap (λ l. has_name l other) (take_more names i name lt) ∙ list_any-append _ (take i names) (get_or names i name ∷ []) ∙ ap (λ n. has_name (take i names) other || has_name (n ∷ []) other) (sym is) in
-    now ∙ ap (λ b. b || (wanted && has_name (name ∷ []) other)) was ∙ or_later first wanted _ _ _ all
 
 -- the names of one more edit
 pub puts_next : (dir : Path) (es : List Edit) (i : ℕ) (e : Edit) (other : List ℕ) (first wanted old new : Bool) → i < length es → e ≡ get_or es i e

@@ -9,7 +9,7 @@ use Rattle.tree_files.specs.declared.tree.Node.{Node}
 use Rattle.tree_files.specs.declared.tree.Node.TheVariants.{File, Dir}
 use Rattle.tree_files.specs.declared.tree.Stamp.{Stamp}
 use Rattle.tree_files.specs.declared.edit.Edit.{Edit}
-use Rattle.tree_overlay.specs.Fates.{Fate, Kept, Way, Put, Gone, node_by, is_same, fate_of}
+use Rattle.tree_overlay.specs.Fates.{Fate, Kept, Way, Put, Gone, node_by, fate_of}
 use Rattle.tree_overlay.specs.Kinds.{IsBelowRoot, IsNoDir, IsNoFile}
 use Rattle.tree_overlay.specs.Names.{IsMerged, is_no_dir}
 use Rattle.tree_overlay.specs.Told.{edited_told}

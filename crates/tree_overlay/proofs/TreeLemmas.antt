@@ -1,9 +1,8 @@
 -- The edited files are a tree.
 use Rattle.std.proofs.Common.{◌≡◌, ◌∙◌, refl, sym, ap, subst, ℕ, ◌<◌, List, [], ◌∷◌, ◌++◌, Bool, true, false, cond, not, ◌&&◌, Option, None, Some, IsTrue, is_some, length, nat_eq, ◌==◌, arith}
 use Rattle.std.specs.Cmp.Lexicographic.{pointwise, nat_list_eq_equiv}
-use Rattle.std.specs.FinMap.{insert}
 use Rattle.base_types.specs.Path.{Path}
-use Rattle.tree_files.specs.Files.{Files, node_at, is_dir, IsDirAt, IsTree}
+use Rattle.tree_files.specs.Files.{Files, node_at, is_dir, IsTree}
 use Rattle.tree_files.specs.Edits.{HasParent, prefixes, with_dirs, is_within, cleared, edited_once, edited}
 use Rattle.tree_files.proofs.EditLemmas.{IsTree-insert, same_after_dirs}
 use Rattle.tree_files.specs.declared.tree.Node.{Node}
@@ -12,7 +11,7 @@ use Rattle.tree_files.specs.declared.edit.Edit.{Edit}
 use Rattle.tree_files.specs.declared.edit.Edit.TheVariants as edit
 use Rattle.tree_overlay.specs.Fates.{Way, node_by, is_same}
 use Rattle.tree_overlay.specs.Kinds.{is_below_root, IsBelowRoot}
-use Rattle.tree_overlay.proofs.FateLemmas.{way_if, among, is_proper, proper_prefixes, node_at-with_dirs, node_at-cleared}
+use Rattle.tree_overlay.proofs.FateLemmas.{way_if, is_proper, proper_prefixes, node_at-with_dirs, node_at-cleared}
 
 left : (a b : Bool) → a && b ≡ true → a ≡ true
 left true b e = refl

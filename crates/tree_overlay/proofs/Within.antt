@@ -1,5 +1,5 @@
 -- Prefixes of paths, and fates one edit after another.
-use Rattle.std.proofs.Common.{◌≡◌, ◌∙◌, refl, sym, ap, ℕ, suc, List, [], ◌∷◌, ◌++◌, ◌+◌, ◌<◌, get_or, Bool, true, false, ◌&&◌, length, take, nat_eq, Option, Some, None, if◌then◌else◌}
+use Rattle.std.proofs.Common.{◌≡◌, ◌∙◌, refl, sym, ap, ℕ, List, [], ◌∷◌, ◌++◌, ◌+◌, ◌<◌, get_or, Bool, true, false, ◌&&◌, length, take, nat_eq, Option, None, if◌then◌else◌}
 use Rattle.std.proofs.lemmas.List.{take_more}
 use Rattle.std.specs.List.{starts_with, slice_get}
 use Rattle.std.specs.Cmp.Lexicographic.{pointwise}

@@ -1,5 +1,5 @@
 -- What edits make of one path, whatever stands there in the tree that is edited.
-use Rattle.std.specs.Prelude.{ℕ, Bool, true, false, List, [], ◌∷◌, ◌&&◌, not, nat_eq, if◌then◌else◌, Option, Some, None}
+use Rattle.std.specs.Prelude.{Bool, List, [], ◌∷◌, nat_eq, if◌then◌else◌, Option, Some, None}
 use Rattle.std.specs.Cmp.Lexicographic.{pointwise}
 use Rattle.base_types.specs.Path.{Path}
 use Rattle.tree_files.specs.Files.{is_dir}

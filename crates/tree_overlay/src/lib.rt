@@ -1,8 +1,11 @@
-//! A tree whose files are those of another tree after edits.
+//! A tree whose files are those of another tree after edits: of a file, a directory or what is to
+//! go.
 #![tactic(auto)]
 
 mod fate;
 mod names;
 mod overlay;
+#[cfg(test)]
+mod tests;
 
-pub use overlay::Overlay;
+pub use overlay::{Overlay, are_below_root};

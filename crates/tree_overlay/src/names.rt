@@ -25,7 +25,8 @@ fn part_after<'a>(dir: &TreePath, path: &'a TreePath) -> Option<&'a Text>
     }
 }
 
-fn path_of(edit: &Edit) -> &TreePath
+/// The path that an edit names.
+pub fn path_of(edit: &Edit) -> &TreePath
     ensures { result.now ≡ path_of edit.now }
 {
     match edit {

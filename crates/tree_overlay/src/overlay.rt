@@ -1,13 +1,14 @@
 //! A tree after edits.
 ghost use Rattle.std.specs.Prelude.{◌≡◌, ◌≤◌, ◌+◌, ℕ, List, [], ◌∷◌, ◌++◌, length, is_some, IfOk, IfSome, IsErrOf, OnOk, OnErr, Option};
 ghost use Rattle.std.specs.Option.{ForSome};
+ghost use Rattle.std.specs.List.{list_all};
 ghost use Rattle.tree_files.specs.Count.{Rose, raised};
 ghost use Rattle.tree_files.specs.Files.{IsTree, IsDirAt, IsFileAt, IsListing, IsRead, node_at, has_name, stamp_of, bytes_of};
-ghost use Rattle.tree_overlay.specs.Kinds.{IsBelowRoot, IsNoDir, IsNoFile};
+ghost use Rattle.tree_overlay.specs.Kinds.{is_below_root, IsBelowRoot, IsNoDir, IsNoFile};
 ghost use Rattle.tree_overlay.specs.Told.{edited_told};
 
 use crate::fate::{bytes_put, fate_of, is_no_dir, stamp_by};
-use crate::names::merged;
+use crate::names::{merged, path_of};
 use base_types::{Exact, NoMemory, Seq, Texts, TreePath};
 use std::alloc::Global;
 use tree_files::{Edit, Stamp, Tree, TreeFault};
@@ -139,6 +140,19 @@ impl<T: Tree> Tree for Overlay<T> {
             }
         }
     }
+}
+
+/// Whether each edit has a path of at least one part, as `Overlay::open` and `Overlay::edit` ask.
+pub fn are_below_root(edits: &[Edit]) -> bool
+    ensures { result ≡ list_all is_below_root edits.now }
+{
+    edits.iter().all(|edit| is_below_root(edit))
+}
+
+fn is_below_root(edit: &Edit) -> bool
+    ensures { result ≡ is_below_root edit.now }
+{
+    !path_of(edit).parts().is_empty()
 }
 
 /// Edits with others behind them.

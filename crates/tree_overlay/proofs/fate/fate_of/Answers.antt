@@ -1,4 +1,4 @@
-use Rattle.std.proofs.Common.{◌≡◌, ◌∙◌, ◌<◌, sym, ap, length, get_or, arith}
+use Rattle.std.proofs.Common.{◌∙◌, ◌<◌, sym, ap, length, get_or, arith}
 use Rattle.tree_overlay.specs.Fates.{after}
 use Rattle.tree_overlay.proofs.Within.{fate_next}
 use Rattle.tree_overlay.proofs.fate.fate_of.Goals as goal

@@ -1,4 +1,4 @@
-use Rattle.std.proofs.Common.{◌≡◌, ◌∙◌, ◌<◌, ap, length, get_or, arith}
+use Rattle.std.proofs.Common.{◌∙◌, ◌<◌, ap, length, get_or, arith}
 use Rattle.tree_overlay.proofs.NameLemmas.{puts_next}
 use Rattle.tree_overlay.proofs.names.add_put.Goals as goal
 
