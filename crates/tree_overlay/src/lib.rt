@@ -5,7 +5,5 @@
 mod fate;
 mod names;
 mod overlay;
-#[cfg(test)]
-mod tests;
 
 pub use overlay::{Overlay, are_below_root};

@@ -135,6 +135,7 @@ impl<T: Tree> Tree for Overlay<T> {
         match bytes_put(fate_of(&self.edits, file.parts())) {
             None => self.tree.read(file, at, into),
             Some(bytes) => {
+                // Only a call shows that the files inside are a tree.
                 self.tree.stamp(file)?;
                 Ok(copy_from(bytes, at, into))
             }
