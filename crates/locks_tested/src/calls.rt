@@ -46,16 +46,16 @@ fn take_by<L: Ledger>(
 }
 
 fn closes(locks: &Locks, thread: u32, name: &Dotted) -> &'static str {
-    closes_by::<Brand>(locks, thread, name, Blank::new(1))
+    yes(closes_by::<Brand>(locks, thread, name, Blank::new(1)))
 }
 
-fn closes_by<L: Ledger>(locks: &Locks, thread: u32, name: &Dotted, blank: Blank) -> &'static str
+fn closes_by<L: Ledger>(locks: &Locks, thread: u32, name: &Dotted, blank: Blank) -> bool
     requires name { blank.name ≡ L.name }
     requires parts { blank.parts ≡ L.parts }
     requires some { 0 < L.parts }
 {
     let mut steps = Steps::<L>::new(blank);
-    yes(locks.closes(thread, name, &mut steps))
+    locks.closes(thread, name, &mut steps)
 }
 
 fn waiters(alloc: Global, locks: &Locks, name: &Dotted) -> Result<String, Fail> {
