@@ -1,4 +1,4 @@
-//! The words of the command line, read to plans, and the rounds files that they may name.
+//! The words of the command line, read to plans.
 #![tactic(auto)]
 
 mod command;
@@ -14,4 +14,3 @@ mod tests;
 pub use command::usage_line;
 pub use plan::{Plan, RunPlan, WordsError};
 pub use read::read_words;
-pub use rounds_text::{Round, Rounds, RoundsError, read_rounds};

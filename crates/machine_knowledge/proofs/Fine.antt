@@ -486,7 +486,7 @@ module _ (s : State) (keeps : AreNamed s.table) (t : ℕ) where
   enters mid n (Some r) = busy r.mid (slice_get s.table.objects r.mid) refl
   enters mid n None =
       let after : State = record s { table = with_reload s.table n (record { thread = t; mid = mid; load = None }) } in
-      plain s (replies.Begun s.table.epoch) after (refl, refl, refl) (grow_same s.table.objects) (same_named after.table (λ i less. less) refl refl refl)
+      plain s (replies.Begun s.table.epoch) after (refl, refl, refl) (grow_same s.table.objects) (same_named after.table refl refl refl)
 
   begins : (mid : ℕ) (raw : Bool) (o : Option Object) → Fine s (reload_begin_on s t mid raw o)
   begins mid raw None = still s keeps replies.NotThere s (refl, refl, refl) refl
@@ -592,12 +592,11 @@ module _ (s : State) (keeps : AreNamed s.table) (t : ℕ) where
       let after : State = record s { table = with_main s.table t spec text } in
       let f : Object → Object = λ object. record object { vars = main_vars spec object.vars } in
       let g : Grow s.table.objects after.table.objects = grow_changed f (λ o. (refl, λ h. h)) s.table.objects t in
-      let more : More s.table after.table = λ i less. subst (λ k. i < k) (sym (changed_length (λ load. record load { text = text }) s.table.loads t)) less in
       plain s replies.Done after (refl, refl, refl) g
-      (named_grown s.table after.table keeps g more (λ n m is. inl is) (inl refl)
+      (named_grown s.table after.table keeps g (λ i less. less) (λ n m is. inl is) (inl refl)
       (λ i o is. elim (changed_at f s.table.objects t i o is) [
         | inl old ↦ inl old
-        | inr new ↦ inr (let has = has_grow s.table after.table g more new.0 (keeps.objects i new.0 new.1) in subst (HasNames after.table) (sym new.2) (record { vars = main_fits after.table new.0.ns spec new.0.vars has.vars; state = has.state }))
+        | inr new ↦ inr (let has = has_grow s.table after.table g (λ i less. less) new.0 (keeps.objects i new.0 new.1) in subst (HasNames after.table) (sym new.2) (record { vars = main_fits after.table new.0.ns spec new.0.vars has.vars; state = has.state }))
       ]))
 
 untrue : (b : Bool) → not b ≡ true → b ≡ false

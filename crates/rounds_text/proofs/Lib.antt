@@ -1,9 +1,3 @@
 mod Places
 mod Fronts
 mod Steps
-mod Cuts
-mod Sayings
-mod Going
-mod Found
-mod Only
-mod Refused

@@ -1,5 +1,3 @@
 pub mod Spelling
 pub mod Lines
 pub mod Reading
-pub mod Grammar
-pub mod Refusing

@@ -2,7 +2,6 @@
 #![tactic(auto)]
 
 mod draft;
-mod laws;
 mod line;
 mod place;
 mod read;
@@ -10,6 +9,5 @@ mod rounds;
 #[cfg(test)]
 mod tests;
 
-pub use laws::{at_most_one_list, the_first_line_that_does_not_go_on, what_is_spelled_is_read};
 pub use read::read_rounds;
 pub use rounds::{Round, Rounds, RoundsError};

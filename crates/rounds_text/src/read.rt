@@ -1,7 +1,6 @@
 //! From bytes to rounds.
 ghost use Rattle.std.specs.Prelude.{◌≡◌, ◌∷◌, [], ◌++◌, ◌-◌, ◌^◌, min, map, IfOk};
 ghost use Rattle.rounds_text.specs.Reading.{Reads, pieces, read_on, rounds_in, start};
-ghost use Rattle.rounds_text.specs.Refusing.{Says};
 
 use crate::draft::{ended, next, start};
 use crate::rounds::{Rounds, RoundsError};
@@ -56,21 +55,13 @@ fn read_pieces(alloc: Global, pieces: &[&[u8]]) -> Result<Rounds, RoundsError>
     }
 }
 
+/// The rounds that a rounds file says, or the first line at which no rounds file goes on.
 #[tactic(auto, unfolding(crate::specs::Reading::rounds_in))]
-fn read_by_line(alloc: Global, bytes: &[u8]) -> Result<Rounds, RoundsError>
+pub fn read_rounds(alloc: Global, bytes: &[u8]) -> Result<Rounds, RoundsError>
     ensures { Reads (rounds_in bytes.now) result }
 {
     match pieces_of(alloc, bytes) {
         Ok(pieces) => read_pieces(alloc, pieces.as_slice()),
         Err(_) => Err(RoundsError::NoMemory),
     }
-}
-
-/// The rounds that a rounds file says, or the first line at which no rounds file goes on.
-#[tactic(auto, using(crate::proofs::Refused::says_from))]
-pub fn read_rounds(alloc: Global, bytes: &[u8]) -> Result<Rounds, RoundsError>
-    ensures lines { Reads (rounds_in bytes.now) result }
-    ensures says { Says bytes.now result }
-{
-    read_by_line(alloc, bytes)
 }

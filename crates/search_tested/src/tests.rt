@@ -6,10 +6,8 @@ use path_finder::{Found, Look, LookIn, LookWant, Probe, load_text};
 use py_value::{Items, Value};
 use spec_core::{Dotted, SpecKind};
 use std::fs;
-use std::fs::Permissions;
-use std::os::unix::fs::PermissionsExt;
 use std::test::Fail;
-use tree_files::{MemTree, RealTree, Stamp, Tree, TreeFault};
+use tree_files::{MemTree, RealTree, Stamp, Tree};
 
 /// The files of a tree, the entries of a path with `:` between, a name, and what importlib's
 /// PathFinder of CPython 3.12 answers for the same folders. A `/` ends the name of a folder, and `#`
@@ -124,7 +122,7 @@ fn shown(rt: &HostRuntime, want: &LookWant) -> Result<String, Fail> {
     Ok(shown)
 }
 
-/// What a search answers, or that the tree failed, where each kept listing that it asks for says this.
+/// What a search answers, where each kept listing that it asks for says this.
 fn searched<T: Tree>(
     rt: &HostRuntime,
     tree: &mut T,
@@ -136,11 +134,7 @@ fn searched<T: Tree>(
     let mut look = Look::start(name, entries(rt, path)?)?;
     let mut input = LookIn::Start;
     for _ in 0..1000 {
-        let want = match look.next(tree, input) {
-            Ok(want) => want,
-            Err(TreeFault::Failed) => return Ok(String::from_str(rt.alloc(), "failed")?),
-            Err(fault) => return Err(fault.into()),
-        };
+        let want = look.next(tree, input)?;
         match answer_to(&want, kept) {
             Some(next) => input = next,
             None => return shown(rt, &want),
@@ -229,31 +223,6 @@ fn a_search_in_a_real_folder(rt: HostRuntime) -> Result<(), Fail> {
     path.push_str(":d")?;
     let found = searched(&rt, &mut tree, path.as_str(), "é", None)?;
     assert_eq!(rt; found.as_str(), "module d/é.py");
-    fs::remove_dir_all(&rt, folder)?;
-    Ok(())
-}
-
-#[test]
-fn an_unreadable_folder_fails_where_it_is_listed(rt: HostRuntime) -> Result<(), Fail> {
-    let folder = "path_finder_shut";
-    let shut = "path_finder_shut/a";
-    fs::create_dir_all(&rt, shut)?;
-    fs::create_dir_all(&rt, "path_finder_shut/b")?;
-    fs::write(&rt, "path_finder_shut/b/c.py", b"".as_slice())?;
-    fs::set_permissions(&rt, shut, Permissions::from_mode(0))?;
-    // Who may read everything reads this too.
-    let is_shut = fs::read_dir(&rt, shut).is_err();
-    let mut tree = RealTree::at(rt, text(&rt, folder)?);
-    let found = searched(&rt, &mut tree, "b:a", "c", None)?;
-    assert_eq!(rt; found.as_str(), "module b/c.py");
-    let at = path(&rt, "a")?;
-    assert!(rt; matches!(tree.stamp(&at), Ok(Stamp::Dir(_))));
-    if is_shut {
-        assert!(rt; matches!(tree.list(&at), Err(TreeFault::Failed)));
-        let found = searched(&rt, &mut tree, "a:b", "c", None)?;
-        assert_eq!(rt; found.as_str(), "failed");
-    }
-    fs::set_permissions(&rt, shut, Permissions::from_mode(0o700))?;
     fs::remove_dir_all(&rt, folder)?;
     Ok(())
 }

@@ -1,0 +1,4 @@
+pub mod Ends
+pub mod Refused
+pub mod LastToken
+pub mod OneAnswer

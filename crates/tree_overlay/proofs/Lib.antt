@@ -1,6 +1,0 @@
-pub mod FateLemmas
-pub mod Merging
-pub mod NameLemmas
-pub mod Overlaid
-pub mod TreeLemmas
-pub mod Within

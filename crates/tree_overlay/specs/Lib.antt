@@ -1,6 +1,0 @@
-pub mod Fates
-pub mod Gathered
-pub mod Kinds
-pub mod Names
-pub mod Seen
-pub mod Told
