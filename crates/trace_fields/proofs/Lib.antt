@@ -1,0 +1,4 @@
+pub mod Cuts
+pub mod Closed
+pub mod Names
+pub mod Quoting

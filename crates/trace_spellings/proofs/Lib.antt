@@ -1,0 +1,5 @@
+pub mod Bytes
+pub mod Naming
+pub mod Sources
+pub mod Decimals
+pub mod Held

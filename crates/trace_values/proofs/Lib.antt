@@ -1,0 +1,5 @@
+pub mod Items
+pub mod Pieces
+pub mod Whole
+pub mod Signs
+pub mod Paths
