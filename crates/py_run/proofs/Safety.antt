@@ -18,9 +18,9 @@ use Rattle.thread_knowledge.specs.Holdings.{Holding, Taken, Loading, without, be
 use Rattle.thread_knowledge.specs.Shown.{Shown, Running, shown_first, shown_more, holds, does, modules_at, modules_in, loads_at, loads_in, named, numbered}
 use Rattle.thread_knowledge.specs.Knowing.{Has, HasAll}
 use Rattle.meanings.specs.Runs.{Run, Safe, Pays, Makes, Looks, StampOf}
-use Rattle.py_parser.specs.Sources.{script_of}
-use Rattle.py_parser.specs.declared.script.Stmt.{Stmt}
-use Rattle.py_parser.specs.declared.script.Stmt.TheVariants.{Import, Print}
+use Rattle.stage_parser.specs.Sources.{script_of}
+use Rattle.stage_parser.specs.declared.script.Stmt.{Stmt}
+use Rattle.stage_parser.specs.declared.script.Stmt.TheVariants.{Import, Print}
 use Rattle.py_run.specs.Errors.{halted, not_found, deadlock, lost, too_long, too_deep, text_too_long, not_built, no_reply}
 use Rattle.py_run.specs.declared.flow.Flow.{Flow}
 use Rattle.py_run.specs.declared.flow.Flow.TheVariants.{On, Found, Raised}

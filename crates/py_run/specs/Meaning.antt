@@ -14,9 +14,9 @@ use Rattle.machine_events.specs.declared.event.Reply.TheVariants as r
 use Rattle.machine_events.specs.declared.event.Outcome.{Outcome}
 use Rattle.machine_events.specs.declared.event.Outcome.TheVariants as o
 use Rattle.meanings.specs.Runs.{Run, Over, Pays, Looks, Makes, Ended, StampOf, TextOf, make}
-use Rattle.py_parser.specs.Sources.{script_of}
-use Rattle.py_parser.specs.declared.script.Stmt.{Stmt}
-use Rattle.py_parser.specs.declared.script.Stmt.TheVariants.{Import, Print}
+use Rattle.stage_parser.specs.Sources.{script_of}
+use Rattle.stage_parser.specs.declared.script.Stmt.{Stmt}
+use Rattle.stage_parser.specs.declared.script.Stmt.TheVariants.{Import, Print}
 use Rattle.py_run.specs.Errors.{halted, not_found, deadlock, lost, too_long, too_deep, text_too_long, not_built, no_reply}
 use Rattle.py_run.specs.declared.flow.Flow.{Flow}
 use Rattle.py_run.specs.declared.flow.Flow.TheVariants.{On, Found, Raised}

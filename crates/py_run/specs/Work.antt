@@ -4,8 +4,8 @@ use Rattle.py_value.specs.declared.value.Raised.{Raised as Error}
 use Rattle.machine_events.specs.declared.event.Event.TheVariants as e
 use Rattle.thread_knowledge.specs.Holdings.{Holding, Taken, Loading}
 use Rattle.meanings.specs.Runs.{Run, Makes}
-use Rattle.py_parser.specs.Sources.{script_of}
-use Rattle.py_parser.specs.declared.script.Stmt.{Stmt}
+use Rattle.stage_parser.specs.Sources.{script_of}
+use Rattle.stage_parser.specs.declared.script.Stmt.{Stmt}
 use Rattle.py_run.specs.Errors.{halted, not_found, deadlock, lost, too_long, too_deep, text_too_long, not_built, no_reply}
 use Rattle.py_run.specs.Meaning.{Onward, fails, bodies, imports, asks, takes, finds, searches, adds, gives_back, finishes, statements, statement, argument, binds, on_good, ends}
 use Rattle.py_run.specs.declared.flow.Flow.TheVariants.{On, Found, Raised}

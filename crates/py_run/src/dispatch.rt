@@ -12,7 +12,7 @@ use crate::why::Why;
 use crate::work::{Item, Lead, Reading, Step};
 use base_types::NoMemory;
 use machine_book::Desk;
-use py_parser::Stmt;
+use stage_parser::Stmt;
 use py_value::{ModRef, Raised};
 use tree_files::Tree;
 

@@ -4,7 +4,7 @@ ghost use Rattle.std.specs.Prelude.{◌≡◌, List, [], ◌∷◌, MatchOption,
 use crate::flow::Flow;
 use crate::why::Why;
 use base_types::{NoMemory, Seq, Text};
-use py_parser::Stmt;
+use stage_parser::Stmt;
 use py_value::Raised;
 use spec_core::Dotted;
 use std::alloc::Global;

@@ -6,7 +6,7 @@ ghost use Rattle.machine_events.specs.declared.event.Event.{Event};
 ghost use Rattle.machine_events.specs.declared.event.Event.TheVariants as ev;
 ghost use Rattle.machine_events.specs.declared.event.Reply.{Reply};
 ghost use Rattle.machine_book.specs.Sight.{Sight, IsReady, Continues};
-ghost use Rattle.py_parser.specs.Sources.{script_of};
+ghost use Rattle.stage_parser.specs.Sources.{script_of};
 ghost use Rattle.py_run.specs.declared.flow.Flow.TheVariants as flows;
 ghost use Rattle.py_run.specs.Meaning as spec;
 ghost use Rattle.py_run.specs.Meaning.{Onward, bodies};
@@ -20,7 +20,7 @@ use crate::work::{Hold, Import, Item, Lead, Step};
 use base_types::{Exact, NoMemory, Seq, Text};
 use machine_book::Desk;
 use machine_events::{Event, Reply};
-use py_parser::{ParseError, parse};
+use stage_parser::{ParseError, parse};
 use py_value::{Raised, Value, size};
 use spec_core::{Dotted, Spec, SpecKind};
 

@@ -22,7 +22,7 @@ use crate::work::{Import, Item, Lead, Step};
 use base_types::{Exact, NoMemory, Seq, Text};
 use machine_book::Desk;
 use machine_events::{Event, Reply};
-use py_parser::Stmt;
+use stage_parser::Stmt;
 use py_value::{ModRef, Value};
 use spec_core::{Dotted, KnownName};
 

@@ -1,6 +1,6 @@
 use Rattle.std.proofs.Common.{◌-◌, false, subst, arith}
 use Rattle.meanings.specs.Runs.{Run, Stands}
-use Rattle.py_parser.specs.Sources.{script_of}
+use Rattle.stage_parser.specs.Sources.{script_of}
 use Rattle.py_run.specs.Meaning.{imports, parsed}
 use Rattle.py_run.proofs.Turns.{bodies_more}
 use Rattle.py_run.proofs.steps.bodies.start.Goals as goal

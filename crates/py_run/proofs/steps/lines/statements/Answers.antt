@@ -1,6 +1,6 @@
 use Rattle.std.proofs.Common.{◌≡◌, ◌+◌, ◌∷◌, [], List, drop, sym, subst}
 use Rattle.meanings.specs.Runs.{Stands}
-use Rattle.py_parser.specs.declared.script.Stmt.{Stmt}
+use Rattle.stage_parser.specs.declared.script.Stmt.{Stmt}
 use Rattle.py_run.specs.Meaning.{imports, statements}
 use Rattle.py_run.proofs.Drops.{drop_none, drop_some}
 use Rattle.py_run.proofs.steps.lines.statements.Goals as goal

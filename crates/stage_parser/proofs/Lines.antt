@@ -3,10 +3,10 @@ use Rattle.std.proofs.Common.{◌≡◌, refl, ap, ◌∙◌, add-one, ℕ, ◌+
 use Rattle.std.proofs.lemmas.Bool.{eqb-true}
 use Rattle.std.specs.Option.{option_map}
 use Rattle.std.proofs.lemmas.List.{append_assoc}
-use Rattle.py_parser.specs.declared.script.Stmt.{Stmt}
-use Rattle.py_parser.specs.declared.source.ParseError.{ParseError}
-use Rattle.py_parser.specs.declared.source.ParseError.TheVariants as error
-use Rattle.py_parser.specs.Sources.{statements_of, statement_of, after_statement, Reads, Parses}
+use Rattle.stage_parser.specs.declared.script.Stmt.{Stmt}
+use Rattle.stage_parser.specs.declared.source.ParseError.{ParseError}
+use Rattle.stage_parser.specs.declared.source.ParseError.TheVariants as error
+use Rattle.stage_parser.specs.Sources.{statements_of, statement_of, after_statement, Reads, Parses}
 
 abbrev pub behind : List Stmt → Option (List Stmt) → Option (List Stmt)
 behind body more = option_map (λ rest. body ++ rest) more

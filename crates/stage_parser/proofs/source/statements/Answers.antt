@@ -1,8 +1,8 @@
 use Rattle.std.proofs.Common.{sym, arith, rules}
 use Rattle.std.proofs.lemmas.Result.{err_from_is_err_and}
-use Rattle.py_parser.proofs.Lines.{after_empty, after_full, refused}
-use Rattle.py_parser.proofs.source.statements.Goals as goal
-use Rattle.py_parser.proofs.source.statements.Goals.{then-not-is_empty+else-n-lines+in_ok-statement+in_ok-push, else-not-is_empty}
+use Rattle.stage_parser.proofs.Lines.{after_empty, after_full, refused}
+use Rattle.stage_parser.proofs.source.statements.Goals as goal
+use Rattle.stage_parser.proofs.source.statements.Goals.{then-not-is_empty+else-n-lines+in_ok-statement+in_ok-push, else-not-is_empty}
 
 pub loop-n-preserved : goal.loop-n-preserved
 loop-n-preserved c =

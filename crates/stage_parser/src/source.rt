@@ -2,7 +2,7 @@
 ghost use Rattle.std.specs.Prelude.{◌≡◌, ◌==◌, IfOk, map};
 ghost use Rattle.std.specs.List.{list_all, slice_split};
 ghost use Rattle.std.specs.Str.{IsUtf8};
-ghost use Rattle.py_parser.specs.Sources.{Parses, Reads, script_of, statements_of, statement_of, import_of, print_of, is_letter, is_letter_or_digit, is_ascii_name, is_plain};
+ghost use Rattle.stage_parser.specs.Sources.{Parses, Reads, script_of, statements_of, statement_of, import_of, print_of, is_letter, is_letter_or_digit, is_ascii_name, is_plain};
 
 use crate::script::{Script, Stmt};
 use base_types::{NoMemory, Seq, Text};
@@ -19,7 +19,7 @@ pub enum ParseError {
 
 impl From<NoMemory> for ParseError {
     ghost use Rattle.std.specs.Prelude.{◌≡◌};
-    ghost use Rattle.py_parser.specs.declared.source.ParseError.TheVariants as error;
+    ghost use Rattle.stage_parser.specs.declared.source.ParseError.TheVariants as error;
 
     ghost from_gives = { λ _ e. e ≡ error.NoMemory };
 
@@ -30,7 +30,7 @@ impl From<NoMemory> for ParseError {
 
 impl From<AllocError> for ParseError {
     ghost use Rattle.std.specs.Prelude.{◌≡◌};
-    ghost use Rattle.py_parser.specs.declared.source.ParseError.TheVariants as error;
+    ghost use Rattle.stage_parser.specs.declared.source.ParseError.TheVariants as error;
 
     ghost from_gives = { λ _ e. e ≡ error.NoMemory };
 

@@ -5,11 +5,11 @@ use Rattle.std.specs.Prelude.{ℕ, Bool, false, not, ◌&&◌, ◌||◌, ◌==�
 use Rattle.std.specs.List.{list_all, slice_split}
 use Rattle.std.specs.Cmp.Lexicographic.{pointwise}
 use Rattle.spec_core.specs.Identifiers.{is_dotted}
-use Rattle.py_parser.specs.declared.script.Stmt.{Stmt}
-use Rattle.py_parser.specs.declared.script.Stmt.TheVariants.{Import, Print}
-use Rattle.py_parser.specs.declared.script.Script.{Script}
-use Rattle.py_parser.specs.declared.source.ParseError.{ParseError}
-use Rattle.py_parser.specs.declared.source.ParseError.TheVariants as error
+use Rattle.stage_parser.specs.declared.script.Stmt.{Stmt}
+use Rattle.stage_parser.specs.declared.script.Stmt.TheVariants.{Import, Print}
+use Rattle.stage_parser.specs.declared.script.Script.{Script}
+use Rattle.stage_parser.specs.declared.source.ParseError.{ParseError}
+use Rattle.stage_parser.specs.declared.source.ParseError.TheVariants as error
 
 abbrev pub is_between : ℕ → ℕ → ℕ → Bool
 is_between low high b = nat_le low b && nat_le b high

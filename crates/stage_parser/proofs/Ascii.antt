@@ -5,7 +5,7 @@ use Rattle.std.specs.List.{list_all}
 use Rattle.std.specs.Str.{IsUtf8, IsAscii}
 use Rattle.std.proofs.lemmas.Bool.{and_parts, leb-true, eqb-true, or_cases}
 use Rattle.std.proofs.lemmas.Str.{IsUtf8-from_ascii}
-use Rattle.py_parser.specs.Sources.{is_letter, is_letter_or_digit, is_ascii_name, is_plain, is_between}
+use Rattle.stage_parser.specs.Sources.{is_letter, is_letter_or_digit, is_ascii_name, is_plain, is_between}
 
 ascii : (p : ℕ → Bool) → ((b : ℕ) → p b ≡ true → b < 128) → (bs : List ℕ) → list_all p bs ≡ true → IsAscii bs
 ascii p low [] e i = omega arith
