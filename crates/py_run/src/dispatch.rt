@@ -12,8 +12,8 @@ use crate::why::Why;
 use crate::work::{Item, Lead, Reading, Step};
 use base_types::NoMemory;
 use machine_book::Desk;
-use stage_parser::Stmt;
 use py_value::{ModRef, Raised};
+use stage_parser::Stmt;
 use tree_files::Tree;
 
 /// An item that a module comes to, which only a binding looks for.

@@ -4,9 +4,9 @@ ghost use Rattle.std.specs.Prelude.{◌≡◌, List, [], ◌∷◌, MatchOption,
 use crate::flow::Flow;
 use crate::why::Why;
 use base_types::{NoMemory, Seq, Text};
-use stage_parser::Stmt;
 use py_value::Raised;
 use spec_core::Dotted;
+use stage_parser::Stmt;
 use std::alloc::Global;
 use std::marker::Model;
 

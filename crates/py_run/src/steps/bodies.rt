@@ -20,9 +20,9 @@ use crate::work::{Hold, Import, Item, Lead, Step};
 use base_types::{Exact, NoMemory, Seq, Text};
 use machine_book::Desk;
 use machine_events::{Event, Reply};
-use stage_parser::{ParseError, parse};
 use py_value::{Raised, Value, size};
 use spec_core::{Dotted, Spec, SpecKind};
+use stage_parser::{ParseError, parse};
 
 /// The units that are paid for a reply that has a path.
 fn path_units(reply: Reply) -> u64

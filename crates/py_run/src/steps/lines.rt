@@ -22,9 +22,9 @@ use crate::work::{Import, Item, Lead, Step};
 use base_types::{Exact, NoMemory, Seq, Text};
 use machine_book::Desk;
 use machine_events::{Event, Reply};
-use stage_parser::Stmt;
 use py_value::{ModRef, Value};
 use spec_core::{Dotted, KnownName};
+use stage_parser::Stmt;
 
 /// The next statement of a body, and then the rest.
 pub fn statements(mid: u32, stmts: Seq<Stmt>, at: usize, left: u32) -> Result<Step, NoMemory>
