@@ -1,0 +1,5 @@
+pub mod Ends
+pub mod Refused
+pub mod LastToken
+pub mod OneAnswer
+pub mod Answers

@@ -1,0 +1,32 @@
+use Rattle.std.proofs.Common.{◌≡◌, List, Ok, Err, sym, subst}
+use Rattle.py_lexer.specs.Source.{Tokens}
+use Rattle.py_lexer.specs.declared.word.Token.{Token}
+use Rattle.py_parser.specs.declared.error.ParseError.{ParseError}
+use Rattle.py_parser.specs.Parses.{Parses, Told_error}
+use Rattle.py_parser.proofs.LastToken.{tokens_end}
+use Rattle.py_parser.proofs.OneAnswer.{told_only}
+use Rattle.py_parser.proofs.Answers.{told_lexer, told_parsed}
+use Rattle.py_parser.proofs.source.parse.Goals as goal
+
+pub parsed-requires : goal.parsed-requires
+parsed-requires c =
+    let same : c.in-Ok.tokens ≡ c.as_slice.result.now = cc in
+    tokens_end c.args.src.now c.as_slice.result.now (subst (λ (l : List Token). Tokens c.args.src.now (Ok l)) same c.in-Ok.ensures.given)
+
+pub returns-in-Ok-clause-given : goal.returns-in-Ok-clause-given
+returns-in-Ok-clause-given c =
+    let same : c.in-Ok.tokens ≡ c.as_slice.result.now = cc in
+    told_parsed c.args.src.now c.as_slice.result.now c.parsed.result (subst (λ (l : List Token). Tokens c.args.src.now (Ok l)) same c.in-Ok.ensures.given) c.parsed.ensures
+
+pub returns-in-Ok-clause-only : goal.returns-in-Ok-clause-only
+returns-in-Ok-clause-only c =
+    let same : c.in-Ok.tokens ≡ c.as_slice.result.now = cc in
+    told_only c.args.src.now c.parsed.result (told_parsed c.args.src.now c.as_slice.result.now c.parsed.result (subst (λ (l : List Token). Tokens c.args.src.now (Ok l)) same c.in-Ok.ensures.given) c.parsed.ensures)
+
+pub returns-in-Err-clause-given : goal.returns-in-Err-clause-given
+returns-in-Err-clause-given c =
+    subst (λ (e : ParseError). Told_error (Parses c.args.src.now) e) (sym c.without_tokens.ensures) (told_lexer c.args.src.now c.in-Err.error c.in-Err.ensures.given)
+
+pub returns-in-Err-clause-only : goal.returns-in-Err-clause-only
+returns-in-Err-clause-only c =
+    told_only c.args.src.now (Err c.without_tokens.result) (subst (λ (e : ParseError). Told_error (Parses c.args.src.now) e) (sym c.without_tokens.ensures) (told_lexer c.args.src.now c.in-Err.error c.in-Err.ensures.given))
