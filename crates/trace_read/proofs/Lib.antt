@@ -1,0 +1,10 @@
+pub mod Taking
+pub mod FieldKinds
+pub mod EventsTold
+pub mod EventsAgain
+pub mod RepliesTold
+pub mod RepliesAgain
+pub mod Entries
+pub mod Lines
+pub mod Alike
+pub mod Found

@@ -1,0 +1,5 @@
+pub mod Steady
+pub mod Kinds
+pub mod Events
+pub mod Replies
+pub mod Refusals
