@@ -1,5 +1,5 @@
 pub mod Steady
-pub mod Kinds
-pub mod Events
-pub mod Replies
+pub mod OneField
+pub mod EventsStop
+pub mod RepliesStop
 pub mod Refusals

@@ -15,9 +15,9 @@ use Rattle.trace_entries.specs.Replies.{reply_at}
 use Rattle.trace_entries.specs.Entries.{arrow, last_reply, reply_in, with_reply, entry_of, entry_in}
 use Rattle.trace_refusals.specs.Refusing.{Stands, GoesOn, NoneGoesOn, Refused}
 use Rattle.trace_refusals.proofs.Steady.{Here, bound, WholeExample, WholeStop, Whole, whole_bound}
-use Rattle.trace_refusals.proofs.Kinds.{small_number_steady}
-use Rattle.trace_refusals.proofs.Events.{event_steady}
-use Rattle.trace_refusals.proofs.Replies.{reply_steady}
+use Rattle.trace_refusals.proofs.OneField.{small_number_steady}
+use Rattle.trace_refusals.proofs.EventsStop.{event_steady}
+use Rattle.trace_refusals.proofs.RepliesStop.{reply_steady}
 
 abbrev err : {A : Type 0} → Cause → Result A Cause
 err why = Err why

@@ -1,10 +1,9 @@
 -- Readers of fields that stop at the first field at which nothing goes on, and how they are put together.
 use Rattle.std.proofs.Common.{◌≡◌, ◌∙◌, refl, sym, ap, ℕ, List, [], ◌∷◌, ◌++◌, append_assoc, append-nil, Bool, Option, Some, None, Result, Ok, Err, subst}
-use Rattle.std.specs.Option.{ok_or}
 use Rattle.trace_fields.specs.declared.refusal.Cause.{Cause}
 use Rattle.trace_fields.specs.declared.refusal.Cause.TheVariants as cause
 use Rattle.trace_fields.specs.Reading.{Fields, ◌>>=◌, taken}
-use Rattle.trace_entries.specs.Taking.{Taken}
+use Rattle.trace_entries.specs.Taking.{Taken, held_or}
 use Rattle.trace_refusals.specs.Refusing.{Stands}
 
 -- a field is missing, or this one is refused whatever stands behind it
@@ -71,7 +70,7 @@ steady_done old x = record { example = record { fields = []; x = x; read = λ mo
 
 -- ---- one field
 
-one_reads : {X : Type 0} (why : Cause) (read : List ℕ → Option X) (field : List ℕ) (fields : Fields) (x : X) (rest : Fields) (o : Option X) → read field ≡ o → (ok_or o why >>= λ x. Ok (x, fields)) ≡ Ok (x, rest) → Local (taken why read) (field ∷ fields) x rest
+one_reads : {X : Type 0} (why : Cause) (read : List ℕ → Option X) (field : List ℕ) (fields : Fields) (x : X) (rest : Fields) (o : Option X) → read field ≡ o → held_or why o fields ≡ Ok (x, rest) → Local (taken why read) (field ∷ fields) x rest
 one_reads why read field fields x rest None is h = cc
 one_reads why read field fields x rest (Some y) is h =
     let same = ok_is (y, fields) (x, rest) h in
@@ -79,7 +78,7 @@ one_reads why read field fields x rest (Some y) is h =
     record {
       front = field ∷ [];
       parts = (λ k. field ∷ (same k).1);
-      again = λ more. ap (λ o. ok_or o why >>= λ x. ok (x, more)) is ∙ (λ k. ok (one k, more));
+      again = λ more. ap (λ o. held_or why o more) is ∙ (λ k. ok (one k, more));
     }
 
 taken_reads : {X : Type 0} (why : Cause) (read : List ℕ → Option X) (fields : Fields) (x : X) (rest : Fields) → taken why read fields ≡ Ok (x, rest) → Local (taken why read) fields x rest
@@ -90,35 +89,35 @@ taken_reads why read (field ∷ fields) x rest h = one_reads why read field fiel
 abbrev pub Told : {X : Type 0} → Bool → Cause → (List ℕ → Option X) → Type 0
 Told {X} old why read = (field : List ℕ) (x : X) → read field ≡ Some x → Stands old why field
 
-one_only : {X : Type 0} (old : Bool) (why : Cause) (read : List ℕ → Option X) → Told old why read → (field : List ℕ) (more : Fields) (y : X × Fields) (o : Option X) → read field ≡ o → (ok_or o why >>= λ x. Ok (x, more)) ≡ Ok y → Stands old why field
+one_only : {X : Type 0} (old : Bool) (why : Cause) (read : List ℕ → Option X) → Told old why read → (field : List ℕ) (more : Fields) (y : X × Fields) (o : Option X) → read field ≡ o → held_or why o more ≡ Ok y → Stands old why field
 one_only old why read told field more y None is h = cc
 one_only old why read told field more y (Some x) is h = told field x is
 
-one_stops : {X : Type 0} (old : Bool) (why : Cause) (read : List ℕ → Option X) (sample : List ℕ) (held : X) → read sample ≡ Some held → Told old why read → (field : List ℕ) (fields : Fields) (told_why : Cause) (o : Option X) → read field ≡ o → (ok_or o why >>= λ x. Ok (x, fields)) ≡ Err told_why → Stop old (taken why read) (field ∷ fields) told_why
-one_stops old why read sample held sampled told field fields told_why None is h =
+one_stops : {X : Type 0} (old : Bool) (why : Cause) (read : List ℕ → Option X) (sample : List ℕ) (held : X) → read sample ≡ Some held → Told old why read → (field : List ℕ) (fields : Fields) (told_why : Cause) (o : Option X) → read field ≡ o → held_or why o fields ≡ Err told_why → Stop old (taken why read) (field ∷ fields) told_why
+one_stops {X} old why read sample held sampled told field fields told_why None is h =
     let same : why ≡ told_why = err_is {A = X × Fields} why told_why h in
     record {
       front = []; rest = field ∷ fields; parts = refl; tail = sample ∷ []; x = held;
-      onward = λ more. ap (λ o. ok_or o why >>= λ x. ok (x, more)) sampled;
-      here = λ more. ap (λ o. ok_or o why >>= λ x. ok (x, more)) is ∙ ap err same;
+      onward = λ more. ap (λ o. held_or why o more) sampled;
+      here = λ more. ap (λ o. held_or why o more) is ∙ ap err same;
       only = λ other more y k. subst (λ w. Stands old w other) same (one_only old why read told other more y (read other) refl k);
     }
-one_stops old why read sample held sampled told field fields told_why (Some y) is h = cc
+one_stops {X} old why read sample held sampled told field fields told_why (Some y) is h = cc
 
 taken_stops : {X : Type 0} (old : Bool) (why : Cause) (read : List ℕ → Option X) (sample : List ℕ) (held : X) → read sample ≡ Some held → Told old why read → (fields : Fields) (told_why : Cause) → taken why read fields ≡ Err told_why → Stop old (taken why read) fields told_why
-taken_stops old why read sample held sampled told [] told_why h =
+taken_stops {X} old why read sample held sampled told [] told_why h =
     let same : cause.Fields ≡ told_why = err_is {A = X × Fields} cause.Fields told_why h in
     record {
       front = []; rest = []; parts = refl; tail = sample ∷ []; x = held;
-      onward = λ more. ap (λ o. ok_or o why >>= λ x. ok (x, more)) sampled;
+      onward = λ more. ap (λ o. held_or why o more) sampled;
       here = sym same;
       only = λ other more y k. subst (λ w. Stands old w other) same tt;
     }
-taken_stops old why read sample held sampled told (field ∷ fields) told_why h = one_stops old why read sample held sampled told field fields told_why (read field) refl h
+taken_stops {X} old why read sample held sampled told (field ∷ fields) told_why h = one_stops old why read sample held sampled told field fields told_why (read field) refl h
 
 pub steady_field : {X : Type 0} (old : Bool) (why : Cause) (read : List ℕ → Option X) (sample : List ℕ) (held : X) → read sample ≡ Some held → Told old why read → Steady old (taken why read)
 steady_field old why read sample held sampled told = record {
-  example = record { fields = sample ∷ []; x = held; read = λ more. ap (λ o. ok_or o why >>= λ x. ok (x, more)) sampled };
+  example = record { fields = sample ∷ []; x = held; read = λ more. ap (λ o. held_or why o more) sampled };
   reads = taken_reads why read;
   stops = taken_stops old why read sample held sampled told;
 }

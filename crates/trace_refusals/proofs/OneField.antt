@@ -1,12 +1,12 @@
 -- The kinds of fields: each is read from some field, and tells what could stand there.
-use Rattle.std.proofs.Common.{◌≡◌, ◌∙◌, refl, sym, ap, subst, ℕ, zero, suc, ◌<◌, ◌^◌, List, [], ◌∷◌, Bool, true, false, not, ◌&&◌, ◌||◌, Option, Some, None, codes, chars, inl, inr, lit<, arith}
+use Rattle.std.proofs.Common.{◌≡◌, ◌∙◌, refl, sym, ap, subst, ℕ, zero, suc, ◌<◌, ◌^◌, List, [], ◌∷◌, Bool, true, false, not, ◌&&◌, ◌||◌, nat_le, Option, Some, None, codes, chars, inl, inr, lit<, arith}
 use Rattle.std.specs.List.{All, list_all}
 use Rattle.std.specs.Option.{option_and_then}
 use Rattle.std.specs.Fmt.{decimal}
 use Rattle.std.specs.Str.{IsAscii, is_utf8, bytes_eq}
 use Rattle.std.proofs.lemmas.Bool.{and_parts, and_from, ltb-true, lt-ltb}
 use Rattle.std.proofs.lemmas.List.Elements.{All-from_recursion}
-use Rattle.std.proofs.lemmas.Str.{chars-IsAscii}
+use Rattle.std.proofs.lemmas.Str.{chars-IsAscii, IsUtf8-nil, IsUtf8-from_ascii, is_utf8-from_IsUtf8}
 use Rattle.unicode_ident.proofs.IdentLemmas.{is_xid_start-ascii}
 use Rattle.unicode_normalization.specs.Forms.{is_in_form, Nfkc}
 use Rattle.unicode_normalization.proofs.FormsLemmas.{normalize-ascii}
@@ -17,6 +17,10 @@ use Rattle.py_value.specs.declared.kind.Kind.TheVariants as errors
 use Rattle.py_value.specs.declared.value.Place.TheVariants as places
 use Rattle.py_value.specs.declared.value.Value.{Value}
 use Rattle.py_value.specs.declared.value.Value.TheVariants as values
+use Rattle.py_value.specs.declared.value.Value.TheVariants.{rolls-Nothing}
+use Rattle.py_value.specs.declared.value.Value.TheOpen.{Value-F}
+use Rattle.py_value.specs.declared.value.Value.TheFolds.{fold-roll-Value}
+use Rattle.py_value.specs.Measures.{nesting_at, nesting_of}
 use Rattle.py_value.specs.declared.value.ModRef.{ModRef}
 use Rattle.py_value.specs.declared.value.Raised.{Raised}
 use Rattle.py_value.specs.declared.value.NsState.{NsState}
@@ -29,7 +33,7 @@ use Rattle.trace_fields.specs.declared.refusal.Cause.TheVariants as cause
 use Rattle.trace_fields.specs.Fields.{small_number_in, name_in, any_name_in, variable_in}
 use Rattle.trace_spellings.proofs.Held.{any_name_again, variable_again}
 use Rattle.trace_values.specs.Values.{place_in_path_in, load_in, module_in, error_in, slot_in, value_in, values_in, texts_in, spec_kind_in, state_in, tree_path_in}
-use Rattle.trace_value_laws.specs.Fitting.{name_fits, tree_path_fits}
+use Rattle.trace_value_laws.specs.Fitting.{tree_path_fits, value_fits_at, parts_fit, value_fits}
 use Rattle.trace_value_laws.proofs.Signed.{place_again, load_again}
 use Rattle.trace_value_laws.proofs.Modules.{text_read, module_read, error_read, slot_read}
 use Rattle.trace_value_laws.proofs.Nested.{value_read}
@@ -57,6 +61,12 @@ name_a : is_name (codes "a") ≡ true
 unfolding is_keyword
 name_a = and_from _ _ (ap is_identifier chars_a ∙ identifier_a) (and_from _ _ (ap (is_in_form Nfkc) chars_a ∙ normal_a) refl)
 
+utf8_a : is_utf8 (codes "a") ≡ true
+utf8_a = is_utf8-from_IsUtf8 (codes "a") (IsUtf8-from_ascii (codes "a") ascii_a)
+
+utf8_nil : is_utf8 [] ≡ true
+utf8_nil = is_utf8-from_IsUtf8 [] IsUtf8-nil
+
 dotted_a : is_dotted (codes "a") ≡ true
 unfolding is_dotted
 dotted_a = and_from _ _ name_a refl
@@ -78,10 +88,10 @@ pub number_steady : (old : Bool) → Steady old number_at
 number_steady old = steady_field old cause.Number number_in (decimal 0) 0 (number_read 0 refl) (λ field n h. (n, h))
 
 pub name_steady : (old : Bool) → Steady old name_at
-name_steady old = steady_field old cause.Name name_in (codes "a") (codes "a") (name_read (codes "a") (and_from _ _ refl dotted_a)) (λ field name h. (name, h))
+name_steady old = steady_field old cause.Name name_in (codes "a") (codes "a") (name_read (codes "a") (and_from (is_utf8 (codes "a")) (is_dotted (codes "a")) utf8_a dotted_a)) (λ field name h. (name, h))
 
 pub text_steady : (old : Bool) → Steady old text_at
-text_steady old = steady_field old cause.Escape text_in (quoted []) [] (text_read [] refl) (λ field text h. inl (text, h))
+text_steady old = steady_field old cause.Escape text_in (quoted []) [] (text_read [] utf8_nil) (λ field text h. inl (text, h))
 
 pub source_steady : (old : Bool) → Steady old source_at
 source_steady old = steady_field old cause.Escape source_in (source []) [] (source_read [] refl) (λ field text h. inr (text, h))
@@ -93,15 +103,15 @@ path_told old field path h =
     inl (joined path, ap text_in t.0 ∙ text_read (joined path) both.1)
 
 pub tree_path_steady : (old : Bool) → Steady old tree_path_at
-tree_path_steady old = steady_field old cause.Escape tree_path_in (quoted (joined [])) [] (tree_path_read [] refl) (path_told old)
+tree_path_steady old = steady_field old cause.Escape tree_path_in (quoted (joined [])) [] (tree_path_read [] utf8_nil) (path_told old)
 
 -- ---- all other kinds
 
 pub any_name_steady : (old : Bool) → Steady old any_name_at
-any_name_steady old = steady_field old cause.Fields any_name_in (name_text []) [] (any_name_again [] refl) (λ field x h. tt)
+any_name_steady old = steady_field old cause.Fields any_name_in (name_text []) [] (any_name_again [] utf8_nil) (λ field x h. tt)
 
 pub variable_steady : (old : Bool) → Steady old variable_at
-variable_steady old = steady_field old cause.Fields variable_in (variable_text []) [] (variable_again [] refl) (λ field x h. tt)
+variable_steady old = steady_field old cause.Fields variable_in (variable_text []) [] (variable_again [] utf8_nil) (λ field x h. tt)
 
 pub place_steady : (old : Bool) → Steady old place_at
 place_steady old = steady_field old cause.Fields place_in_path_in (place_in_path None) None (place_again None refl) (λ field x h. tt)
@@ -110,24 +120,30 @@ pub load_steady : (old : Bool) → Steady old load_at
 load_steady old = steady_field old cause.Fields load_in (load_text None) None (load_again None refl) (λ field x h. tt)
 
 some_module : ModRef
-some_module = record { mid = 0; name = codes "a"; place = places.BuiltIn }
+some_module = record { mid = 0; name = []; place = places.BuiltIn }
 
 pub module_steady : (old : Bool) → Steady old module_at
 unfolding some_module
-module_steady old = steady_field old cause.Fields module_in (module_text some_module) some_module (module_read some_module refl) (λ field x h. tt)
+module_steady old = steady_field old cause.Fields module_in (module_text some_module) some_module (module_read some_module (and_from _ _ utf8_nil refl)) (λ field x h. tt)
 
 some_error : Raised
 some_error = record { kind = errors.ImportError; text = []; name = None }
 
 pub error_steady : (old : Bool) → Steady old error_at
 unfolding some_error
-error_steady old = steady_field old cause.Fields error_in (error_text some_error) some_error (error_read some_error refl) (λ field x h. tt)
+error_steady old = steady_field old cause.Fields error_in (error_text some_error) some_error (error_read some_error (and_from _ _ utf8_nil refl)) (λ field x h. tt)
 
 pub slot_steady : (old : Bool) → Steady old slot_at
 slot_steady old = steady_field old cause.Fields slot_in (slot_text slots.Absent) slots.Absent (slot_read slots.Absent refl) (λ field x h. tt)
 
+nothing_fits : value_fits values.Nothing ≡ true
+nothing_fits =
+    let parts : parts_fit values.Nothing ≡ true = ap parts_fit (sym rolls-Nothing) ∙ fold-roll-Value Bool value_fits_at Value-F.Nothing in
+    let flat : nesting_of values.Nothing ≡ 0 = ap nesting_of (sym rolls-Nothing) ∙ fold-roll-Value ℕ nesting_at Value-F.Nothing in
+    and_from (parts_fit values.Nothing) (nat_le (nesting_of values.Nothing) 64) parts (ap (λ n. nat_le n 64) flat)
+
 pub value_steady : (old : Bool) → Steady old value_at
-value_steady old = steady_field old cause.Fields (value_in 64) (value_text values.Nothing) values.Nothing (value_read values.Nothing refl) (λ field x h. tt)
+value_steady old = steady_field old cause.Fields (value_in 64) (value_text values.Nothing) values.Nothing (value_read values.Nothing nothing_fits) (λ field x h. tt)
 
 pub values_steady : (old : Bool) → Steady old values_at
 values_steady old = steady_field old cause.Fields values_in (values_text []) [] (values_read [] refl) (λ field x h. tt)

@@ -20,7 +20,7 @@ use Rattle.trace_entries.specs.EventWords.{any_event_word, event_word_in}
 use Rattle.trace_entries.specs.Events.{bare_event, named_event, numbered_event, made_event, spec_at, named_at, numbered_at, made_at, finish_at, get_at, set_at, del_at, print_at, path_add_at, dir_get_at, dir_set_at, ns_set_at, tab_set_at, reload_begin_at, reload_take_at, reload_end_at, outcome_word_in, raised_at, outcome_at, end_at, event_of, event_at}
 use Rattle.trace_entries.specs.Taking.{Taken, small_number_at, number_at, name_at, text_at, source_at, tree_path_at, any_name_at, variable_at, place_at, load_at, error_at, slot_at, value_at, texts_at, spec_kind_at, state_at, raw_at, good_at}
 use Rattle.trace_refusals.proofs.Steady.{Steady, bound, done, steady_done, steady_bound, steady_field}
-use Rattle.trace_refusals.proofs.Kinds.{small_number_steady, number_steady, name_steady, text_steady, source_steady, tree_path_steady, any_name_steady, variable_steady, place_steady, load_steady, error_steady, slot_steady, value_steady, texts_steady, spec_kind_steady, state_steady, raw_steady, good_steady}
+use Rattle.trace_refusals.proofs.OneField.{small_number_steady, number_steady, name_steady, text_steady, source_steady, tree_path_steady, any_name_steady, variable_steady, place_steady, load_steady, error_steady, slot_steady, value_steady, texts_steady, spec_kind_steady, state_steady, raw_steady, good_steady}
 
 spec_steady : (old : Bool) → Steady old spec_at
 spec_steady old =
