@@ -6,10 +6,10 @@ use Rattle.trace_text.specs.Fields.{entry_fields}
 use Rattle.trace_text.specs.Trace.{unsplit, line}
 use Rattle.trace_fields.specs.declared.refusal.Cause.{Cause}
 use Rattle.trace_entries.specs.Entries.{entry_in}
-use Rattle.trace_lines.specs.Reading.{Read, format_of, trace_in}
+use Rattle.trace_lines.specs.Reading.{format_of, trace_in}
 use Rattle.trace_read.specs.Fitting.{entry_fits, entry_bytes, entries_fit, entries_bytes}
 use Rattle.trace_read.specs.Text.{text_of}
-use Rattle.trace_read.proofs.Entries.{entry_again}
+use Rattle.trace_read.proofs.Entries.{entry_again, entry_told}
 use Rattle.trace_read.proofs.Lines.{trace_again}
 
 abbrev done : {A E : Type 0} → A → Result A E
@@ -30,6 +30,9 @@ pub one_entry : (old : Bool) (x y : Entry) → entry_fits old x ≡ true → ent
 one_entry old x y f s g t h =
     let same = same_front (unsplit (entry_fields x)) (unsplit (entry_fields y)) h in
     ok_is {E = Cause} x y (sym (entry_again old x f s) ∙ ap (entry_in old) same ∙ entry_again old y g t)
+
+pub one_spelling : (old new : Bool) (x y : List ℕ) (entry : Entry) → entry_in old x ≡ Ok entry → entry_in new y ≡ Ok entry → x ≡ y
+one_spelling old new x y entry f g = (entry_told old x entry f).0 ∙ sym (entry_told new y entry g).0
 
 pub one_trace : (old : Bool) (x y : List Entry) → entries_fit old x ≡ true → entries_bytes x ≡ true → entries_fit old y ≡ true → entries_bytes y ≡ true → text_of old x ≡ text_of old y → x ≡ y
 one_trace old x y f s g t h =

@@ -1,5 +1,5 @@
 -- An entry and its line.
-use Rattle.std.proofs.Common.{◌≡◌, ◌∙◌, refl, sym, ap, subst, ℕ, List, [], ◌∷◌, ◌++◌, Bool, true, false, not, eqb, ◌&&◌, Option, Some, None, Result, Ok, Err, codes, inl, if◌then◌else◌}
+use Rattle.std.proofs.Common.{◌≡◌, ◌∙◌, refl, sym, ap, subst, ℕ, List, [], ◌∷◌, ◌++◌, Bool, true, false, not, eqb, ◌&&◌, Result, Ok, Err, codes, inl, if◌then◌else◌}
 use Rattle.std.proofs.lemmas.Bool.{and_parts, and_from}
 use Rattle.std.proofs.lemmas.List.{append-nil}
 use Rattle.std.proofs.lemmas.Slice.Eq.{bytes_eq-Decides}
@@ -7,7 +7,6 @@ use Rattle.std.specs.List.{AllByRecursion, flat_map}
 use Rattle.std.specs.Fmt.{decimal}
 use Rattle.std.specs.Str.{bytes_eq}
 use Rattle.machine_events.specs.declared.event.Entry.{Entry}
-use Rattle.machine_events.specs.declared.event.Event.{Event}
 use Rattle.machine_events.specs.declared.event.Reply.{Reply}
 use Rattle.trace_text.specs.Fields.{event_fields, reply_fields, entry_fields}
 use Rattle.trace_text.specs.Trace.{unsplit}
@@ -17,7 +16,6 @@ use Rattle.trace_fields.specs.Splitting.{split, joined}
 use Rattle.trace_fields.specs.Reading.{Fields, ◌>>=◌}
 use Rattle.trace_fields.specs.Fields.{small_number_in}
 use Rattle.trace_fields.proofs.Closed.{Closed, ordinary_closed, split_again, split_is_joined, closed_no_line_end}
-use Rattle.trace_entries.specs.Taking.{small_number_at}
 use Rattle.trace_entries.specs.Events.{event_at}
 use Rattle.trace_entries.specs.Replies.{reply_at}
 use Rattle.trace_entries.specs.Entries.{arrow, last_reply, reply_in, with_reply, entry_of, entry_in}

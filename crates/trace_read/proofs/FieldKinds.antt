@@ -1,25 +1,22 @@
 -- Each kind of field: what is read is spelled so, what is spelled so is read, and no spelling is cut.
-use Rattle.std.proofs.Common.{◌≡◌, ◌∙◌, refl, sym, ap, subst, ℕ, ◌+◌, ◌*◌, ◌^◌, ◌%◌, ◌<◌, ◌≤◌, List, [], ◌∷◌, ◌++◌, length, drop, fold, zero, suc, nat_eq, Bool, true, false, not, eqb, ltb, ◌&&◌, Option, Some, None, arith, inl, inr, codes, All, if◌then◌else◌}
-use Rattle.std.proofs.lemmas.Bool.{cases_Bool, and_parts, and_from, ltb-true, lt-ltb, cond-true, cond-false, not-true}
+use Rattle.std.proofs.Common.{◌≡◌, ◌∙◌, refl, sym, ap, subst, ℕ, ◌^◌, ◌<◌, List, [], ◌∷◌, Bool, true, false, ltb, Some, arith, codes}
+use Rattle.std.proofs.lemmas.Bool.{and_parts, and_from, ltb-true, lt-ltb}
 use Rattle.std.proofs.lemmas.Option.{option_and_then_some}
 use Rattle.std.proofs.lemmas.List.Splits.{join_with_byte-slice_split}
 use Rattle.std.proofs.lemmas.Str.{IsUtf8-from_is_utf8}
-use Rattle.std.proofs.Math.Utf8.{encode}
-use Rattle.std.specs.List.{list_all, AllByRecursion, slice_split}
-use Rattle.std.specs.Option.{option_map, option_and_then}
+use Rattle.std.specs.List.{list_all, AllByRecursion}
+use Rattle.std.specs.Option.{option_and_then}
 use Rattle.std.specs.Fmt.{decimal}
-use Rattle.std.specs.Str.{IsUtf8, is_utf8}
+use Rattle.std.specs.Str.{is_utf8}
 use Rattle.base_types.specs.Path.{Path, is_part, joined}
 use Rattle.decimal_text.specs.Numbers.{number_in}
 use Rattle.decimal_text.proofs.Spelled.{number_takes, number_again}
-use Rattle.quoted_text.specs.Spelling.{quoted, in_hex, source}
-use Rattle.quoted_text.specs.Candidates.{with_low, hex_next, hex_candidate, source_candidate}
+use Rattle.quoted_text.specs.Spelling.{quoted, source}
 use Rattle.quoted_text.specs.Read.{text_in, source_in}
 use Rattle.quoted_text.proofs.Takes.{source_takes, source_again}
 use Rattle.trace_text.specs.Fields.{raw_word, good_word, init_word, yes_word}
 use Rattle.trace_fields.specs.Fields.{small_number_in, name_in}
 use Rattle.trace_fields.proofs.Closed.{Closed, ordinary_closed}
-use Rattle.trace_fields.proofs.Quoting.{quoted_closed}
 use Rattle.trace_values.specs.Values.{parts_of, tree_path_of, tree_path_in}
 use Rattle.trace_values.proofs.Paths.{path_again}
 use Rattle.trace_entries.specs.Taking.{flag_in}

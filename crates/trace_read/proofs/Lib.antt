@@ -8,3 +8,9 @@ pub mod Entries
 pub mod Lines
 pub mod Alike
 pub mod Found
+pub mod Steady
+pub mod OneField
+pub mod EventsStop
+pub mod RepliesStop
+pub mod Refusals
+pub mod LinesStop

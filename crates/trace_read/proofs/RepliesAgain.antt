@@ -1,37 +1,17 @@
 -- A reply that is spelled is read back, and none of its fields is cut.
-use Rattle.std.proofs.Common.{◌≡◌, ◌∙◌, refl, sym, ap, subst, ℕ, ◌^◌, List, [], ◌∷◌, ◌++◌, map, Bool, true, false, not, ltb, ◌&&◌, Option, Some, None, Result, Ok, Err, codes, if◌then◌else◌}
-use Rattle.std.proofs.lemmas.Bool.{and_parts, and_from, cond-true, cond-false}
-use Rattle.std.proofs.lemmas.Option.{option_and_then_some}
+use Rattle.std.proofs.Common.{◌≡◌, refl, ◌++◌, Bool, true, false, not, ◌&&◌, Some, Ok, codes}
+use Rattle.std.proofs.lemmas.Bool.{and_parts, cond-false}
 use Rattle.std.specs.List.{AllByRecursion}
-use Rattle.std.specs.Option.{option_and_then}
-use Rattle.std.specs.Fmt.{decimal}
-use Rattle.std.specs.Str.{is_utf8}
-use Rattle.base_types.specs.Path.{joined}
-use Rattle.spec_core.specs.declared.spec.Spec.{Spec}
-use Rattle.decimal_text.specs.Numbers.{number_in}
-use Rattle.quoted_text.specs.Spelling.{quoted, source}
-use Rattle.quoted_text.specs.Read.{text_in, source_in}
-use Rattle.trace_text.specs.Values.{name_text, variable_text, texts_text, module_text, error_text, value_text, values_text, spec_text, slot_text, state_text, place_in_path, load_text}
-use Rattle.trace_fields.specs.declared.refusal.Cause.{Cause}
-use Rattle.trace_fields.specs.declared.refusal.Cause.TheVariants as cause
-use Rattle.trace_fields.specs.Reading.{Fields, ◌>>=◌, taken}
-use Rattle.trace_fields.specs.Fields.{small_number_in, name_in, any_name_in, variable_in, lookup}
+use Rattle.trace_fields.specs.Reading.{Fields}
 use Rattle.trace_fields.proofs.Closed.{Closed, ordinary_closed}
-use Rattle.trace_fields.proofs.Quoting.{quoted_closed}
-use Rattle.trace_values.specs.Values.{place_in_path_in, load_in, module_in, error_in, slot_in, value_in, values_in, texts_in, spec_kind_in, state_in, tree_path_in}
-use Rattle.trace_entries.specs.Taking.{small_number_at, number_at, name_at, text_at, source_at, tree_path_at, any_name_at, variable_at, place_at, load_at, module_at, error_at, slot_at, value_at, values_at, texts_at, spec_kind_at, state_at, flag_in, raw_at, good_at, init_at, yes_at}
-use Rattle.trace_spellings.proofs.Held.{some_is, chosen, other_option, any_name_again, any_name_takes, any_name_closed, variable_again, variable_takes, variable_closed, lookup_takes}
-use Rattle.trace_value_laws.specs.Fitting.{name_fits, place_at_fits, load_fits, module_fits, error_fits, slot_fits, value_fits, values_fit, texts_fit, spec_kind_fits, state_fits, tree_path_fits}
-use Rattle.trace_value_laws.proofs.Signed.{place_again, place_takes, place_in_path_closed, load_again, load_takes, load_closed}
-use Rattle.trace_value_laws.proofs.Modules.{text_read, text_told, module_read, module_told, module_closed, error_read, error_told, error_closed, slot_read, slot_told, slot_closed}
+use Rattle.trace_value_laws.specs.Fitting.{state_fits}
+use Rattle.trace_value_laws.proofs.Modules.{module_read, module_closed, slot_read, slot_closed}
 use Rattle.trace_value_laws.proofs.Nested.{value_read, value_item}
-use Rattle.trace_value_laws.proofs.Told.{value_told}
-use Rattle.trace_value_laws.proofs.Lists.{values_read, values_told, values_closed, texts_read, texts_told, texts_closed, spec_read, spec_told, spec_closed, state_read, state_told, state_closed}
-use Rattle.trace_read.proofs.Taking.{step, bind_ok, ok_is}
-use Rattle.trace_read.proofs.FieldKinds.{small_told, small_read, small_closed, number_told, number_read, wide_closed, name_told, name_read, name_closed, source_told, source_read, source_field_closed, tree_path_told, tree_path_read, raw_told, raw_read, raw_closed, good_told, good_read, good_closed, init_told, init_read, init_closed, yes_told, yes_read, yes_closed}
+use Rattle.trace_value_laws.proofs.Lists.{values_read, values_closed, texts_read, texts_closed, state_read, state_closed}
+use Rattle.trace_read.proofs.FieldKinds.{small_read, small_closed, number_read, wide_closed, name_read, name_closed, source_read, source_field_closed, init_read, init_closed, yes_read, yes_closed}
 use Rattle.machine_events.specs.declared.event.Reply.{Reply}
 use Rattle.machine_events.specs.declared.event.Reply.TheVariants as r
-use Rattle.trace_text.specs.Fields.{init_word, yes_word, reply_fields}
+use Rattle.trace_text.specs.Fields.{reply_fields}
 use Rattle.trace_entries.specs.declared.reply_words.BareReply.TheVariants as bare
 use Rattle.trace_entries.specs.declared.reply_words.ModuleReply.TheVariants as modules
 use Rattle.trace_entries.specs.declared.reply_words.SlotReply.TheVariants as slots
@@ -40,8 +20,8 @@ use Rattle.trace_entries.specs.declared.reply_words.ReplyWord.{ReplyWord}
 use Rattle.trace_entries.specs.declared.reply_words.ReplyWord.TheVariants as words
 use Rattle.trace_entries.specs.ReplyWords.{reply_word, all_reply_words, any_reply_word, reply_word_in, if_known}
 use Rattle.trace_entries.specs.ReplyWords as known
-use Rattle.trace_entries.specs.Replies.{bare_at, of_module_at, of_slot_at, of_epoch_at, wait_at, load_reply_at, value_reply_at, unset_at, names_at, loaded_at, path_at, state_reply_at, yours_at, listing_at, reply_of, reply_at}
-use Rattle.trace_read.specs.Fitting.{small_fits, number_fits, reply_fits, reply_bytes, is_new_reply}
+use Rattle.trace_entries.specs.Replies.{reply_at}
+use Rattle.trace_read.specs.Fitting.{small_fits, reply_fits, reply_bytes, is_new_reply}
 
 word_known : (old : Bool) (w : ReplyWord) → known.is_new_reply w ≡ false → if_known old w ≡ Some w
 word_known false w h = refl

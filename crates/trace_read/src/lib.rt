@@ -4,7 +4,10 @@
 mod laws;
 mod read;
 
-pub use laws::{one_entry, one_trace};
+pub use laws::{
+    entry_is_read, one_entry, one_spelling, one_trace, read_entry_is_spelled,
+    refused_at_the_first_field,
+};
 pub use read::read_trace;
 pub use trace_fields::Cause;
 pub use trace_lines::{Trace, TraceError};

@@ -1,5 +1,5 @@
 -- A line is refused at the first of its fields at which no line goes on.
-use Rattle.std.proofs.Common.{◌≡◌, ◌∙◌, refl, sym, ap, subst, ℕ, List, [], ◌∷◌, ◌++◌, append_assoc, Bool, true, false, Option, Some, None, Result, Ok, Err, codes, inl, inr, if◌then◌else◌}
+use Rattle.std.proofs.Common.{◌≡◌, ◌∙◌, refl, sym, ap, subst, ℕ, List, [], ◌∷◌, ◌++◌, append_assoc, Bool, true, false, Result, Ok, Err, codes, inl, inr}
 use Rattle.std.proofs.lemmas.Bool.{cases_Bool, cond-true, cond-false}
 use Rattle.std.specs.Str.{bytes_eq}
 use Rattle.machine_events.specs.declared.event.Event.{Event}
@@ -13,11 +13,11 @@ use Rattle.trace_entries.specs.Taking.{small_number_at}
 use Rattle.trace_entries.specs.Events.{event_at}
 use Rattle.trace_entries.specs.Replies.{reply_at}
 use Rattle.trace_entries.specs.Entries.{arrow, last_reply, reply_in, with_reply, entry_of, entry_in}
-use Rattle.trace_refusals.specs.Refusing.{Stands, GoesOn, NoneGoesOn, Refused}
-use Rattle.trace_refusals.proofs.Steady.{Here, bound, WholeExample, WholeStop, Whole, whole_bound}
-use Rattle.trace_refusals.proofs.OneField.{small_number_steady}
-use Rattle.trace_refusals.proofs.EventsStop.{event_steady}
-use Rattle.trace_refusals.proofs.RepliesStop.{reply_steady}
+use Rattle.trace_read.specs.Refusing.{Stands, NoneGoesOn, Refused}
+use Rattle.trace_read.proofs.Steady.{Here, bound, WholeStop, Whole, whole_bound}
+use Rattle.trace_read.proofs.OneField.{small_number_steady}
+use Rattle.trace_read.proofs.EventsStop.{event_steady}
+use Rattle.trace_read.proofs.RepliesStop.{reply_steady}
 
 abbrev err : {A : Type 0} → Cause → Result A Cause
 err why = Err why

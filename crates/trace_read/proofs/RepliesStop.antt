@@ -1,17 +1,16 @@
 -- Replies stop at the first field at which nothing goes on.
-use Rattle.std.proofs.Common.{◌≡◌, refl, ℕ, List, [], ◌∷◌, Bool, true, false, Option, Some, codes}
-use Rattle.machine_events.specs.declared.event.Reply.{Reply}
+use Rattle.std.proofs.Common.{◌≡◌, refl, Bool, true, false, Some, codes}
 use Rattle.machine_events.specs.declared.event.Reply.TheVariants as r
 use Rattle.trace_fields.specs.declared.refusal.Cause.TheVariants as cause
-use Rattle.trace_fields.specs.Reading.{Fields, taken}
+use Rattle.trace_fields.specs.Reading.{taken}
 use Rattle.trace_entries.specs.declared.reply_words.BareReply.TheVariants as bare
 use Rattle.trace_entries.specs.declared.reply_words.ReplyWord.{ReplyWord}
 use Rattle.trace_entries.specs.declared.reply_words.ReplyWord.TheVariants as words
 use Rattle.trace_entries.specs.ReplyWords.{any_reply_word, reply_word_in}
 use Rattle.trace_entries.specs.Replies.{bare_reply, module_reply, slot_reply, epoch_reply, reply_of, reply_at}
-use Rattle.trace_entries.specs.Taking.{Taken, small_number_at, number_at, name_at, source_at, module_at, slot_at, value_at, values_at, texts_at, state_at, init_at, yes_at}
-use Rattle.trace_refusals.proofs.Steady.{Steady, bound, done, steady_done, steady_bound, steady_field}
-use Rattle.trace_refusals.proofs.OneField.{small_number_steady, number_steady, name_steady, source_steady, module_steady, slot_steady, value_steady, values_steady, texts_steady, state_steady, init_steady, yes_steady}
+use Rattle.trace_entries.specs.Taking.{small_number_at, number_at, name_at, source_at, module_at, slot_at, value_at, values_at, texts_at, state_at, init_at, yes_at}
+use Rattle.trace_read.proofs.Steady.{Steady, bound, done, steady_done, steady_bound, steady_field}
+use Rattle.trace_read.proofs.OneField.{small_number_steady, number_steady, name_steady, source_steady, module_steady, slot_steady, value_steady, values_steady, texts_steady, state_steady, init_steady, yes_steady}
 
 reply_of_steady : (old : Bool) (w : ReplyWord) → Steady old (reply_of w)
 reply_of_steady old (words.Bare w) = steady_done old (bare_reply w)

@@ -1,7 +1,6 @@
 -- The kinds of fields: each is read from some field, and tells what could stand there.
-use Rattle.std.proofs.Common.{◌≡◌, ◌∙◌, refl, sym, ap, subst, ℕ, zero, suc, ◌<◌, ◌^◌, List, [], ◌∷◌, Bool, true, false, not, ◌&&◌, ◌||◌, nat_le, Option, Some, None, codes, chars, inl, inr, lit<, arith}
-use Rattle.std.specs.List.{All, list_all}
-use Rattle.std.specs.Option.{option_and_then}
+use Rattle.std.proofs.Common.{◌≡◌, ◌∙◌, refl, sym, ap, ℕ, zero, suc, ◌<◌, ◌^◌, [], Bool, true, false, ◌&&◌, ◌||◌, nat_le, None, codes, chars, inl, inr, lit<, arith}
+use Rattle.std.specs.List.{list_all}
 use Rattle.std.specs.Fmt.{decimal}
 use Rattle.std.specs.Str.{IsAscii, is_utf8, bytes_eq}
 use Rattle.std.proofs.lemmas.Bool.{and_parts, and_from, ltb-true, lt-ltb}
@@ -10,12 +9,11 @@ use Rattle.std.proofs.lemmas.Str.{chars-IsAscii, IsUtf8-nil, IsUtf8-from_ascii, 
 use Rattle.unicode_ident.proofs.IdentLemmas.{is_xid_start-ascii}
 use Rattle.unicode_normalization.specs.Forms.{is_in_form, Nfkc}
 use Rattle.unicode_normalization.proofs.FormsLemmas.{normalize-ascii}
-use Rattle.base_types.specs.Path.{Path, is_part, joined}
+use Rattle.base_types.specs.Path.{is_part, joined}
 use Rattle.spec_core.specs.Identifiers.{is_identifier, is_keyword, is_name, is_dotted}
 use Rattle.spec_core.specs.declared.spec.SpecKind.TheVariants as kinds
 use Rattle.py_value.specs.declared.kind.Kind.TheVariants as errors
 use Rattle.py_value.specs.declared.value.Place.TheVariants as places
-use Rattle.py_value.specs.declared.value.Value.{Value}
 use Rattle.py_value.specs.declared.value.Value.TheVariants as values
 use Rattle.py_value.specs.declared.value.Value.TheVariants.{rolls-Nothing}
 use Rattle.py_value.specs.declared.value.Value.TheOpen.{Value-F}
@@ -33,14 +31,14 @@ use Rattle.trace_fields.specs.declared.refusal.Cause.TheVariants as cause
 use Rattle.trace_fields.specs.Fields.{small_number_in, name_in, any_name_in, variable_in}
 use Rattle.trace_spellings.proofs.Held.{any_name_again, variable_again}
 use Rattle.trace_values.specs.Values.{place_in_path_in, load_in, module_in, error_in, slot_in, value_in, values_in, texts_in, spec_kind_in, state_in, tree_path_in}
-use Rattle.trace_value_laws.specs.Fitting.{tree_path_fits, value_fits_at, parts_fit, value_fits}
+use Rattle.trace_value_laws.specs.Fitting.{value_fits_at, parts_fit, value_fits}
 use Rattle.trace_value_laws.proofs.Signed.{place_again, load_again}
 use Rattle.trace_value_laws.proofs.Modules.{text_read, module_read, error_read, slot_read}
 use Rattle.trace_value_laws.proofs.Nested.{value_read}
 use Rattle.trace_value_laws.proofs.Lists.{values_read, texts_read, spec_read, state_read}
 use Rattle.trace_entries.specs.Taking.{small_number_at, number_at, name_at, text_at, source_at, tree_path_at, any_name_at, variable_at, place_at, load_at, module_at, error_at, slot_at, value_at, values_at, texts_at, spec_kind_at, state_at, flag_in, raw_at, good_at, init_at, yes_at}
 use Rattle.trace_read.proofs.FieldKinds.{small_told, small_read, number_read, name_read, source_read, tree_path_told, tree_path_read}
-use Rattle.trace_refusals.proofs.Steady.{Steady, Told, steady_field}
+use Rattle.trace_read.proofs.Steady.{Steady, Told, steady_field}
 
 -- ---- the dotted name `a`
 

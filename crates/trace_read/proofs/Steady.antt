@@ -1,10 +1,10 @@
 -- Readers of fields that stop at the first field at which nothing goes on, and how they are put together.
-use Rattle.std.proofs.Common.{◌≡◌, ◌∙◌, refl, sym, ap, ℕ, List, [], ◌∷◌, ◌++◌, append_assoc, append-nil, Bool, Option, Some, None, Result, Ok, Err, subst}
+use Rattle.std.proofs.Common.{◌≡◌, ◌∙◌, refl, sym, ap, ℕ, List, [], ◌∷◌, ◌++◌, append_assoc, Bool, Option, Some, None, Result, Ok, Err, subst}
 use Rattle.trace_fields.specs.declared.refusal.Cause.{Cause}
 use Rattle.trace_fields.specs.declared.refusal.Cause.TheVariants as cause
 use Rattle.trace_fields.specs.Reading.{Fields, ◌>>=◌, taken}
 use Rattle.trace_entries.specs.Taking.{Taken, held_or}
-use Rattle.trace_refusals.specs.Refusing.{Stands}
+use Rattle.trace_read.specs.Refusing.{Stands}
 
 -- a field is missing, or this one is refused whatever stands behind it
 abbrev pub Here : {Y : Type 0} → (Fields → Result Y Cause) → Fields → Fields → Cause → Type 0

@@ -1,13 +1,9 @@
 -- Events stop at the first field at which nothing goes on.
-use Rattle.std.proofs.Common.{◌≡◌, refl, ℕ, List, [], ◌∷◌, Bool, true, false, Option, Some, codes}
-use Rattle.std.proofs.lemmas.Bool.{cond-false}
-use Rattle.spec_core.specs.declared.spec.Spec.{Spec}
-use Rattle.base_types.specs.declared.path.Listing.{Listing}
-use Rattle.machine_events.specs.declared.event.Event.{Event}
+use Rattle.std.proofs.Common.{◌≡◌, refl, Bool, true, false, Some, codes}
 use Rattle.machine_events.specs.declared.event.Event.TheVariants as e
 use Rattle.machine_events.specs.declared.event.Outcome.TheVariants as outcomes
 use Rattle.trace_fields.specs.declared.refusal.Cause.TheVariants as cause
-use Rattle.trace_fields.specs.Reading.{Fields, taken}
+use Rattle.trace_fields.specs.Reading.{taken}
 use Rattle.trace_entries.specs.declared.event_words.NamedEvent.{NamedEvent}
 use Rattle.trace_entries.specs.declared.event_words.NamedEvent.TheVariants as named
 use Rattle.trace_entries.specs.declared.event_words.NumberedEvent.{NumberedEvent}
@@ -17,10 +13,10 @@ use Rattle.trace_entries.specs.declared.event_words.EventWord.TheVariants as wor
 use Rattle.trace_entries.specs.declared.events.OutcomeWord.{OutcomeWord}
 use Rattle.trace_entries.specs.declared.events.OutcomeWord.TheVariants as ends
 use Rattle.trace_entries.specs.EventWords.{any_event_word, event_word_in}
-use Rattle.trace_entries.specs.Events.{bare_event, named_event, numbered_event, made_event, spec_at, named_at, numbered_at, made_at, finish_at, get_at, set_at, del_at, print_at, path_add_at, dir_get_at, dir_set_at, ns_set_at, tab_set_at, reload_begin_at, reload_take_at, reload_end_at, outcome_word_in, raised_at, outcome_at, end_at, event_of, event_at}
-use Rattle.trace_entries.specs.Taking.{Taken, small_number_at, number_at, name_at, text_at, source_at, tree_path_at, any_name_at, variable_at, place_at, load_at, error_at, slot_at, value_at, texts_at, spec_kind_at, state_at, raw_at, good_at}
-use Rattle.trace_refusals.proofs.Steady.{Steady, bound, done, steady_done, steady_bound, steady_field}
-use Rattle.trace_refusals.proofs.OneField.{small_number_steady, number_steady, name_steady, text_steady, source_steady, tree_path_steady, any_name_steady, variable_steady, place_steady, load_steady, error_steady, slot_steady, value_steady, texts_steady, spec_kind_steady, state_steady, raw_steady, good_steady}
+use Rattle.trace_entries.specs.Events.{bare_event, named_event, numbered_event, made_event, spec_at, named_at, numbered_at, made_at, finish_at, get_at, set_at, del_at, print_at, path_add_at, dir_get_at, dir_set_at, ns_set_at, tab_set_at, reload_begin_at, reload_take_at, reload_end_at, outcome_word_in, outcome_at, end_at, event_of, event_at}
+use Rattle.trace_entries.specs.Taking.{small_number_at, number_at, name_at, text_at, source_at, tree_path_at, any_name_at, variable_at, place_at, load_at, error_at, slot_at, value_at, texts_at, spec_kind_at, state_at, raw_at, good_at}
+use Rattle.trace_read.proofs.Steady.{Steady, bound, done, steady_done, steady_bound, steady_field}
+use Rattle.trace_read.proofs.OneField.{small_number_steady, number_steady, name_steady, text_steady, source_steady, tree_path_steady, any_name_steady, variable_steady, place_steady, load_steady, error_steady, slot_steady, value_steady, texts_steady, spec_kind_steady, state_steady, raw_steady, good_steady}
 
 spec_steady : (old : Bool) → Steady old spec_at
 spec_steady old =
