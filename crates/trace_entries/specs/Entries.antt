@@ -1,5 +1,5 @@
 -- The entry that the fields of a line are.
-use Rattle.std.specs.Prelude.{ℕ, List, [], ◌∷◌, codes, Bool, Option, Some, None, Result, Ok, Err, if◌then◌else◌}
+use Rattle.std.specs.Prelude.{ℕ, List, [], ◌∷◌, codes, Bool, Result, Ok, Err, if◌then◌else◌}
 use Rattle.std.specs.Str.{bytes_eq}
 use Rattle.machine_events.specs.declared.event.Event.{Event}
 use Rattle.machine_events.specs.declared.event.Reply.{Reply}
@@ -7,8 +7,8 @@ use Rattle.machine_events.specs.declared.event.Entry.{Entry}
 use Rattle.trace_fields.specs.declared.refusal.Cause.{Cause}
 use Rattle.trace_fields.specs.declared.refusal.Cause.TheVariants as cause
 use Rattle.trace_fields.specs.Splitting.{split}
-use Rattle.trace_fields.specs.Reading.{Fields, ◌>>=◌, taken}
-use Rattle.trace_entries.specs.Taking.{Taken, small_number_at}
+use Rattle.trace_fields.specs.Reading.{Fields, ◌>>=◌}
+use Rattle.trace_entries.specs.Taking.{small_number_at}
 use Rattle.trace_entries.specs.Events.{event_at}
 use Rattle.trace_entries.specs.Replies.{reply_at}
 

@@ -1,12 +1,10 @@
 -- The event that stands at the front of some fields, and the fields behind it.
-use Rattle.std.specs.Prelude.{ℕ, List, [], ◌∷◌, map, codes, Bool, true, Option, Some, None, Result, Ok, Err}
+use Rattle.std.specs.Prelude.{ℕ, List, [], ◌∷◌, map, codes, Bool, Option, Ok}
 use Rattle.spec_core.specs.declared.spec.Spec.{Spec}
-use Rattle.base_types.specs.declared.path.Listing.{Listing}
 use Rattle.machine_events.specs.declared.event.Event.{Event}
 use Rattle.machine_events.specs.declared.event.Event.TheVariants as e
 use Rattle.machine_events.specs.declared.event.Outcome.{Outcome}
 use Rattle.machine_events.specs.declared.event.Outcome.TheVariants as outcomes
-use Rattle.trace_fields.specs.declared.refusal.Cause.{Cause}
 use Rattle.trace_fields.specs.declared.refusal.Cause.TheVariants as cause
 use Rattle.trace_fields.specs.Reading.{Fields, ◌>>=◌, taken}
 use Rattle.trace_fields.specs.Fields.{lookup}

@@ -1,10 +1,9 @@
 -- The reply that stands at the front of some fields, and the fields behind it.
-use Rattle.std.specs.Prelude.{ℕ, List, Bool, Result, Ok, Err}
+use Rattle.std.specs.Prelude.{ℕ, Bool, Ok}
 use Rattle.py_value.specs.declared.value.ModRef.{ModRef}
 use Rattle.machine_events.specs.declared.module.Slot.{Slot}
 use Rattle.machine_events.specs.declared.event.Reply.{Reply}
 use Rattle.machine_events.specs.declared.event.Reply.TheVariants as r
-use Rattle.trace_fields.specs.declared.refusal.Cause.{Cause}
 use Rattle.trace_fields.specs.declared.refusal.Cause.TheVariants as cause
 use Rattle.trace_fields.specs.Reading.{Fields, ◌>>=◌, taken}
 use Rattle.trace_entries.specs.declared.reply_words.BareReply.{BareReply}

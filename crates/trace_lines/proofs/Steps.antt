@@ -1,6 +1,6 @@
 -- Line by line.
-use Rattle.std.proofs.Common.{◌≡◌, ◌∙◌, refl, sym, ap, ℕ, suc, ◌+◌, ◌-◌, ◌<◌, ◌≤◌, List, [], ◌∷◌, ◌++◌, append_assoc, length, get_or, take, drop, map, Bor, Bool, Result, Ok, Err, arith}
-use Rattle.std.proofs.lemmas.List.{drop_more, drop_all, take_more, take_all, map_push, get_or-map, length-map, append-nil}
+use Rattle.std.proofs.Common.{◌≡◌, ◌∙◌, refl, sym, ap, ℕ, suc, ◌+◌, ◌-◌, ◌<◌, ◌≤◌, List, [], ◌∷◌, ◌++◌, append_assoc, length, get_or, take, drop, Bor, Bool, Ok, Err, arith}
+use Rattle.std.proofs.lemmas.List.{drop_more, drop_all, take_more, take_all, map_push, get_or-map, length-map}
 use Rattle.machine_events.specs.declared.event.Entry.{Entry}
 use Rattle.trace_fields.specs.declared.refusal.Cause.{Cause}
 use Rattle.trace_fields.specs.Splitting.{views}

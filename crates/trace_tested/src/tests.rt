@@ -40,7 +40,7 @@ const EVENTS: &str = r#"pyimport-trace 2
 1 del 6 a soft -> sleeping
 1 names 6 -> names ["__name__","x"]
 1 source 2 -> loaded module(5,a,"a.py") "x = 1\n"
-1 print "a\tb\x7f\n" -> done
+1 print "\\ \" \n\r\t\x00\x1f\x7f é" -> done
 1 pathget -> path ["",syspath,sysmodules,nspath,native(len),kind(_DeadlockError)]
 1 pathadd - "lib" -> full
 1 pathadd -3 "lib" -> done
@@ -198,6 +198,43 @@ fn nested_values(rt: HostRuntime) -> Result<(), Fail> {
     Ok(())
 }
 
+/// A value of so many brackets that are never closed is refused, without going as deep.
+#[test]
+fn a_million_brackets(rt: HostRuntime) -> Result<(), Fail> {
+    let mut line = String::new(rt.alloc());
+    line.push_str("0 ask a -> value ")?;
+    for _ in 0..1_000_000_u32 {
+        line.push_str("[")?;
+    }
+    assert_eq!(rt;
+        cause(rt.alloc(), "pyimport-trace 2", line.as_str())?,
+        Some(Cause::Fields)
+    );
+    Ok(())
+}
+
+/// main.py is `import a`, and a.py is empty.
+const IMPORT: &str = r#"pyimport-trace 2
+0 ask a -> missing
+0 take a -> mine 0
+0 pathget -> path [""]
+0 dirget "" a -> nolisting
+0 dirset "" 0 ["a.py","main.py"] -> done
+0 add a file("a.py") "" -> load 1 4
+0 finish 1 good -> kept module(4,a,"a.py")
+0 ask a -> module module(4,a,"a.py")
+0 set 0 a module(4,a,"a.py") raw -> done
+0 end normal 1000000 -> done
+"#;
+
+#[test]
+fn traced_import(rt: HostRuntime) -> Result<(), Fail> {
+    assert_eq!(rt; read(rt.alloc(), IMPORT), Ok(10));
+    assert!(rt; is_written_again(rt.alloc(), IMPORT)?);
+    Ok(())
+}
+
+/// Two scripts, of which each imports a module that imports the other's.
 const CIRCLE: &str = r#"pyimport-trace 2
 0 ask a -> missing
 0 take a -> mine 0
