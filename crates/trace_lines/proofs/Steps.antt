@@ -71,5 +71,5 @@ two_up (p ∷ q ∷ ps) d e h =
     let there : length (p ∷ xs) - 1 ≡ suc (length xs - 1) = omega arith in
     ap (opened (format_in p.now))
     (seen_off xs e (omega arith)
-     ∙ ap (λ n. views (take n xs) ++ (get_or xs (length xs - 1) e).now ∷ []) (sym less)
-     ∙ ap (λ n. views (take (length (p ∷ xs) - 1 - 1) xs) ++ (get_or (p ∷ xs) n e).now ∷ []) (sym there))
+    ∙ ap (λ n. views (take n xs) ++ (get_or xs (length xs - 1) e).now ∷ []) (sym less)
+    ∙ ap (λ n. views (take (length (p ∷ xs) - 1 - 1) xs) ++ (get_or (p ∷ xs) n e).now ∷ []) (sym there))

@@ -109,10 +109,11 @@ parts old entry h s =
     record { thread = a.0; event = c.0; event_known = c.1; event_source = e.0; reply = d.0; reply_known = d.1; reply_source = e.1 }
 
 entry_closed : (old : Bool) (entry : Entry) → Parts old entry → AllByRecursion Closed (entry_fields entry)
-entry_closed old entry p =
-    (small_closed entry.thread p.thread,
-     closed_both (event_fields entry.event) (codes "->" ∷ reply_fields entry.reply) (event_closed entry.event p.event p.event_source)
-     (ordinary_closed (codes "->") refl, reply_closed entry.reply p.reply p.reply_source))
+entry_closed old entry p = (
+  small_closed entry.thread p.thread,
+  closed_both (event_fields entry.event) (codes "->" ∷ reply_fields entry.reply) (event_closed entry.event p.event p.event_source)
+      (ordinary_closed (codes "->") refl, reply_closed entry.reply p.reply p.reply_source),
+)
 
 whole_reply : (old : Bool) (reply : Reply) → reply_fits reply ≡ true → reply_bytes reply ≡ true → not (old && is_new_reply reply) ≡ true → reply_at old (reply_fields reply) ≡ Ok (reply, [])
 whole_reply old reply h s k = ap (reply_at old) (sym (append-nil (reply_fields reply))) ∙ reply_again old reply [] h s k

@@ -26,7 +26,11 @@ last_refused old at (b ∷ bs) number why h =
     let same = same_refusal {A = List Entry} (at, cause.Cut) (number, why) h in
     let here : at ≡ number = λ k. (same k).0 in
     record {
-      before = []; line = b ∷ bs; behind = []; lines_are = refl; all_before = tt;
+      before = [];
+      line = b ∷ bs;
+      behind = [];
+      lines_are = refl;
+      all_before = tt;
       number_is = omega arith;
       refused = (λ none. cc, λ k. (sym same k).1);
     }
@@ -53,7 +57,11 @@ refused_here old at l m lines told is number why same =
     let here : at ≡ number = λ k. (same k).0 in
     let because : told ≡ why = λ k. (same k).1 in
     record {
-      before = []; line = l; behind = m ∷ lines; lines_are = refl; all_before = tt;
+      before = [];
+      line = l;
+      behind = m ∷ lines;
+      lines_are = refl;
+      all_before = tt;
       number_is = omega arith;
       refused = subst (Refused old (split 32 l)) because (refused_there old l told is);
     }

@@ -97,7 +97,11 @@ one_stops : {X : Type 0} (old : Bool) (why : Cause) (read : List ℕ → Option 
 one_stops {X} old why read sample held sampled told field fields told_why None is h =
     let same : why ≡ told_why = err_is {A = X × Fields} why told_why h in
     record {
-      front = []; rest = field ∷ fields; parts = refl; tail = sample ∷ []; x = held;
+      front = [];
+      rest = field ∷ fields;
+      parts = refl;
+      tail = sample ∷ [];
+      x = held;
       onward = λ more. ap (λ o. held_or why o more) sampled;
       here = λ more. ap (λ o. held_or why o more) is ∙ ap err same;
       only = λ other more y k. subst (λ w. Stands old w other) same (one_only old why read told other more y (read other) refl k);
@@ -108,7 +112,11 @@ taken_stops : {X : Type 0} (old : Bool) (why : Cause) (read : List ℕ → Optio
 taken_stops {X} old why read sample held sampled told [] told_why h =
     let same : cause.Fields ≡ told_why = err_is {A = X × Fields} cause.Fields told_why h in
     record {
-      front = []; rest = []; parts = refl; tail = sample ∷ []; x = held;
+      front = [];
+      rest = [];
+      parts = refl;
+      tail = sample ∷ [];
+      x = held;
       onward = λ more. ap (λ o. held_or why o more) sampled;
       here = sym same;
       only = λ other more y k. subst (λ w. Stands old w other) same tt;
