@@ -33,7 +33,7 @@ const LINES: &str = r#"0 ask a.b -> missing
 "#;
 
 fn main(rt: HostRuntime) -> io::Result<()> {
-    for (rounds, times) in [(5_000_u32, 8_u32), (10_000, 4)] {
+    for (rounds, times) in [(5_000_u32, 40_u32), (10_000, 20)] {
         let mut text = String::new(rt.alloc());
         text.push_str(FIRST)?;
         for _ in 0..rounds {
