@@ -6,10 +6,10 @@ the best rate of several rounds. The lexer's work is linear, so the rates at 64 
 factor of 1.5 of each other. Exit status 1 where they do not.
 """
 import pathlib
-import shutil
-import subprocess
 import sys
 import tempfile
+
+import scratch
 
 PROGRAM = r"""//! Measures the lexer.
 #![tactic(auto)]
@@ -45,23 +45,10 @@ fn main(rt: HostRuntime) -> io::Result<()> {
 
 
 def main():
-    root = pathlib.Path(__file__).resolve().parent.parent
-    with tempfile.TemporaryDirectory() as scratch:
-        scratch = pathlib.Path(scratch)
-        names = ["base_types", "spec_core", "py_lexer"]
-        for name in names:
-            shutil.copytree(root / "crates" / name, scratch / "crates" / name, ignore=shutil.ignore_patterns("out"))
-        lines = (root / "crates.txt").read_text().splitlines()
-        kept = [line for line in lines if line.split(":")[0].split(" ")[0] in names]
-        (scratch / "crates.txt").write_text("\n".join(kept + ["token_rate: py_lexer"]) + "\n")
-        source = scratch / "crates" / "token_rate" / "src"
-        source.mkdir(parents=True)
-        (source / "main.rt").write_text(PROGRAM)
-        run = subprocess.run(["rt", "run"], cwd=source.parent, capture_output=True, text=True)
-        if run.returncode != 0:
-            sys.exit(run.stdout + run.stderr)
+    with tempfile.TemporaryDirectory() as folder:
+        _, written = scratch.run(pathlib.Path(folder), "token_rate", PROGRAM, ["py_lexer"])
     rates = []
-    for line in run.stdout.splitlines():
+    for line in written.splitlines():
         words = line.split()
         if len(words) == 3 and all(word.isdigit() for word in words):
             size, count, spent = (int(word) for word in words)

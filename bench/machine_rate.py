@@ -9,12 +9,10 @@ number of names, so twice the modules take twice the time, within a factor of 1.
 """
 import os
 import pathlib
-import shutil
-import subprocess
 import sys
 import tempfile
 
-CRATES = ["base_types", "spec_core", "py_value", "machine_events", "module_lock", "module_table", "machine_state", "import_machine"]
+import scratch
 
 PROGRAM = r"""//! Measures the machine.
 #![tactic(auto)]
@@ -163,21 +161,9 @@ def measure(program, modules):
 
 
 def main():
-    root = pathlib.Path(__file__).resolve().parent.parent
-    with tempfile.TemporaryDirectory() as scratch:
-        scratch = pathlib.Path(scratch)
-        for name in CRATES:
-            shutil.copytree(root / "crates" / name, scratch / "crates" / name, ignore=shutil.ignore_patterns("out"))
-        lines = (root / "crates.txt").read_text().splitlines()
-        kept = [line for line in lines if line.split(":")[0].split(" ")[0] in CRATES]
-        (scratch / "crates.txt").write_text("\n".join(kept + ["machine_rate: " + " ".join(CRATES)]) + "\n")
-        source = scratch / "crates" / "machine_rate" / "src"
-        source.mkdir(parents=True)
-        (source / "main.rt").write_text(PROGRAM)
-        run = subprocess.run(["rt", "run"], cwd=source.parent, capture_output=True, text=True)
-        if run.returncode != 0:
-            sys.exit(run.stdout + run.stderr)
-        program = source.parent / "out" / "machine_rate"
+    with tempfile.TemporaryDirectory() as folder:
+        crate, _ = scratch.run(pathlib.Path(folder), "machine_rate", PROGRAM, ["import_machine"])
+        program = crate / "out" / "machine_rate"
         times = []
         for modules in (10_000, 20_000):
             runs = [measure(program, modules) for _ in range(5)]

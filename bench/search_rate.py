@@ -7,14 +7,12 @@ machine keeps them; after a first round no directory is listed. Then it asks the
 entry up to the one that decides, and the module's file. Copies the crates into a scratch repository and builds the
 program there with `rt run` (which proves the crates, some ten minutes on a new machine).
 """
-import os
 import pathlib
-import shutil
 import subprocess
 import sys
 import tempfile
 
-CRATES = ["base_types", "tree_files", "spec_core", "py_value", "path_finder"]
+import scratch
 
 PROGRAM = r"""//! Measures the search.
 #![tactic(auto)]
@@ -205,27 +203,15 @@ def make_folder(top, entries, modules):
 
 
 def main():
-    root = pathlib.Path(__file__).resolve().parent.parent
-    with tempfile.TemporaryDirectory() as scratch:
-        scratch = pathlib.Path(scratch)
-        for name in CRATES:
-            shutil.copytree(root / "crates" / name, scratch / "crates" / name, ignore=shutil.ignore_patterns("out"))
-        lines = (root / "crates.txt").read_text().splitlines()
-        kept = [line for line in lines if line.split(":")[0].split(" ")[0] in CRATES]
-        (scratch / "crates.txt").write_text("\n".join(kept + ["search_rate: " + " ".join(CRATES)]) + "\n")
-        crate = scratch / "crates" / "search_rate"
-        (crate / "src").mkdir(parents=True)
-        (crate / "src" / "main.rt").write_text(PROGRAM)
-        (crate / "proofs" / "find").mkdir(parents=True)
-        (crate / "proofs" / "find" / "Invariants.antt").write_text(INVARIANTS)
-        run = subprocess.run(["rt", "run"], cwd=crate, capture_output=True, text=True)
-        if run.returncode != 0:
-            sys.exit(run.stdout + run.stderr)
+    with tempfile.TemporaryDirectory() as folder:
+        folder = pathlib.Path(folder)
+        proofs = {"proofs/find/Invariants.antt": INVARIANTS}
+        crate, _ = scratch.run(folder, "search_rate", PROGRAM, ["path_finder"], proofs)
         program = crate / "out" / "search_rate"
         for entries, modules in ((64, 500), (1, 5000)):
-            folder = scratch / f"folder_{entries}"
-            make_folder(folder, entries, modules)
-            words = subprocess.run([program, str(entries), str(modules)], cwd=folder, capture_output=True, text=True, check=True)
+            searched = folder / f"folder_{entries}"
+            make_folder(searched, entries, modules)
+            words = subprocess.run([program, str(entries), str(modules)], cwd=searched, capture_output=True, text=True, check=True)
             found, searches, known, stats = (int(word) for word in words.stdout.split())
             if found != modules or known != modules * (entries + 1):
                 sys.exit(f"{found} of {modules} modules were found, {known} paths are known")

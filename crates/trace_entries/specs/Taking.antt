@@ -1,0 +1,98 @@
+-- What the next field holds, and the cause where it holds nothing of the kind.
+use Rattle.std.specs.Prelude.{ℕ, ℤ, List, [], ◌∷◌, codes, Bool, true, false, Option, Result, Ok}
+use Rattle.std.specs.Option.{ok_or}
+use Rattle.base_types.specs.Path.{Path}
+use Rattle.spec_core.specs.declared.spec.SpecKind.{SpecKind}
+use Rattle.py_value.specs.declared.value.ModRef.{ModRef}
+use Rattle.py_value.specs.declared.value.Raised.{Raised}
+use Rattle.py_value.specs.declared.value.NsState.{NsState}
+use Rattle.py_value.specs.declared.value.Value.{Value}
+use Rattle.machine_events.specs.declared.module.Slot.{Slot}
+use Rattle.decimal_text.specs.Numbers.{number_in}
+use Rattle.quoted_text.specs.Read.{text_in, source_in}
+use Rattle.trace_fields.specs.declared.refusal.Cause.{Cause}
+use Rattle.trace_fields.specs.declared.refusal.Cause.TheVariants as cause
+use Rattle.trace_fields.specs.Reading.{Fields, ◌>>=◌, taken}
+use Rattle.trace_fields.specs.Fields.{small_number_in, name_in, any_name_in, variable_in, lookup}
+use Rattle.trace_values.specs.Values.{place_in_path_in, load_in, module_in, error_in, slot_in, value_in, values_in, texts_in, spec_kind_in, state_in, tree_path_in}
+
+abbrev pub Taken : Type 0 → Type 0
+Taken X = Result (X × Fields) Cause
+
+-- what a field holds, with the fields behind it; where it holds nothing, the cause
+abbrev pub held_or : {X : Type 0} → Cause → Option X → Fields → Taken X
+held_or why held rest = ok_or held why >>= λ x. Ok (x, rest)
+
+-- only a number could stand there
+abbrev pub small_number_at : Fields → Taken ℕ
+small_number_at fields = taken cause.Number small_number_in fields
+
+abbrev pub number_at : Fields → Taken ℕ
+number_at fields = taken cause.Number number_in fields
+
+-- only a dotted name
+abbrev pub name_at : Fields → Taken (List ℕ)
+name_at fields = taken cause.Name name_in fields
+
+-- only a text, or a source, or a tree path as a text
+abbrev pub text_at : Fields → Taken (List ℕ)
+text_at fields = taken cause.Escape text_in fields
+
+abbrev pub source_at : Fields → Taken (List ℕ)
+source_at fields = taken cause.Escape source_in fields
+
+abbrev pub tree_path_at : Fields → Taken Path
+tree_path_at fields = taken cause.Escape tree_path_in fields
+
+-- all other kinds of fields
+abbrev pub any_name_at : Fields → Taken (List ℕ)
+any_name_at fields = taken cause.Fields any_name_in fields
+
+abbrev pub variable_at : Fields → Taken (List ℕ)
+variable_at fields = taken cause.Fields variable_in fields
+
+abbrev pub place_at : Fields → Taken (Option ℤ)
+place_at fields = taken cause.Fields place_in_path_in fields
+
+abbrev pub load_at : Fields → Taken (Option ℕ)
+load_at fields = taken cause.Fields load_in fields
+
+abbrev pub module_at : Fields → Taken ModRef
+module_at fields = taken cause.Fields module_in fields
+
+abbrev pub error_at : Fields → Taken Raised
+error_at fields = taken cause.Fields error_in fields
+
+abbrev pub slot_at : Fields → Taken Slot
+slot_at fields = taken cause.Fields slot_in fields
+
+abbrev pub value_at : Fields → Taken Value
+value_at fields = taken cause.Fields (value_in 64) fields
+
+abbrev pub values_at : Fields → Taken (List Value)
+values_at fields = taken cause.Fields values_in fields
+
+abbrev pub texts_at : Fields → Taken (List (List ℕ))
+texts_at fields = taken cause.Fields texts_in fields
+
+abbrev pub spec_kind_at : Fields → Taken SpecKind
+spec_kind_at fields = taken cause.Fields spec_kind_in fields
+
+abbrev pub state_at : Fields → Taken NsState
+state_at fields = taken cause.Fields state_in fields
+
+-- one of two words
+abbrev pub flag_in : List ℕ → List ℕ → List ℕ → Option Bool
+flag_in on off field = lookup field ((on, true) ∷ (off, false) ∷ [])
+
+abbrev pub raw_at : Fields → Taken Bool
+raw_at fields = taken cause.Fields (flag_in (codes "raw") (codes "soft")) fields
+
+abbrev pub good_at : Fields → Taken Bool
+good_at fields = taken cause.Fields (flag_in (codes "good") (codes "bad")) fields
+
+abbrev pub init_at : Fields → Taken Bool
+init_at fields = taken cause.Fields (flag_in (codes "init") (codes "plain")) fields
+
+abbrev pub yes_at : Fields → Taken Bool
+yes_at fields = taken cause.Fields (flag_in (codes "yes") (codes "no")) fields

@@ -1,0 +1,16 @@
+pub mod Taking
+pub mod FieldKinds
+pub mod EventsTold
+pub mod EventsAgain
+pub mod RepliesTold
+pub mod RepliesAgain
+pub mod Entries
+pub mod Lines
+pub mod Alike
+pub mod Found
+pub mod Steady
+pub mod OneField
+pub mod EventsStop
+pub mod RepliesStop
+pub mod Refusals
+pub mod LinesStop

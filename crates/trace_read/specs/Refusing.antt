@@ -1,0 +1,91 @@
+-- Where a line is refused: from the left, at the first field at which no line of the format goes on.
+use Rattle.std.specs.Prelude.{◌≡◌, ℕ, ◌+◌, List, [], ◌∷◌, ◌++◌, length, Bool, Option, Some, None, Ok, ◌⊎◌}
+use Rattle.std.specs.List.{AllByRecursion}
+use Rattle.machine_events.specs.declared.event.Entry.{Entry}
+use Rattle.decimal_text.specs.Numbers.{number_in}
+use Rattle.quoted_text.specs.Read.{text_in, source_in}
+use Rattle.trace_fields.specs.declared.refusal.Cause.{Cause}
+use Rattle.trace_fields.specs.declared.refusal.Cause.TheVariants as cause
+use Rattle.trace_fields.specs.Splitting.{split}
+use Rattle.trace_fields.specs.Reading.{Fields}
+use Rattle.trace_fields.specs.Fields.{name_in}
+use Rattle.trace_entries.specs.EventWords.{event_word_in}
+use Rattle.trace_entries.specs.ReplyWords.{reply_word_in}
+use Rattle.trace_entries.specs.Entries.{entry_of, entry_in}
+use Rattle.trace_lines.specs.declared.trace.TraceError.{TraceError}
+use Rattle.trace_lines.specs.declared.trace.TraceError.TheVariants as error
+use Rattle.trace_lines.specs.Reading.{format_in, pieces}
+
+-- it holds something
+abbrev pub Is : {X : Type 0} → Option X → Type 0
+Is {X} held = (x : X) × (held ≡ Some x)
+
+-- what every field is that could stand where a cause is told. `old` is format 1.
+abbrev pub Stands : Bool → Cause → List ℕ → Type 0
+Stands old cause.Fields field = Unit {0}
+Stands old cause.Number field = Is (number_in field)
+Stands old cause.Name field = Is (name_in field)
+Stands old cause.Escape field = Is (text_in field) ⊎ Is (source_in field)
+Stands old cause.Event field = Is (event_word_in old field)
+Stands old cause.Reply field = Is (reply_word_in old field)
+Stands old cause.Cut field = ⊥
+
+-- some line of the format begins with these fields
+abbrev pub GoesOn : Bool → Fields → Type 0
+GoesOn old front = (more : Fields) × (entry : Entry) × (entry_of old (front ++ more) ≡ Ok entry)
+
+-- no line goes on: a field is missing, or no line has this one behind those before
+abbrev pub NoneGoesOn : Bool → Fields → Fields → Cause → Type 0
+NoneGoesOn old front [] why = why ≡ cause.Fields
+NoneGoesOn old front (field ∷ fields) why = GoesOn old (front ++ field ∷ []) → ⊥
+
+-- the fields of a refused line: some line goes on from those before, none from the next, and what could stand there
+pub record Refused (old : Bool) (fields : Fields) (why : Cause) : Type 0 where
+  pub front : Fields
+  pub rest : Fields
+  pub fields_are : fields ≡ front ++ rest
+  pub goes_on : GoesOn old front
+  pub stops : NoneGoesOn old front rest why
+  pub could_stand : (field : List ℕ) → GoesOn old (front ++ field ∷ []) → Stands old why field
+
+-- a first line without a line end, or one that names no format
+abbrev pub NoFirstLine : List (List ℕ) → Cause → Type 0
+NoFirstLine [] why = why ≡ cause.Cut
+NoFirstLine (line ∷ []) why = why ≡ cause.Cut
+NoFirstLine (line ∷ more ∷ lines) why = (format_in line ≡ None) × (why ≡ cause.Fields)
+
+-- some bytes stand behind the last line end, or a line is refused
+abbrev pub NoLine : Bool → List ℕ → List (List ℕ) → Cause → Type 0
+NoLine old line [] why = (line ≡ [] → ⊥) × (why ≡ cause.Cut)
+NoLine old line (next ∷ behind) why = Refused old (split 32 line) why
+
+abbrev pub IsLine : Bool → List ℕ → Type 0
+IsLine old line = (entry : Entry) × (entry_in old line ≡ Ok entry)
+
+-- the lines from number `at` on, of which those before the refused one are lines of the format
+pub record RefusedFrom (old : Bool) (at : ℕ) (lines : List (List ℕ)) (number : ℕ) (why : Cause) : Type 0 where
+  pub before : List (List ℕ)
+  pub line : List ℕ
+  pub behind : List (List ℕ)
+  pub lines_are : lines ≡ before ++ line ∷ behind
+  pub all_before : AllByRecursion (IsLine old) before
+  pub number_is : number ≡ at + length before
+  pub refused : NoLine old line behind why
+
+-- the first line is good, and a later one is refused
+pub record RefusedLater (lines : List (List ℕ)) (number : ℕ) (why : Cause) : Type 0 where
+  pub old : Bool
+  pub first : List ℕ
+  pub others : List (List ℕ)
+  pub lines_are : lines ≡ first ∷ others
+  pub format : format_in first ≡ Some old
+  pub refused : RefusedFrom old 2 others number why
+
+-- the first line that is no line of the format, by its number, and the cause; lines are numbered from 1
+abbrev pub RefusedTrace : List ℕ → ℕ → Cause → Type 0
+RefusedTrace bytes number why = ((number ≡ 1) × NoFirstLine (pieces bytes) why) ⊎ RefusedLater (pieces bytes) number why
+
+-- what a refusal says of the bytes; want of memory says nothing
+abbrev pub IsRefusal : List ℕ → TraceError → Type 0
+IsRefusal bytes error.NoMemory = Unit {0}
+IsRefusal bytes (error.At line why) = RefusedTrace bytes line why
