@@ -1,0 +1,4 @@
+pub mod Whole
+mod AmongNames
+mod Levels
+mod Rounds
