@@ -1,5 +1,5 @@
-use py_parser::{ParseError, parse};
 use py_lexer::LexError;
+use py_parser::{ParseError, parse};
 use std::alloc::Global;
 use std::test::Fail;
 
