@@ -73,7 +73,7 @@ fn without_rest(read: Result<(Script, &[Lexeme]), ReadError>) -> Result<Script, 
 /// The script that the tokens spell (Language Reference chapters 6 to 8, a subset), with at most `room` levels open. Where
 /// there is none, the refusal names the first token that no script's tokens have after the tokens before it. Want of
 /// memory may stand in place of any answer. The native stack holds a few calls for each level, and the work is linear in
-/// the tokens but for the names of parameters, each of which is compared with those before it.
+/// the tokens, given that a hash finds a parameter's name in constant time.
 pub fn script(alloc: Global, tokens: &[Lexeme], room: usize) -> Result<Script, ReadError>
     // What is read is spelled by the tokens.
     ensures spelled { IfOk result (λ script. Spells room tokens.now script) }
