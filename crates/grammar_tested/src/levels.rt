@@ -118,3 +118,15 @@ fn a_million_brackets_are_refused(rt: HostRuntime) -> Result<(), Fail> {
     assert!(rt; is_too_deep(rt.alloc(), &source, 1));
     Ok(())
 }
+
+/// Their trees are as deep as they are long, to the left, and go without a native call for each part.
+#[test]
+fn long_chains_are_read_and_dropped(rt: HostRuntime) -> Result<(), Fail> {
+    for part in ["+a", " or a", ".a", "()", "[0]"] {
+        let mut source = Vec::new(rt.alloc());
+        source.push(b'a')?;
+        repeat(&mut source, part, 200_000)?;
+        assert!(rt; is_accepted(rt.alloc(), &source));
+    }
+    Ok(())
+}

@@ -43,7 +43,6 @@ pub enum Level {
 
 /// An expression (chapter 6). Parentheses leave no trace but where they make a tuple.
 #[cycle(expr)]
-#[derive(Drop)]
 pub enum Expr {
     Name(Text),
     Number(i128),
@@ -66,6 +65,41 @@ pub enum Expr {
     Not(Boxed<Expr>),
     And(Boxed<Expr>, Boxed<Expr>),
     Or(Boxed<Expr>, Boxed<Expr>),
+}
+
+impl Drop for Expr {
+    // A long sum, and a long chain of attributes, calls and subscriptions, is a tree that is deep to the left alone: its
+    // left side goes in a loop, so that the native stack holds a few calls for each level that is open in the source.
+    fn drop(mut self) {
+        loop {
+            match self {
+                Expr::Name(text) | Expr::Str(text) => return drop(text),
+                Expr::Number(_) | Expr::Nothing | Expr::True | Expr::False => return,
+                Expr::Tuple(items) | Expr::List(items) => return drop(items),
+                Expr::Attribute(object, name) => {
+                    drop(name);
+                    self = object.into_inner();
+                }
+                Expr::Call(callee, arguments) => {
+                    drop(arguments);
+                    self = callee.into_inner();
+                }
+                Expr::Subscript(object, index) => {
+                    drop(index);
+                    self = object.into_inner();
+                }
+                Expr::Negative(operand) | Expr::Not(operand) => self = operand.into_inner(),
+                Expr::Binary(_, left, right) | Expr::Compare(_, left, right) => {
+                    drop(right);
+                    self = left.into_inner();
+                }
+                Expr::And(left, right) | Expr::Or(left, right) => {
+                    drop(right);
+                    self = left.into_inner();
+                }
+            }
+        }
+    }
 }
 
 /// An expression with whether it is spelled as a target: as a name, an attribute or a subscription (7.2). `(x)` is not.
