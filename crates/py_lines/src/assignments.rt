@@ -5,23 +5,32 @@ ghost use Rattle.token_reading.specs.Outcome.{GivesAt, Shortens, StaysWithin};
 ghost use Rattle.line_reading.specs.Reading as reading;
 ghost use Rattle.py_lines.specs.Views.{augmented_at};
 
-use base_types::Text;
+use base_types::{Exact, NoMemory, Text};
 use py_expressions::expr;
 use py_syntax::{BinaryOp, Expr, Lexeme, Spelled, Stmt};
 use std::alloc::Global;
 use token_reading::{ReadError, Refusal, refused};
 
 /// The name that an expression is, where it is spelled as one.
-fn bare(left: Spelled) -> Option<Text>
-    ensures { result ≡ reading.bare left }
+fn name_in(left: &Spelled) -> Result<Option<Text>, NoMemory>
+    ensures { IfOk result (λ name. name ≡ reading.bare left.now) }
 {
     if !left.is_target {
-        return None;
+        return Ok(None);
     }
-    match left.tree {
-        Expr::Name(name) => Some(name),
-        _ => None,
+    match &left.tree {
+        Expr::Name(name) => Ok(Some(name.copy()?)),
+        _ => Ok(None),
     }
+}
+
+/// The same of an expression that is not needed any more.
+fn bare(left: Spelled) -> Result<Option<Text>, NoMemory>
+    ensures { IfOk result (λ name. name ≡ reading.bare left) }
+{
+    let name = name_in(&left);
+    drop(left);
+    name
 }
 
 /// What follows the operator of an augmented assignment.
@@ -94,17 +103,17 @@ fn after_expr(
             }
             assigned(alloc, left.tree, rest, room)
         }
-        [Lexeme::PlusEq, ..] => augmented(alloc, bare(left), BinaryOp::Add, tokens, room),
-        [Lexeme::MinusEq, ..] => augmented(alloc, bare(left), BinaryOp::Sub, tokens, room),
-        [Lexeme::StarEq, ..] => augmented(alloc, bare(left), BinaryOp::Mul, tokens, room),
+        [Lexeme::PlusEq, ..] => augmented(alloc, bare(left)?, BinaryOp::Add, tokens, room),
+        [Lexeme::MinusEq, ..] => augmented(alloc, bare(left)?, BinaryOp::Sub, tokens, room),
+        [Lexeme::StarEq, ..] => augmented(alloc, bare(left)?, BinaryOp::Mul, tokens, room),
         [Lexeme::SlashSlashEq, ..] => augmented(
             alloc,
-            bare(left),
+            bare(left)?,
             BinaryOp::FloorDiv,
             tokens,
             room,
         ),
-        [Lexeme::PercentEq, ..] => augmented(alloc, bare(left), BinaryOp::Mod, tokens, room),
+        [Lexeme::PercentEq, ..] => augmented(alloc, bare(left)?, BinaryOp::Mod, tokens, room),
         _ => Ok((Stmt::Evaluate(left.tree), tokens)),
     }
 }
