@@ -1,0 +1,4 @@
+pub mod Rows
+pub mod Expressions
+pub mod Simple
+pub mod Statements

@@ -1,0 +1,5 @@
+pub mod Places
+pub mod Expressions
+pub mod Simple
+pub mod Functions
+pub mod Statements

@@ -1,0 +1,75 @@
+//! Sources and what is printed of their scripts.
+
+use base_types::Text;
+use py_parser::{ParseError, parse};
+use py_printer::print_script;
+use std::alloc::Global;
+use std::test::Fail;
+
+/// A source, and the text that is printed of its script.
+type Row = (&'static str, &'static str);
+
+const LINES: [Row; 12] = [
+    ("", ""),
+    ("x = (1); y=[]", "x = 1\ny = [ ]\n"),
+    ("x = ((1 + 2)) * 3", "x = ( 1 + 2 ) * 3\n"),
+    ("x = 1 + (2 * 3)", "x = 1 + 2 * 3\n"),
+    ("x = a - (b - c)", "x = a - ( b - c )\n"),
+    ("x = (not a) == b", "x = ( not a ) == b\n"),
+    ("x = not (-a)", "x = not - a\n"),
+    (
+        "x = ((1,), (), (a, b,))",
+        "x = ( ( 1 , ) , ( ) , ( a , b ) )\n",
+    ),
+    ("(x).a = f(1)[2]", "x . a = f ( 1 ) [ 2 ]\n"),
+    ("x = 'a\\n\"'", "x = \"a\\n\\\"\"\n"),
+    (
+        "from ... import (a, b as c,)",
+        "from . . . import a , b as c\n",
+    ),
+    ("import a.b as c, d", "import a . b as c , d\n"),
+];
+
+const BLOCKS: [Row; 3] = [
+    (
+        "if a: pass\nelif b:\n  pass\nelse: x; y",
+        "if a :\n    pass\nelif b :\n    pass\nelse :\n    x\n    y\n",
+    ),
+    (
+        "def f(a, b):\n\tglobal c\n\tglobal d\n\treturn",
+        "def f ( a , b ) :\n    global c , d\n    return\n",
+    ),
+    (
+        "try:\n if a: b\nexcept K as e: pass\nfinally: pass",
+        "try :\n    if a :\n        b\nexcept K as e :\n    pass\nfinally :\n    pass\n",
+    ),
+];
+
+fn printed(alloc: Global, source: &str) -> Result<Text, ParseError> {
+    let script = parse(alloc, source.as_bytes())?;
+    Ok(print_script(&script)?)
+}
+
+/// The first of the sources of which something else is printed, or whose print is printed otherwise.
+fn first_other(alloc: Global, rows: &[Row]) -> Result<Option<&'static str>, ParseError> {
+    for (source, text) in rows {
+        let first = printed(alloc, source)?;
+        let second = printed(alloc, first.as_str())?;
+        if first.as_str() != *text || second.as_str() != *text {
+            return Ok(Some(source));
+        }
+    }
+    Ok(None)
+}
+
+#[test]
+fn lines_are_printed(rt: HostRuntime) -> Result<(), Fail> {
+    assert_eq!(rt; first_other(rt.alloc(), &LINES)?, None);
+    Ok(())
+}
+
+#[test]
+fn blocks_are_printed(rt: HostRuntime) -> Result<(), Fail> {
+    assert_eq!(rt; first_other(rt.alloc(), &BLOCKS)?, None);
+    Ok(())
+}

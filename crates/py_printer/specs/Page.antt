@@ -1,0 +1,17 @@
+-- A text that is written lexeme by lexeme.
+use Rattle.std.specs.Prelude.{◌+◌, ◌-◌, true, false, ◌++◌, codes}
+use Rattle.py_syntax.specs.declared.lexeme.Lexeme.{Lexeme}
+use Rattle.py_syntax.specs.declared.lexeme.Lexeme.TheVariants as token
+use Rattle.printed_text.specs.Spelling.{spelled}
+use Rattle.printed_text.specs.Text.{lead}
+use Rattle.py_printer.specs.declared.page.Page.{Page}
+
+abbrev pub with_plain : Page → Lexeme → Page
+with_plain page t = record { text = (page.text ++ lead page.depth page.is_first) ++ spelled t; depth = page.depth; is_first = false }
+
+abbrev pub written : Page → Lexeme → Page
+written page token.Newline = record { text = page.text ++ codes "\n"; depth = page.depth; is_first = true }
+written page token.Indent = record { text = page.text; depth = page.depth + 1; is_first = page.is_first }
+written page token.Dedent = record { text = page.text; depth = page.depth - 1; is_first = page.is_first }
+written page token.End = page
+written page t = with_plain page t
