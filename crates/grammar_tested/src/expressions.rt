@@ -17,7 +17,7 @@ fn differences_group_to_the_left(rt: HostRuntime) -> Result<(), Fail> {
     let (found, rest) = expression(rt.alloc(), &tokens, 0)?;
     assert_eq!(rt; rest.len(), 1);
     assert!(rt; !found.is_target);
-    let Expr::Binary(BinaryOp::Sub, left, right) = found.tree else {
+    let Expr::Binary(BinaryOp::Sub, left, right) = &found.tree else {
         return Err(Fail::new("no difference"));
     };
     assert!(rt; matches!(left.get(), Expr::Binary(BinaryOp::Sub, _, _)));
