@@ -9,7 +9,7 @@ use std::test::Fail;
 /// A source, and the text that is printed of its script.
 type Row = (&'static str, &'static str);
 
-const LINES: [Row; 12] = [
+const LINES: [Row; 23] = [
     ("", ""),
     ("x = (1); y=[]", "x = 1\ny = [ ]\n"),
     ("x = ((1 + 2)) * 3", "x = ( 1 + 2 ) * 3\n"),
@@ -28,9 +28,29 @@ const LINES: [Row; 12] = [
         "from . . . import a , b as c\n",
     ),
     ("import a.b as c, d", "import a . b as c , d\n"),
+    ("from . import *", "from . import *\n"),
+    ("from a import b", "from a import b\n"),
+    ("x = (True, False, None)", "x = ( True , False , None )\n"),
+    ("x = a or b and c", "x = a or b and c\n"),
+    ("x = (a or b) and c", "x = ( a or b ) and c\n"),
+    ("x = a + b - c * d // e % f", "x = a + b - c * d // e % f\n"),
+    (
+        "x += 1; x -= 2; x *= 3; x //= 4; x %= 5",
+        "x += 1\nx -= 2\nx *= 3\nx //= 4\nx %= 5\n",
+    ),
+    ("del x.a", "del x . a\n"),
+    ("pass; raise; raise E(1)", "pass\nraise\nraise E ( 1 )\n"),
+    (
+        "x = [a == b, a != b, a < b, a <= b, a > b, a >= b]",
+        "x = [ a == b , a != b , a < b , a <= b , a > b , a >= b ]\n",
+    ),
+    (
+        "x = [a in b, a not in b, a is b, a is not b]",
+        "x = [ a in b , a not in b , a is b , a is not b ]\n",
+    ),
 ];
 
-const BLOCKS: [Row; 3] = [
+const BLOCKS: [Row; 7] = [
     (
         "if a: pass\nelif b:\n  pass\nelse: x; y",
         "if a :\n    pass\nelif b :\n    pass\nelse :\n    x\n    y\n",
@@ -43,6 +63,19 @@ const BLOCKS: [Row; 3] = [
         "try:\n if a: b\nexcept K as e: pass\nfinally: pass",
         "try :\n    if a :\n        b\nexcept K as e :\n    pass\nfinally :\n    pass\n",
     ),
+    (
+        "while a:\n  if b: break\n  else: continue",
+        "while a :\n    if b :\n        break\n    else :\n        continue\n",
+    ),
+    (
+        "def f(): return 1\ndef g(): pass",
+        "def f ( ) :\n    return 1\ndef g ( ) :\n    pass\n",
+    ),
+    (
+        "try: a\nexcept: b\nelse: c",
+        "try :\n    a\nexcept :\n    b\nelse :\n    c\n",
+    ),
+    ("try: a\nfinally: b", "try :\n    a\nfinally :\n    b\n"),
 ];
 
 fn printed(alloc: Global, source: &str) -> Result<Text, ParseError> {
