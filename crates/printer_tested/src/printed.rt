@@ -106,3 +106,25 @@ fn blocks_are_printed(rt: HostRuntime) -> Result<(), Fail> {
     assert_eq!(rt; first_other(rt.alloc(), &BLOCKS)?, None);
     Ok(())
 }
+
+/// A name and so many parts behind it, as they are printed.
+fn long_chain(alloc: Global, part: &str, count: usize) -> Result<Vec<u8>, Fail> {
+    let mut source = Vec::new(alloc);
+    source.push(b'a')?;
+    for _ in 0..count {
+        source.extend_from_slice(part.as_bytes())?;
+    }
+    source.push(b'\n')?;
+    Ok(source)
+}
+
+/// Their trees are as deep as they are long, to the left, and are printed without a native call for each part.
+#[test]
+fn long_chains_are_printed(rt: HostRuntime) -> Result<(), Fail> {
+    for part in [" + a", " or a", " . a", " ( )", " [ 0 ]"] {
+        let source = long_chain(rt.alloc(), part, 100_000)?;
+        let script = parse(rt.alloc(), &source)?;
+        assert!(rt; print_script(&script)?.as_str().as_bytes() == source.as_slice());
+    }
+    Ok(())
+}

@@ -1,13 +1,15 @@
 //! Expressions.
-ghost use Rattle.std.specs.Prelude.{◌≡◌, ◌++◌, ◌∷◌, [], map, OnOk};
+ghost use Rattle.std.specs.Prelude.{◌≡◌, ◌++◌, ◌∷◌, [], map, Some, None, ◌<◌, OnOk, IfOk, IfSome, MatchOption};
 ghost use Rattle.py_syntax.specs.declared.lexeme.Lexeme.TheVariants as token;
+ghost use Rattle.py_syntax.specs.declared.expr.Expr.{size-Expr};
 ghost use Rattle.printed_tokens.specs.Expressions as print;
 ghost use Rattle.token_printer.specs.Between as between;
+ghost use Rattle.token_printer.specs.Parts as part;
 
 use crate::names::{put, put_comma, put_name};
 use crate::operators::{op_sign, op_strength, put_comparator};
 use base_types::{Exact, NoMemory, Seq, Text};
-use py_syntax::{Expr, Lexeme};
+use py_syntax::{Comparison, Expr, Lexeme};
 
 /// How strongly the outermost form of an expression binds.
 fn strength(expr: &Expr) -> u8
@@ -24,10 +26,91 @@ fn strength(expr: &Expr) -> u8
     }
 }
 
-/// An expression.
+/// The expression that an expression begins with, and how strongly that has to bind.
+fn left_of(expr: &Expr) -> Option<(&Expr, u8)>
+    ensures value { MatchOption result (part.left expr.now ≡ None) (λ left. part.left expr.now ≡ Some (left.0.now, left.1)) }
+    ensures smaller { IfSome result (λ left. size-Expr left.0.now < size-Expr expr.now) }
+{
+    match expr {
+        Expr::Attribute(left, _) | Expr::Call(left, _) | Expr::Subscript(left, _) => {
+            Some((left.get(), 8))
+        }
+        Expr::Binary(op, left, _) => Some((left.get(), op_strength(*op))),
+        Expr::Compare(_, left, _) => Some((left.get(), 5)),
+        Expr::And(left, _) => Some((left.get(), 2)),
+        Expr::Or(left, _) => Some((left.get(), 1)),
+        _ => None,
+    }
+}
+
+/// A parenthesis, if the expression does not bind so strongly.
+fn put_parenthesis(
+    out: &mut Seq<Lexeme>,
+    sign: Lexeme,
+    least: u8,
+    expr: &Expr,
+) -> Result<(), NoMemory>
+    ensures { OnOk result (out.new ≡ out.old ++ part.parenthesis sign least (print.print_of expr.now)) }
+{
+    if strength(expr) < least {
+        put(out, sign)
+    } else {
+        Ok(())
+    }
+}
+
+/// The parenthesis behind the left side.
+fn put_closing(out: &mut Seq<Lexeme>, expr: &Expr) -> Result<(), NoMemory>
+    ensures { OnOk result (out.new ≡ out.old ++ part.closing (part.left expr.now)) }
+{
+    match left_of(expr) {
+        Some((left, least)) => put_parenthesis(out, Lexeme::CloseParen, least, left),
+        None => Ok(()),
+    }
+}
+
+/// Goes down to the innermost left side, and puts the parentheses that open on the way. It gives the expressions that it
+/// comes by, the innermost last.
+fn put_openings<'a>(out: &mut Seq<Lexeme>, expr: &'a Expr) -> Result<Seq<&'a Expr>, NoMemory>
+    ensures put { IfOk result (λ parts. out.new ++ part.behind (map (λ p. p.now) parts) ≡ out.old ++ print.expr_tokens expr.now) }
+    ensures within { IfOk result (λ parts. part.NoDeeper (size-Expr expr.now) (map (λ p. p.now) parts)) }
+{
+    let mut parts = Seq::new(out.alloc());
+    let mut current = expr;
+    loop {
+        parts.push(current)?;
+        match left_of(current) {
+            Some((left, least)) => {
+                put_parenthesis(out, Lexeme::OpenParen, least, left)?;
+                current = left;
+            }
+            None => return Ok(parts),
+        }
+    }
+}
+
+/// An expression. A long sum, and a long chain of attributes, calls and subscriptions, is a tree that is deep to the left
+/// alone: the left sides are printed in a loop, so that the native stack holds a few calls for each open level.
 #[cycle(exprs)]
 pub(crate) fn put_expr(out: &mut Seq<Lexeme>, expr: &Expr) -> Result<(), NoMemory>
     ensures { OnOk result (out.new ≡ out.old ++ print.expr_tokens expr.now) }
+{
+    // What begins with no other expression, as a name, needs no list.
+    if let None = left_of(expr) {
+        return put_own(out, expr);
+    }
+    let mut parts = put_openings(out, expr)?;
+    while let Some(part) = parts.pop() {
+        put_closing(out, part)?;
+        put_own(out, part)?;
+    }
+    Ok(())
+}
+
+/// What stands behind the left side of an expression, and all of it where it has none.
+#[cycle(exprs)]
+fn put_own(out: &mut Seq<Lexeme>, expr: &Expr) -> Result<(), NoMemory>
+    ensures { OnOk result (out.new ≡ out.old ++ part.own expr.now) }
 {
     match expr {
         Expr::Name(name) => put_name(out, name),
@@ -38,38 +121,27 @@ pub(crate) fn put_expr(out: &mut Seq<Lexeme>, expr: &Expr) -> Result<(), NoMemor
         Expr::False => put(out, Lexeme::False),
         Expr::Tuple(items) => put_tuple(out, items),
         Expr::List(items) => put_list(out, items),
-        Expr::Attribute(object, name) => {
-            put_operand(out, 8, object.get())?;
-            put_attribute(out, name)
-        }
-        Expr::Call(callee, arguments) => {
-            put_operand(out, 8, callee.get())?;
-            put_arguments(out, arguments)
-        }
-        Expr::Subscript(object, index) => {
-            put_operand(out, 8, object.get())?;
-            put_index(out, index.get())
-        }
+        Expr::Attribute(_, name) => put_attribute(out, name),
+        Expr::Call(_, arguments) => put_arguments(out, arguments),
+        Expr::Subscript(_, index) => put_index(out, index.get()),
         Expr::Negative(operand) => put_signed(out, Lexeme::Minus, 7, operand.get()),
-        Expr::Binary(op, left, right) => {
-            put_operand(out, op_strength(*op), left.get())?;
+        Expr::Binary(op, _, right) => {
             put_signed(out, op_sign(*op), op_strength(*op) + 1, right.get())
         }
-        Expr::Compare(op, left, right) => {
-            put_operand(out, 5, left.get())?;
-            put_comparator(out, *op)?;
-            put_operand(out, 5, right.get())
-        }
+        Expr::Compare(op, _, right) => put_compared(out, *op, right.get()),
         Expr::Not(operand) => put_signed(out, Lexeme::Not, 3, operand.get()),
-        Expr::And(left, right) => {
-            put_operand(out, 2, left.get())?;
-            put_signed(out, Lexeme::And, 3, right.get())
-        }
-        Expr::Or(left, right) => {
-            put_operand(out, 1, left.get())?;
-            put_signed(out, Lexeme::Or, 2, right.get())
-        }
+        Expr::And(_, right) => put_signed(out, Lexeme::And, 3, right.get()),
+        Expr::Or(_, right) => put_signed(out, Lexeme::Or, 2, right.get()),
     }
+}
+
+/// A comparison before its right operand.
+#[cycle(exprs)]
+fn put_compared(out: &mut Seq<Lexeme>, comparison: Comparison, expr: &Expr) -> Result<(), NoMemory>
+    ensures { OnOk result (out.new ≡ out.old ++ (print.comparator comparison ++ print.operand 5 (print.print_of expr.now))) }
+{
+    put_comparator(out, comparison)?;
+    put_operand(out, 5, expr)
 }
 
 /// An expression where only what binds so strongly may stand.
