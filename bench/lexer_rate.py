@@ -7,7 +7,6 @@ so the rates of each at 64 KiB, 256 KiB and 1 MiB lie within a factor of 1.5 of 
 not. What the parser takes has the lexer's part in it.
 """
 import pathlib
-import sys
 import tempfile
 
 import scratch
@@ -70,14 +69,10 @@ def main():
     with tempfile.TemporaryDirectory() as folder:
         _, written = scratch.run(pathlib.Path(folder), "token_rate", PROGRAM, ["py_lexer", "py_parser"])
     rates = []
-    for line in written.splitlines():
-        words = line.split()
-        if len(words) == 4 and all(word.isdigit() for word in words):
-            size, count, lexing, parsing = (int(word) for word in words)
-            rates.append((size / lexing * 1e3, size / parsing * 1e3))
-            print(f"{size} bytes, {count} tokens: lexer {rates[-1][0]:.1f} MB/s, parser {rates[-1][1]:.1f} MB/s")
-    if len(rates) != 3 or any(max(column) > 1.5 * min(column) for column in zip(*rates)):
-        sys.exit("the rates differ by more than a factor of 1.5")
+    for size, count, lexing, parsing in scratch.numbers(written, 4):
+        rates.append((size / lexing * 1e3, size / parsing * 1e3))
+        print(f"{size} bytes, {count} tokens: lexer {rates[-1][0]:.1f} MB/s, parser {rates[-1][1]:.1f} MB/s")
+    scratch.end_unless_linear(rates, 3)
 
 
 if __name__ == "__main__":

@@ -41,3 +41,17 @@ def run(folder, name, program, uses, proofs=None):
     if done.returncode != 0:
         sys.exit(done.stdout + done.stderr)
     return crate, done.stdout
+
+
+def numbers(written, width):
+    """The lines of what a program wrote that are so many whole numbers."""
+    lines = [line.split() for line in written.splitlines()]
+    return [[int(word) for word in words] for words in lines if len(words) == width and all(word.isdigit() for word in words)]
+
+
+def end_unless_linear(rates, sizes):
+    """Ends the whole script where there are no rates for each of the sizes, or those of one kind differ by more than a
+    factor of 1.5. `rates` has a row of rates, one of each kind, for a size.
+    """
+    if len(rates) != sizes or any(max(kind) > 1.5 * min(kind) for kind in zip(*rates)):
+        sys.exit("the rates differ by more than a factor of 1.5")

@@ -6,7 +6,6 @@ the crates, some twenty minutes on a new machine), and prints the best rates of 
 entries. The work is linear, so the rates lie within a factor of 1.5 of each other. Exit status 1 where they do not.
 """
 import pathlib
-import sys
 import tempfile
 
 import scratch
@@ -64,14 +63,10 @@ def main():
     with tempfile.TemporaryDirectory() as folder:
         _, written = scratch.run(pathlib.Path(folder), "trace_rate", PROGRAM, ["trace_read", "trace_text"])
     rates = []
-    for line in written.splitlines():
-        words = line.split()
-        if len(words) == 3 and all(word.isdigit() for word in words):
-            size, reading, writing = (int(word) for word in words)
-            rates.append(size / (reading / 1e9))
-            print(f"{size} bytes: read {size / (reading / 1e9) / 1e6:.1f} MB/s, written {size / (writing / 1e9) / 1e6:.1f} MB/s")
-    if len(rates) != 2 or max(rates) > 1.5 * min(rates):
-        sys.exit("the rates differ by more than a factor of 1.5")
+    for size, reading, writing in scratch.numbers(written, 3):
+        rates.append((size / reading * 1e3, size / writing * 1e3))
+        print(f"{size} bytes: read {rates[-1][0]:.1f} MB/s, written {rates[-1][1]:.1f} MB/s")
+    scratch.end_unless_linear(rates, 2)
 
 
 if __name__ == "__main__":
