@@ -3,7 +3,5 @@
 #![tactic(auto)]
 
 mod read;
-#[cfg(test)]
-mod tests;
 
 pub use read::read_number;

@@ -1,4 +1,0 @@
-pub mod Bones
-pub mod Sound
-pub mod Answered
-pub mod Begun

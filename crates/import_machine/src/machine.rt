@@ -2,15 +2,20 @@
 ghost use Rattle.std.specs.Prelude.{◌≡◌, ◌≤◌, ℕ, length, IfOk, OnOk, OnErr, IsTrue, List};
 ghost use Rattle.std.specs.Option.{option_copied};
 ghost use Rattle.std.specs.List.{sum};
+ghost use Rattle.machine_events.specs.Fitting.{Fits};
 ghost use Rattle.machine_state.specs.Step.{step};
 ghost use Rattle.machine_state.specs.Allowed.{allowed, scripts};
 ghost use Rattle.machine_state.specs.Gives.{gives};
 ghost use Rattle.machine_state.specs.Opening.{opening};
-ghost use Rattle.import_machine.specs.Sound.{IsSound};
+ghost use Rattle.machine_laws.specs.Begun.{HaveScripts};
+ghost use Rattle.machine_laws.specs.Sound.{IsSound};
 
 use base_types::{NoMemory, Seq, Texts};
+use machine_allowed::{allowed, scripts};
 use machine_events::{Event, Reply};
+use machine_opening::open;
 use machine_state::State;
+use machine_steps::{gives, reply, step};
 use spec_core::Dotted;
 use std::marker::Model;
 
@@ -23,7 +28,7 @@ pub struct Machine {
 impl Model for Machine {
     ghost use Rattle.machine_state.specs.declared.state.State.{State as S};
     ghost use Rattle.machine_state.specs.contracts.state.State.{the_row};
-    ghost use Rattle.import_machine.specs.Sound.{IsSound};
+    ghost use Rattle.machine_laws.specs.Sound.{IsSound};
 
     ghost Value = { S };
 
@@ -35,21 +40,23 @@ impl Model for Machine {
 }
 
 impl Machine {
-    /// The machine before the first event: scripts with their texts, the search path, and the sizes of
-    /// the rounds in which the scripts run, one after another.
+    /// The machine before the first event: 1 to 16 scripts with their texts, the search path, and the
+    /// sizes of the rounds, each at least 1, in which the scripts run, one after another.
     pub fn new(
         scripts: &Texts,
         texts: &Seq<Seq<u8>>,
         path: &Texts,
         rounds: &[u32],
     ) -> Result<Machine, NoMemory>
+        requires some { 1 ≤ length scripts.now }
         requires few { length scripts.now ≤ 16 }
         requires texts { length texts.now ≡ length scripts.now }
+        requires each { HaveScripts rounds.now }
         requires rounds { sum rounds.now ≡ length scripts.now }
         ensures { IfOk result (λ it. it ≡ opening scripts.now texts.now path.now rounds.now) }
     {
         Ok(Machine {
-            state: State::open(scripts, texts, path, rounds)?,
+            state: open(scripts, texts, path, rounds)?,
         })
     }
 
@@ -57,24 +64,25 @@ impl Machine {
     pub fn step(&mut self, thread: u32, event: Event) -> Result<Reply, NoMemory>
         requires { IsTrue (allowed self.old thread event) }
         ensures reply { IfOk result (λ reply. reply ≡ (step self.old thread event).0) }
+        ensures fits { IfOk result (Fits event) }
         ensures ok { OnOk result (self.new ≡ (step self.old thread event).1) }
         ensures err { OnErr result (self.new ≡ self.old) }
     {
-        self.state.step(thread, event)
+        step(&mut self.state, thread, event)
     }
 
     /// What `step` would answer to the event. It changes nothing.
     pub fn reply(&self, thread: u32, event: &Event) -> Result<Reply, NoMemory>
         ensures { IfOk result (λ reply. reply ≡ (step self.now thread event.now).0) }
     {
-        self.state.reply(thread, event)
+        reply(&self.state, thread, event)
     }
 
     /// Whether the thread may make the event. It takes no memory.
     pub fn allowed(&self, thread: u32, event: &Event) -> bool
         ensures { result ≡ allowed self.now thread event.now }
     {
-        self.state.allowed(thread, event)
+        allowed(&self.state, thread, event)
     }
 
     /// The name whose lock's count the event lowers: of Finish, Release, AddLazy, and a ReloadEnd with
@@ -82,14 +90,14 @@ impl Machine {
     pub fn gives<'a>(&'a self, event: &'a Event) -> Option<&'a Dotted>
         ensures { option_copied result ≡ gives self.now event.now }
     {
-        self.state.gives(event)
+        gives(&self.state, event)
     }
 
     /// The number of scripts. It takes no memory.
     pub fn scripts(&self) -> u32
         ensures { result ≡ scripts self.now }
     {
-        self.state.scripts()
+        scripts(&self.state)
     }
 
     /// What holds in every state.

@@ -8,8 +8,6 @@ mod path;
 mod plan;
 mod read;
 mod run;
-#[cfg(test)]
-mod tests;
 
 pub use command::usage_line;
 pub use plan::{Plan, RunPlan, WordsError};

@@ -9,7 +9,7 @@ use Rattle.machine_book.specs.declared.outlet.Flow.TheVariants.{Open, Failed, Sh
 use Rattle.machine_state.specs.declared.state.State.{State}
 use Rattle.thread_knowledge.specs.Own.{HasEnded, Ready}
 use Rattle.machine_book.specs.Sight.{Sight, Telling, KeepsUp, IsReady, Continues}
-use Rattle.machine_book.specs.Outgo.{Outgo, Pieces, Kept, text_of, Appends, AppendsPart, Flows, FlowsFrom}
+use Rattle.machine_book.specs.Outgo.{Outgo, Pieces, Kept, text_of, Appends, AppendsPart, Flows, Rests, FlowsFrom}
 
 pub appends_then : (a b c : Option (List ℕ)) (x y : List ℕ) → Appends a b x → Appends b c y → Appends a c (x ++ y)
 appends_then None None None x y p q = tt
@@ -35,17 +35,17 @@ part_still a b c x y p q = record {
   gained = appends_then a b c p.part [] p.gained q;
 }
 
-still : (a b c : Option (List ℕ)) → Appends a b [] → Appends b c [] → Appends a c []
-still a b c p q = appends_then a b c [] [] p q
+rests : (a b c : Outgo) → Rests a b → Rests b c → Rests a c
+rests a b c p q = (q.0 ∙ p.0, appends_then a.written b.written c.written [] [] p.1 q.1, q.2 ∙ p.2)
 
-module _ (a b c : Outgo) (x y : List ℕ) (ab : a.faults ≤ b.faults) (bc : b.faults ≤ c.faults) where
+module _ (a b c : Outgo) (x y : List ℕ) where
   -- from an open start, by the flow in the middle and at the end
   flows_then : (m e : Flow) → b.flow ≡ m → c.flow ≡ e → Flows a x b m → FlowsFrom b y c m → Flows a (x ++ y) c e
-  flows_then Open Open mb ec p q = appends_then a.written b.written c.written x y p (rw ec at q)
-  flows_then Open Failed mb ec p q = let r : AppendsPart b.written c.written y × (Rose b.faults c.faults) = rw ec at q in (part_then a.written b.written c.written x y p r.0, omega (arith, r.1))
-  flows_then Open Short mb ec p q = part_then a.written b.written c.written x y p (rw ec at q)
-  flows_then Failed Failed mb ec p q = (part_still a.written b.written c.written x y p.0 q.1, omega (arith, p.1))
-  flows_then Short Short mb ec p q = part_still a.written b.written c.written x y p q.1
+  flows_then Open Open mb ec p q = let r : Appends b.written c.written y × (c.faults ≡ b.faults) = rw ec at q in (appends_then a.written b.written c.written x y p.0 r.0, r.1 ∙ p.1)
+  flows_then Open Failed mb ec p q = let r : AppendsPart b.written c.written y × Rose b.faults c.faults = rw ec at q in (part_then a.written b.written c.written x y p.0 r.0, subst (λ f. Rose f c.faults) p.1 r.1)
+  flows_then Open Short mb ec p q = let r : AppendsPart b.written c.written y × (c.faults ≡ b.faults) = rw ec at q in (part_then a.written b.written c.written x y p.0 r.0, r.1 ∙ p.1)
+  flows_then Failed Failed mb ec p q = (part_still a.written b.written c.written x y p.0 q.1, subst (λ f. Rose a.faults f) (sym q.2) p.1)
+  flows_then Short Short mb ec p q = (part_still a.written b.written c.written x y p.0 q.1, q.2 ∙ p.1)
   flows_then Failed Open mb ec p q = absurd (cc (mb, ec, q.0))
   flows_then Failed Short mb ec p q = absurd (cc (mb, ec, q.0))
   flows_then Short Open mb ec p q = absurd (cc (mb, ec, q.0))
@@ -54,15 +54,15 @@ module _ (a b c : Outgo) (x y : List ℕ) (ab : a.faults ≤ b.faults) (bc : b.f
   -- from any start
   from_then : (s : Flow) → a.flow ≡ s → FlowsFrom a x b s → FlowsFrom b y c b.flow → FlowsFrom a (x ++ y) c s
   from_then Open sa p q = flows_then b.flow c.flow refl refl p q
-  from_then Failed sa p q = let q' : (c.flow ≡ Failed) × Appends b.written c.written [] = rw (p.0 ∙ sa) at q in (q'.0 ∙ sym sa, still a.written b.written c.written p.1 q'.1)
-  from_then Short sa p q = let q' : (c.flow ≡ Short) × Appends b.written c.written [] = rw (p.0 ∙ sa) at q in (q'.0 ∙ sym sa, still a.written b.written c.written p.1 q'.1)
+  from_then Failed sa p q = rests a b c p (subst (λ f. FlowsFrom b y c f) (p.0 ∙ sa) q)
+  from_then Short sa p q = rests a b c p (subst (λ f. FlowsFrom b y c f) (p.0 ∙ sa) q)
 
 pub kept_next : (piece : Pieces) (a b c : Outgo) (entries : List Entry) (entry : Entry) → Kept piece a b entries → Kept piece b c (entry ∷ []) → Kept piece a c (entries ++ entry ∷ [])
 kept_next piece a b c entries entry p q = record {
   trace = q.trace ∙ p.trace;
   faults = omega (arith, p.faults, q.faults);
   text = rw (flat_map-append (piece a.trace) entries (entry ∷ []))
-      (from_then a b c (text_of piece a.trace entries) (text_of piece a.trace (entry ∷ [])) p.faults q.faults a.flow refl p.text (rw p.trace at q.text));
+      (from_then a b c (text_of piece a.trace entries) (text_of piece a.trace (entry ∷ [])) a.flow refl p.text (rw p.trace at q.text));
 }
 
 pub kept_then : (piece : Pieces) (a b c : Outgo) (xs ys : List Entry) → Kept piece a b xs → Kept piece b c ys → Kept piece a c (xs ++ ys)
@@ -70,7 +70,7 @@ kept_then piece a b c xs ys p q = record {
   trace = q.trace ∙ p.trace;
   faults = omega (arith, p.faults, q.faults);
   text = rw (flat_map-append (piece a.trace) xs ys)
-      (from_then a b c (text_of piece a.trace xs) (text_of piece a.trace ys) p.faults q.faults a.flow refl p.text (rw p.trace at q.text));
+      (from_then a b c (text_of piece a.trace xs) (text_of piece a.trace ys) a.flow refl p.text (rw p.trace at q.text));
 }
 
 keeps_then : (a b c : Option Telling) (xs ys : List Entry) → KeepsUp a b xs → KeepsUp b c ys → KeepsUp a c (xs ++ ys)
@@ -81,7 +81,7 @@ keeps_then None (Some b) c xs ys p q = absurd p
 keeps_then (Some a) None c xs ys p q = absurd p
 keeps_then (Some a) (Some b) None xs ys p q = absurd q
 
-pub continues_trans : (a b c : Sight) → Continues a b → Continues b c → Continues a c
+pub continues_trans : {P : Type 0} (a b c : Sight P) → Continues a b → Continues b c → Continues a c
 continues_trans a b c p q = record {
   opening = q.opening ∙ p.opening;
   number = q.number ∙ p.number;
@@ -95,9 +95,9 @@ appends_none None = tt
 appends_none (Some a) = sym (append-nil a)
 
 still_from : (a : Outgo) (f : Flow) → a.flow ≡ f → FlowsFrom a [] a f
-still_from a Open h = rw h (appends_none a.written)
-still_from a Failed h = (refl, appends_none a.written)
-still_from a Short h = (refl, appends_none a.written)
+still_from a Open h = rw h (appends_none a.written, refl)
+still_from a Failed h = (refl, appends_none a.written, refl)
+still_from a Short h = (refl, appends_none a.written, refl)
 
 pub kept_none : (piece : Pieces) (a : Outgo) → Kept piece a a []
 kept_none piece a = record { trace = refl; faults = omega arith; text = still_from a a.flow refl }
@@ -106,11 +106,11 @@ keeps_none : (a : Option Telling) → KeepsUp a a []
 keeps_none None = tt
 keeps_none (Some a) = (refl, kept_none a.piece a.out)
 
-pub continues_refl : (a : Sight) → Continues a a
+pub continues_refl : {P : Type 0} (a : Sight P) → Continues a a
 continues_refl a = record { opening = refl; number = refl; place = refl; seen = record { rest = []; joined = append-nil a.seen }; keeps = keeps_none a.telling }
 
 -- one entry more
-pub continues_snoc : (a b : Sight) (e : Entry) → b.opening ≡ a.opening → b.number ≡ a.number → b.place ≡ a.place → b.seen ≡ a.seen ++ e ∷ [] → KeepsUp a.telling b.telling (e ∷ []) → Continues a b
+pub continues_snoc : {P : Type 0} (a b : Sight P) (e : Entry) → b.opening ≡ a.opening → b.number ≡ a.number → b.place ≡ a.place → b.seen ≡ a.seen ++ e ∷ [] → KeepsUp a.telling b.telling (e ∷ []) → Continues a b
 continues_snoc a b e o n p s k = record { opening = o; number = n; place = p; seen = record { rest = e ∷ []; joined = sym s }; keeps = k }
 
 -- who has an End in a history has it in a longer one
@@ -127,7 +127,7 @@ ready_longer rounds old more new t is ready = record {
 }
 
 -- a desk that is ready stays so
-pub ready_on : (a b : Sight) → Continues a b → IsReady a → IsReady b
+pub ready_on : {P : Type 0} (a b : Sight P) → Continues a b → IsReady a → IsReady b
 ready_on a b c ready =
     let longer : Ready a.opening.rounds b.seen a.number = ready_longer a.opening.rounds a.seen c.seen.rest b.seen a.number c.seen.joined ready in
     subst (λ n. Ready b.opening.rounds b.seen n) (sym c.number) (subst (λ (s : State). Ready s.rounds b.seen a.number) (sym c.opening) longer)

@@ -1,4 +1,5 @@
 pub mod Histories
 pub mod Outgo
+pub mod StartCode
 pub mod Sight
 pub mod Bound

@@ -1,6 +1,5 @@
 -- What a desk stands for, and what its calls do to that.
 use Rattle.std.specs.Prelude.{◌≡◌, ℕ, List, [], ◌∷◌, ◌++◌, Option, Some, None}
-use Rattle.std.specs.Borrow.{GName}
 use Rattle.machine_events.specs.declared.event.Event.{Event}
 use Rattle.machine_events.specs.declared.event.Reply.{Reply}
 use Rattle.machine_events.specs.declared.event.Entry.{Entry}
@@ -23,13 +22,14 @@ KeepsUp (Some old) (Some new) entries = (new.piece ≡ old.piece) × Kept old.pi
 KeepsUp None (Some new) entries = ⊥
 KeepsUp (Some old) None entries = ⊥
 
-pub record Sight : Type 0 where
+-- P is what desks of one kind say of themselves
+pub record Sight (P : Type 0) : Type 0 where
   -- the state that the machine was opened in
   pub opening : State
   -- the desk's thread
   pub number : ℕ
-  -- which borrow the desk works on
-  pub place : GName
+  -- what else the desk says of itself that no call changes, as where it works
+  pub place : P
   -- the history so far, as far as the desk saw it
   pub seen : List Entry
   -- the book's outlet, if the desk can tell
@@ -38,11 +38,11 @@ pub record Sight : Type 0 where
   pub mine : List (Event × Reply)
 
 -- the desk's thread is one of the scripts, and every thread of an earlier round has its End in what is seen
-abbrev pub IsReady : Sight → Type 0
+abbrev pub IsReady : {P : Type 0} → Sight P → Type 0
 IsReady sight = Ready sight.opening.rounds sight.seen sight.number
 
 -- no call changes the first three, and the history only grows
-pub record Continues (old new : Sight) : Type 0 where
+pub record Continues {P : Type 0} (old new : Sight P) : Type 0 where
   pub opening : new.opening ≡ old.opening
   pub number : new.number ≡ old.number
   pub place : new.place ≡ old.place
@@ -50,7 +50,7 @@ pub record Continues (old new : Sight) : Type 0 where
   pub keeps : KeepsUp old.telling new.telling seen.rest
 
 -- the event was made, and got this reply; what is seen then is legal
-pub record Gains (old new : Sight) (event : Event) (reply : Reply) : Type 0 where
+pub record Gains {P : Type 0} (old new : Sight P) (event : Event) (reply : Reply) : Type 0 where
   pub legal : IsLegal new.opening new.seen
   pub entry : EndsWith new.seen (record { thread = new.number; event = event; reply = reply })
   pub mine : new.mine ≡ old.mine ++ (event, reply) ∷ []

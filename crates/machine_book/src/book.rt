@@ -1,8 +1,8 @@
 //! A machine with the history of its events.
-ghost use Rattle.std.specs.Prelude.{◌≡◌, ◌++◌, ◌∷◌, [], OnErr, IfOk};
+ghost use Rattle.std.specs.Prelude.{◌≡◌, ◌++◌, ◌∷◌, [], length, OnErr, IfOk};
 ghost use Rattle.machine_events.specs.Fitting.{Fits};
 ghost use Rattle.machine_state.specs.Legal.{Allowed, IsLegal, replay};
-ghost use Rattle.import_machine.specs.Begun.{Begun, first};
+ghost use Rattle.machine_laws.specs.Begun.{Begun, first};
 ghost use Rattle.machine_book.specs.Bound.{opened, CanOpen};
 ghost use Rattle.machine_book.specs.Outgo.{Kept};
 
@@ -61,6 +61,13 @@ impl<O: Outlet> Book<O> {
         ensures { result.now ≡ replay self.now.opening self.now.history }
     {
         &self.machine
+    }
+
+    /// The number of entries of the history. It takes no memory.
+    pub fn len(&self) -> usize
+        ensures { result ≡ length self.now.history }
+    {
+        self.history.len()
     }
 
     /// The history is legal, from the state in which a machine begins.

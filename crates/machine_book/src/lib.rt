@@ -12,4 +12,4 @@ pub use book::Book;
 pub use desk::{Desk, Halt};
 pub use opening::Opening;
 pub use outlet::{Flow, Outlet, outlets_keep_up};
-pub use solo::SoloDesk;
+pub use solo::{Borrowed, SoloDesk};

@@ -1,6 +1,7 @@
 //! What a machine is opened with.
 ghost use Rattle.std.specs.Prelude.{◌≡◌, ◌≤◌, length, IfOk};
 ghost use Rattle.std.specs.List.{sum};
+ghost use Rattle.machine_laws.specs.Begun.{HaveScripts};
 
 use base_types::{NoMemory, Seq, Texts};
 use import_machine::Machine;
@@ -20,8 +21,10 @@ impl Opening {
 
     /// The machine before the first event.
     pub fn machine(&self) -> Result<Machine, NoMemory>
+        requires some { 1 ≤ length self.now.scripts }
         requires few { length self.now.scripts ≤ 16 }
         requires texts { length self.now.texts ≡ length self.now.scripts }
+        requires each { HaveScripts self.now.rounds }
         requires rounds { sum self.now.rounds ≡ length self.now.scripts }
         ensures { IfOk result (λ it. it ≡ opened self.now) }
     {

@@ -187,3 +187,11 @@ pub struct Pair {
     pub event: Event,
     pub reply: Reply,
 }
+
+/// Whether a script's recorded pairs follow what the script means: all of them, or the least place
+/// whose event is not the one that is due.
+#[derive(Clone, Copy, PartialEq, Eq, Drop)]
+pub enum Follow {
+    Yes,
+    Parts { at: u32 },
+}

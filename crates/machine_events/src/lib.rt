@@ -5,7 +5,10 @@
 
 mod copies;
 mod event;
+mod fitting;
 mod module;
+mod sames;
 
-pub use event::{Entry, Event, Outcome, Pair, Reply};
+pub use event::{Entry, Event, Follow, Outcome, Pair, Reply};
+pub use fitting::fits;
 pub use module::{Slot, module_of};

@@ -10,10 +10,10 @@ use Rattle.module_table.specs.declared.module.LoadKind.TheVariants as load_kinds
 use Rattle.module_table.specs.declared.module.Reload.{Reload}
 use Rattle.machine_state.specs.Parts.{is_open, is_main, is_imported}
 use Rattle.machine_state.specs.Allowed.{is_reload, is_number}
-use Rattle.import_machine.specs.Bones.{Bones, Module, Body, is_named, counts_in, opens, held}
-use Rattle.import_machine.proofs.Counts.{bit, counts_own}
-use Rattle.import_machine.proofs.Holds.{same_text, same_name, same_self}
-use Rattle.import_machine.proofs.Lists.{pushed_last, set_there, set_elsewhere}
+use Rattle.machine_laws.specs.Bones.{Bones, Module, Body, is_named, counts_in, opens, held}
+use Rattle.machine_laws.proofs.Counts.{bit, counts_own}
+use Rattle.machine_laws.proofs.Holds.{same_text, same_name, same_self}
+use Rattle.machine_laws.proofs.Lists.{pushed_last, set_there, set_elsewhere}
 use Rattle.thread_knowledge.specs.Holdings.{Holding, Taken, Loading, Reloading, is_holding}
 use Rattle.thread_knowledge.specs.Holdings as holdings
 use Rattle.thread_knowledge.specs.Shown.{Doing, Running, Waiting, Over}

@@ -15,14 +15,14 @@ use Rattle.machine_state.specs.Step.{step}
 use Rattle.machine_state.specs.Allowed.{allowed, is_due, has_ended, has_leave, has_ns}
 use Rattle.machine_state.specs.Legal.{replay, IsLegal}
 use Rattle.machine_state.specs.Opening.{script_objects, sys_module, importlib_module, pyimport_module}
-use Rattle.import_machine.specs.Bones.{bones}
-use Rattle.import_machine.specs.Sound.{IsSound}
-use Rattle.import_machine.specs.Begun.{Begun, first}
-use Rattle.import_machine.proofs.Always.{sound_first}
-use Rattle.import_machine.proofs.Steps.{sound_step}
-use Rattle.import_machine.proofs.Going.{goes_step}
-use Rattle.import_machine.proofs.Lists.{within}
-use Rattle.import_machine.proofs.First.{rounds_long}
+use Rattle.machine_laws.specs.Bones.{bones}
+use Rattle.machine_laws.specs.Sound.{IsSound}
+use Rattle.machine_laws.specs.Begun.{Begun, first}
+use Rattle.machine_laws.proofs.Always.{sound_first}
+use Rattle.machine_laws.proofs.Steps.{sound_step}
+use Rattle.machine_laws.proofs.Going.{goes_step}
+use Rattle.machine_laws.proofs.Lists.{within}
+use Rattle.machine_laws.proofs.First.{rounds_long}
 use Rattle.thread_knowledge.specs.Shown.{Shown, shown, shown_first, shown_more, named, numbered, load_numbered, namespace_of}
 use Rattle.thread_knowledge.specs.Knowing.{Has}
 use Rattle.thread_knowledge.specs.Own.{own, IsEnd, HasEnded}

@@ -30,11 +30,11 @@ use Rattle.machine_state.specs.declared.state.State.{State}
 use Rattle.machine_state.specs.Parts.{is_open, is_main, is_imported}
 use Rattle.machine_state.specs.Known.{is_module, is_module_of, is_place_of, names_modules, slot_names_module}
 use Rattle.machine_state.specs.Allowed.{fits, has_spare, spare_of, counts_for, has_text, has_body, is_source, can_finish, has_object, has_ns, is_ns_path, is_path_item, is_absent, has_name, is_open_of, is_number, is_reload, is_reloading, reloads_object, can_end}
-use Rattle.import_machine.specs.Bones.{Module, Body, bones, module_bone, body_bone, is_named, counts_in, opens, held, held_by}
-use Rattle.import_machine.proofs.Counts.{bit}
-use Rattle.import_machine.proofs.Lists.{within}
-use Rattle.import_machine.proofs.Same.{get_map, map_at}
-use Rattle.import_machine.proofs.Leave.{opens_of}
+use Rattle.machine_laws.specs.Bones.{Module, Body, bones, module_bone, body_bone, is_named, counts_in, opens, held, held_by}
+use Rattle.machine_laws.proofs.Counts.{bit}
+use Rattle.machine_laws.proofs.Lists.{within}
+use Rattle.machine_laws.proofs.Same.{get_map, map_at}
+use Rattle.machine_laws.proofs.Leave.{opens_of}
 use Rattle.thread_knowledge.specs.Holdings.{Holding, Taken, Loading, Reloading}
 use Rattle.thread_knowledge.specs.Shown.{Shown, modules_in, loads_in}
 use Rattle.thread_knowledge.specs.Knowing.{Has, HasAll, HasMid, HasName, KnowsAll, KnowsItems, KnowsSlot, MayBeSearched, MayAdd, MayBeLazy, MayBeMain, Enough}

@@ -48,10 +48,10 @@ use Rattle.machine_state.specs.Reloads.{is_entry, busy_of, enter, reload_begin_o
 use Rattle.machine_state.specs.Lazies.{open_lazy, rouse_lazy, rouse_phase, rouse_on}
 use Rattle.machine_state.specs.Step.{step}
 use Rattle.machine_state.specs.Allowed.{allowed, has_object, is_ns_path, is_path_item, is_absent, has_ns, has_text, has_name, is_reloading, reloads_object}
-use Rattle.import_machine.proofs.Same.{either}
-use Rattle.import_machine.proofs.Holds.{same_text}
-use Rattle.import_machine.proofs.Lists.{pushed_at, pushed_last, pushed_keeps, within}
-use Rattle.import_machine.proofs.Leave.{fitting}
+use Rattle.machine_laws.proofs.Same.{either}
+use Rattle.machine_laws.proofs.Holds.{same_text}
+use Rattle.machine_laws.proofs.Lists.{pushed_at, pushed_last, pushed_keeps, within}
+use Rattle.machine_laws.proofs.Leave.{fitting}
 use Rattle.thread_knowledge.specs.Shown.{named, numbered, load_numbered, slot_modules, modules_in, loads_in}
 use Rattle.thread_knowledge.specs.Knowing.{Has}
 use Rattle.machine_knowledge.proofs.Values.{all_there, all_made, names_are, items_are, mapped_items, made_each}

@@ -20,13 +20,13 @@ use Rattle.machine_state.specs.Parts.{is_imported}
 use Rattle.machine_state.specs.Known.{slot_names_module}
 use Rattle.machine_state.specs.Allowed.{is_reload}
 use Rattle.machine_state.specs.Opening.{opening, script_object, script_objects, script_load, script_loads, sys_module, importlib_module, pyimport_module, with_cached, with_scripts}
-use Rattle.import_machine.specs.Bones.{Module, Body, bones, body_bone, held, held_by}
-use Rattle.import_machine.proofs.Counts.{bit}
-use Rattle.import_machine.specs.Begun.{Begun, first}
-use Rattle.import_machine.proofs.Holds.{same_text}
-use Rattle.import_machine.proofs.Lists.{pushed_at, pushed_last}
-use Rattle.import_machine.proofs.Same.{unmap}
-use Rattle.import_machine.proofs.Always.{sound_first}
+use Rattle.machine_laws.specs.Bones.{Module, Body, bones, body_bone, held, held_by}
+use Rattle.machine_laws.proofs.Counts.{bit}
+use Rattle.machine_laws.specs.Begun.{Begun, first}
+use Rattle.machine_laws.proofs.Holds.{same_text}
+use Rattle.machine_laws.proofs.Lists.{pushed_at, pushed_last}
+use Rattle.machine_laws.proofs.Same.{unmap}
+use Rattle.machine_laws.proofs.Always.{sound_first}
 use Rattle.thread_knowledge.specs.Shown.{Running}
 use Rattle.machine_knowledge.proofs.Grow.{grow_pushed}
 use Rattle.machine_knowledge.proofs.Named.{HasNames, AreNamed, text_fits, nothing_fits, sys_modules_named, sys_path_named, native_named, texts_all, named_grown}

@@ -12,7 +12,7 @@ use Rattle.module_table.specs.declared.module.Object.{Object}
 use Rattle.module_table.specs.declared.table.Table.{Table}
 use Rattle.machine_state.specs.Known.{is_module, is_module_of, is_place_of, names_modules}
 use Rattle.machine_state.specs.Allowed.{has_ns}
-use Rattle.import_machine.proofs.Lists.{pushed_keeps, set_there, set_elsewhere, within}
+use Rattle.machine_laws.proofs.Lists.{pushed_keeps, set_there, set_elsewhere, within}
 use Rattle.thread_knowledge.specs.Shown.{modules_in, loads_in}
 use Rattle.machine_knowledge.proofs.Values.{all_there, all_made, names_are, all_more}
 

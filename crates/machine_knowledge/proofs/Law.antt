@@ -10,10 +10,10 @@ use Rattle.module_lock.specs.Table.{can_wake}
 use Rattle.machine_state.specs.declared.state.State.{State}
 use Rattle.machine_state.specs.Allowed.{allowed, is_due, is_due_from, all_ended, has_ended, has_leave, is_wake, fits}
 use Rattle.machine_state.specs.Legal.{Allowed, replay, IsLegal}
-use Rattle.import_machine.specs.Bones.{bones}
-use Rattle.import_machine.specs.Begun.{Begun, first}
-use Rattle.import_machine.proofs.Going.{same_rounds}
-use Rattle.import_machine.proofs.Lists.{within}
+use Rattle.machine_laws.specs.Bones.{bones}
+use Rattle.machine_laws.specs.Begun.{Begun, first}
+use Rattle.machine_laws.proofs.Going.{same_rounds}
+use Rattle.machine_laws.proofs.Lists.{within}
 use Rattle.thread_knowledge.specs.Shown.{Shown, shown, shown_first}
 use Rattle.thread_knowledge.specs.Knowing.{Enough, IsShown, Knows}
 use Rattle.thread_knowledge.specs.Own.{own, HasEnded, Ready}

@@ -7,9 +7,9 @@ use Rattle.std.proofs.lemmas.Bool.{false≢true, eqb-true, ne_eqb, leb-true, leb
 use Rattle.std.proofs.lemmas.Slice.Eq.{bytes_eq-Decides}
 use Rattle.module_lock.specs.declared.locks.Lock.{Lock}
 use Rattle.module_lock.specs.Table.{Table, lock_of, got, given, lowered, taken_count, is_free, is_free_for}
-use Rattle.import_machine.specs.Bones.{held_by, held}
-use Rattle.import_machine.proofs.Counts.{bit}
-use Rattle.import_machine.proofs.Holds.{same_text, same_name, same_self, held_more, held_elsewhere}
+use Rattle.machine_laws.specs.Bones.{held_by, held}
+use Rattle.machine_laws.proofs.Counts.{bit}
+use Rattle.machine_laws.proofs.Holds.{same_text, same_name, same_self, held_more, held_elsewhere}
 
 pub named_same : (m n : List ℕ) → pointwise nat_eq m n ≡ true → m ≡ n
 named_same m n h = (bytes_eq-Decides m n).0 h

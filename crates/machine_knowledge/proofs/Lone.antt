@@ -32,19 +32,19 @@ use Rattle.machine_state.specs.Lazies.{open_lazy, rouse_lazy, rouse_phase, rouse
 use Rattle.machine_state.specs.Opening.{round_starts}
 use Rattle.machine_state.specs.Step.{step}
 use Rattle.machine_state.specs.Legal.{IsLegal}
-use Rattle.import_machine.specs.Bones.{bones, Module, module_bone, counts_in, opens, held_by}
-use Rattle.import_machine.specs.Sound.{IsSound, IsRunning, FitsPhase, HasBody, phase_of}
-use Rattle.import_machine.specs.Answered.{SomeoneGoesOn}
-use Rattle.import_machine.specs.Begun.{Begun, first}
-use Rattle.import_machine.proofs.Same.{either, map_at}
-use Rattle.import_machine.proofs.Counts.{counts_there, some_open}
-use Rattle.import_machine.proofs.Changes.{made_fits}
-use Rattle.import_machine.proofs.Facts.{sound_locked}
-use Rattle.import_machine.proofs.Kept.{not_main}
-use Rattle.import_machine.proofs.Leave.{runs}
-use Rattle.import_machine.proofs.Chain.{someone}
-use Rattle.import_machine.proofs.Going.{goes_step}
-use Rattle.import_machine.proofs.Steps.{sound_step}
+use Rattle.machine_laws.specs.Bones.{bones, Module, module_bone, counts_in, opens, held_by}
+use Rattle.machine_laws.specs.Sound.{IsSound, IsRunning, FitsPhase, HasBody, phase_of}
+use Rattle.machine_laws.specs.Answered.{SomeoneGoesOn}
+use Rattle.machine_laws.specs.Begun.{Begun, first}
+use Rattle.machine_laws.proofs.Same.{either, map_at}
+use Rattle.machine_laws.proofs.Counts.{counts_there, some_open}
+use Rattle.machine_laws.proofs.Changes.{made_fits}
+use Rattle.machine_laws.proofs.Facts.{sound_locked}
+use Rattle.machine_laws.proofs.Kept.{not_main}
+use Rattle.machine_laws.proofs.Leave.{runs}
+use Rattle.machine_laws.proofs.Chain.{someone}
+use Rattle.machine_laws.proofs.Going.{goes_step}
+use Rattle.machine_laws.proofs.Steps.{sound_step}
 use Rattle.thread_knowledge.specs.Shown.{Shown, Doing, Running, Waiting, Over, shown, shown_first, shown_more, does}
 use Rattle.thread_knowledge.specs.Own.{own, IsLone}
 use Rattle.machine_knowledge.proofs.Along.{on_entry, shown_entry, whole_first}

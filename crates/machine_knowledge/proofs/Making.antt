@@ -36,9 +36,9 @@ use Rattle.machine_state.specs.Lazies.{open_lazy, rouse_lazy, rouse_phase, rouse
 use Rattle.machine_state.specs.Opening.{script_loads}
 use Rattle.machine_state.specs.Step.{step}
 use Rattle.machine_state.specs.Legal.{replay}
-use Rattle.import_machine.specs.Begun.{Begun, first}
-use Rattle.import_machine.proofs.Counts.{bit}
-use Rattle.import_machine.proofs.Same.{either, kept_map}
+use Rattle.machine_laws.specs.Begun.{Begun, first}
+use Rattle.machine_laws.proofs.Counts.{bit}
+use Rattle.machine_laws.proofs.Same.{either, kept_map}
 use Rattle.machine_knowledge.specs.Loads.{kinds_of, MadeBy, mains}
 
 abbrev Same : State → Reply × State → Type 0

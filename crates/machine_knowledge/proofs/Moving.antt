@@ -15,15 +15,15 @@ use Rattle.module_table.specs.declared.module.Phase.TheVariants as phases
 use Rattle.module_table.specs.declared.module.Reload.{Reload}
 use Rattle.machine_state.specs.Parts.{is_open, is_imported}
 use Rattle.machine_state.specs.Allowed.{is_reload}
-use Rattle.import_machine.specs.Bones.{Bones, Module, Body, counts_in, opens, held}
-use Rattle.import_machine.specs.Sound.{AreSound}
-use Rattle.import_machine.proofs.Counts.{bit, opens_push, opens_set}
-use Rattle.import_machine.proofs.Holds.{same_text, same_name, same_self}
-use Rattle.import_machine.proofs.Lists.{pushed_last, pushed_at, set_at, within}
-use Rattle.import_machine.proofs.Moves.{made}
-use Rattle.import_machine.proofs.Changes.{opens_made}
-use Rattle.import_machine.proofs.Stages.{staged, opens_staged}
-use Rattle.import_machine.proofs.Kept.{not_main}
+use Rattle.machine_laws.specs.Bones.{Bones, Module, Body, counts_in, opens, held}
+use Rattle.machine_laws.specs.Sound.{AreSound}
+use Rattle.machine_laws.proofs.Counts.{bit, opens_push, opens_set}
+use Rattle.machine_laws.proofs.Holds.{same_text, same_name, same_self}
+use Rattle.machine_laws.proofs.Lists.{pushed_last, pushed_at, set_at, within}
+use Rattle.machine_laws.proofs.Moves.{made}
+use Rattle.machine_laws.proofs.Changes.{opens_made}
+use Rattle.machine_laws.proofs.Stages.{staged, opens_staged}
+use Rattle.machine_laws.proofs.Kept.{not_main}
 use Rattle.thread_knowledge.specs.Holdings.{Holding, Taken, Loading, Reloading, is_holding, without, becoming}
 use Rattle.thread_knowledge.specs.Shown.{Doing, Running, Waiting, Over}
 use Rattle.machine_knowledge.proofs.Times.{times, times_without, times_becoming, holding_self}

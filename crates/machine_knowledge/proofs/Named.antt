@@ -29,7 +29,7 @@ use Rattle.module_table.specs.declared.table.Table.{Table}
 use Rattle.machine_state.specs.Parts.{value_of}
 use Rattle.machine_state.specs.Known.{is_module, names_modules, names_modules_at, slot_names_module}
 use Rattle.machine_state.specs.Allowed.{is_ns_path}
-use Rattle.import_machine.proofs.Lists.{set_at}
+use Rattle.machine_laws.proofs.Lists.{set_at}
 use Rattle.machine_knowledge.proofs.Grow.{Grow, More, names_grow, items_grow, there_grow}
 
 -- a value of a module with or without a namespace state

@@ -28,8 +28,8 @@ use Rattle.machine_state.specs.Variables.{sleeping, value_reply, get_reply}
 use Rattle.machine_state.specs.Reloads.{is_entry, reload_start, reload_take}
 use Rattle.machine_state.specs.Step.{step}
 use Rattle.machine_state.specs.Allowed.{allowed, has_ns, is_ns_path, is_reloading, reloads_object, has_name, has_text}
-use Rattle.import_machine.proofs.Lists.{pushed_last, changed_is, set_there}
-use Rattle.import_machine.proofs.Leave.{fitting}
+use Rattle.machine_laws.proofs.Lists.{pushed_last, changed_is, set_there}
+use Rattle.machine_laws.proofs.Leave.{fitting}
 use Rattle.thread_knowledge.specs.Shown.{is_namespace_path, is_namespace_kind, path_answered, body_answered, namespace_of}
 use Rattle.thread_knowledge.specs.Knowing.{Has}
 use Rattle.machine_knowledge.proofs.Named.{FitsVar, AreNamed, each_found}

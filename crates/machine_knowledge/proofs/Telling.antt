@@ -34,15 +34,15 @@ use Rattle.machine_state.specs.Reloads.{is_entry, busy_of, enter, reload_begin_o
 use Rattle.machine_state.specs.Lazies.{open_lazy, rouse_lazy, rouse_phase, rouse_on}
 use Rattle.machine_state.specs.Step.{step}
 use Rattle.machine_state.specs.Allowed.{allowed, can_finish, has_spare, has_text, has_body, has_name, is_reload, is_number, is_reloading, reloads_object}
-use Rattle.import_machine.specs.Bones.{Bones, Module, Body, bones, module_bone, body_bone}
-use Rattle.import_machine.specs.Sound.{IsSound, IsRunning, FitsPhase, HasBody, phase_of}
-use Rattle.import_machine.proofs.Same.{either, changed_map, kept_map, map_at, unmap}
-use Rattle.import_machine.proofs.Lists.{changed_is}
-use Rattle.import_machine.proofs.Leave.{runs, idle, fitting, spare}
-use Rattle.import_machine.proofs.Moves.{made, made_is, ns_same, main_same}
-use Rattle.import_machine.proofs.Changes.{made_fits}
-use Rattle.import_machine.proofs.Kept.{sets_on, deletes_on, sets_tab, deletes_tab, adds_path, finishes_entry}
-use Rattle.import_machine.proofs.Again.{reload_there}
+use Rattle.machine_laws.specs.Bones.{Bones, Module, Body, bones, module_bone, body_bone}
+use Rattle.machine_laws.specs.Sound.{IsSound, IsRunning, FitsPhase, HasBody, phase_of}
+use Rattle.machine_laws.proofs.Same.{either, changed_map, kept_map, map_at, unmap}
+use Rattle.machine_laws.proofs.Lists.{changed_is}
+use Rattle.machine_laws.proofs.Leave.{runs, idle, fitting, spare}
+use Rattle.machine_laws.proofs.Moves.{made, made_is, ns_same, main_same}
+use Rattle.machine_laws.proofs.Changes.{made_fits}
+use Rattle.machine_laws.proofs.Kept.{sets_on, deletes_on, sets_tab, deletes_tab, adds_path, finishes_entry}
+use Rattle.machine_laws.proofs.Again.{reload_there}
 use Rattle.thread_knowledge.specs.Holdings.{Holding, Taken, Loading, Reloading, without, becoming}
 use Rattle.thread_knowledge.specs.Shown.{Doing, Waiting, Over, holds, does}
 use Rattle.machine_knowledge.proofs.Times.{times}

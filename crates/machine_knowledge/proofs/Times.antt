@@ -6,7 +6,7 @@ use Rattle.std.proofs.lemmas.Bool.{and_parts, and_from, false≢true, eqb-true, 
 use Rattle.std.proofs.lemmas.Slice.Eq.{bytes_eq-Decides}
 use Rattle.thread_knowledge.specs.Holdings.{Holding, Taken, Loading, Reloading, is_number, is_holding, without, becoming}
 use Rattle.thread_knowledge.specs.Knowing.{Has}
-use Rattle.import_machine.proofs.Counts.{bit}
+use Rattle.machine_laws.proofs.Counts.{bit}
 
 abbrev pub times : Holding → List Holding → ℕ
 times x [] = 0

@@ -8,7 +8,7 @@ ghost use Rattle.machine_events.specs.declared.event.Entry.{Entry};
 ghost use Rattle.machine_state.specs.declared.state.State.{State};
 ghost use Rattle.machine_state.specs.Step.{step};
 ghost use Rattle.machine_state.specs.Legal.{Allowed, IsLegal, replay};
-ghost use Rattle.import_machine.specs.Begun.{Begun, first};
+ghost use Rattle.machine_laws.specs.Begun.{Begun, first};
 ghost use Rattle.thread_knowledge.specs.Knowing.{Knows, Waits};
 ghost use Rattle.thread_knowledge.specs.Own.{own, Ready, IsLone};
 ghost use Rattle.machine_knowledge.specs.Loads.{kinds_of, MadeBy, mains};

@@ -1,20 +1,8 @@
-//! The state of the import machine, what each event does to it, and when an event is allowed.
+//! The state of the import machine, and the rules of it as definitions: what each event answers and
+//! does, when an event is allowed, and which histories are legal. The code that keeps them stands in
+//! crates of its own, so that what only speaks of the rules need not wait for it.
 #![tactic(auto)]
 
-mod allowed;
-mod bodies;
-mod cache;
-mod gives;
-mod known;
-mod lazies;
-mod opening;
-mod reloads;
-mod reply;
-mod reply_later;
-mod search;
 mod state;
-mod step;
-mod variables;
-mod waits;
 
 pub use state::State;

@@ -1,3 +1,6 @@
 pub mod Spends
 pub mod Law
+pub mod Giving
+pub mod Once
 pub mod Stand
+pub mod Listing

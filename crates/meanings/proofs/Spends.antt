@@ -6,7 +6,7 @@ use Rattle.machine_events.specs.declared.event.Event.{Event}
 use Rattle.machine_events.specs.declared.event.Reply.{Reply}
 use Rattle.tree_files.specs.Files.{Files}
 use Rattle.thread_knowledge.specs.Shown.{Shown, shown, shown_first, shown_more}
-use Rattle.meanings.specs.Runs.{Run, Over, Pays, Makes, spend, play, on_budget, replies_of, Reaches, starts, pays, looks, makes, Answer, told, Looks, Safe}
+use Rattle.meanings.specs.Runs.{Run, Over, Pays, Makes, spend, play, on_budget, replies_of, Reaches, starts, pays, looks, makes, Question, StampOf, TextOf, NamesOf, Answer, told, Looks, Safe}
 
 -- what one more pair shows
 pub shown-snoc : (t : ℕ) (pairs : List (Event × Reply)) (p : Event × Reply) → shown t (pairs ++ p ∷ []) ≡ shown_more (shown t pairs) p
@@ -45,11 +45,16 @@ played f {whole} (makes paid pairs e r next at) replies =
     ap (play f whole []) (ap (λ w. w ++ replies) (map-append (λ (p : Event × Reply). p.1) pairs ((e, r) ∷ [])) ∙ append_assoc (replies_of pairs) (r ∷ []) replies)
     ∙ played f at (r ∷ replies)
 
+pub safe_looked : (s : Shown) (q : Question) (a : Answer q) (next : Answer q → Run) → Safe s (Looks q next) → Safe s (next a)
+safe_looked s (StampOf path) a next safe = safe.1 a
+safe_looked s (TextOf path) a next safe = safe.1 a
+safe_looked s (NamesOf path) a next safe = (safe.1 a).1
+
 -- what is shown is enough for what a safe run comes to
 pub safe_reaches : (t : ℕ) {files : Option Files} {whole : Run} {paid : ℕ} {pairs : List (Event × Reply)} {rest : Run} → Reaches files whole paid pairs rest → Safe (shown_first t) whole → Safe (shown t pairs) rest
 safe_reaches t starts safe = safe
 safe_reaches t (pays paid n pairs of_tree next r) safe = (safe_reaches t r safe).1
-safe_reaches t (looks paid pairs q a next h at) safe = (safe_reaches t at safe).1 a
+safe_reaches t (looks paid pairs q a next h at) safe = safe_looked (shown t pairs) q a next (safe_reaches t at safe)
 safe_reaches t (makes paid pairs e r next at) safe =
     subst (λ s. Safe s (next r)) (sym (shown-snoc t pairs (e, r))) ((safe_reaches t at safe).1 r)
 

@@ -1,6 +1,6 @@
 -- From where a script stands to where it stands next, and to its end.
-use Rattle.std.proofs.Common.{◌≡◌, ◌≤◌, ℕ, ◌+◌, ◌-◌, Bool, true, false, not, cond, nat_lt, nat_eq, inl, if◌then◌else◌, List, [], ◌∷◌, ◌++◌, Option, Some, None, Result, Ok, Err, OnErr, refl, sym, ◌∙◌, ap, subst, arith}
-use Rattle.std.proofs.lemmas.Bool.{ltb-false, ltb-true, lt-ltb, eq-eqb}
+use Rattle.std.proofs.Common.{◌≡◌, ◌≤◌, ℕ, ◌+◌, ◌-◌, Bool, true, false, not, cond, nat_lt, if◌then◌else◌, List, [], ◌∷◌, ◌++◌, Option, Some, None, Result, Ok, Err, OnErr, refl, sym, ◌∙◌, ap, subst, arith}
+use Rattle.std.proofs.lemmas.Bool.{ltb-false, ltb-true, lt-ltb}
 use Rattle.std.proofs.lemmas.List.{append-nil}
 use Rattle.machine_events.specs.declared.event.Event.{Event}
 use Rattle.machine_events.specs.declared.event.Event.TheVariants.{End}
@@ -8,13 +8,15 @@ use Rattle.machine_events.specs.declared.event.Reply.{Reply}
 use Rattle.machine_events.specs.declared.event.Reply.TheVariants.{Done}
 use Rattle.machine_events.specs.declared.event.Outcome.{Outcome}
 use Rattle.tree_files.specs.Files.{Files}
-use Rattle.thread_knowledge.specs.Holdings.{Holding, Taken, Loading, Reloading}
-use Rattle.thread_knowledge.specs.Shown.{Shown, Doing, Running, shown, shown_first, holds, does}
-use Rattle.thread_knowledge.specs.Knowing.{Has, IsShown}
-use Rattle.std.specs.Cmp.Lexicographic.{pointwise}
+use Rattle.thread_knowledge.specs.Holdings.{Holding}
+use Rattle.thread_knowledge.specs.Shown.{Shown, Running, shown, shown_first, holds}
 use Rattle.meanings.specs.Runs.{Run, Over, Pays, Makes, How, Spent, gives_up, spend, play, on_budget, Ending, Came, replies_of, Reaches, starts, pays, makes, told, Looks, Stands, StandsIn, IsSpent, IsUnread, AfterPay, AfterAsk, gives, GivesUp, Safe}
 use Rattle.meanings.specs.Follows.{Follows, IsPart, Ends}
+use Rattle.meanings.specs.Lists.{ends_in}
 use Rattle.meanings.proofs.Spends.{on_budget_at, spend_reaches, played, safe_reaches, shown-snoc}
+use Rattle.meanings.proofs.Giving.{safe_spend}
+pub use Rattle.meanings.proofs.Giving.{given, still, may_give}
+use Rattle.meanings.proofs.Once.{no_end, once_at_end}
 
 pub stands_start : {files : Option Files} (whole : Run) (fuel : ℕ) → Stands files whole fuel [] fuel whole
 stands_start whole fuel = record { paid = 0; sum = omega arith; reaches = starts }
@@ -79,12 +81,13 @@ unread_gives_up {files = files} t {whole} {fuel} {mine} {b} s =
     (spend_reaches t s.stands.reaches 0))
 
 -- the whole script
-pub whole_of : (f : Files) (t : ℕ) {run : Run} {fuel : ℕ} {before mine : List (Event × Reply)} {outcome : Outcome} (paid : ℕ) {how : How} {r : Reply} → mine ≡ before ++ (End outcome paid, r) ∷ [] → r ≡ Done → Reaches (Some f) (spend paid (shown_first t) run) 0 before (Over how) → Ends fuel outcome paid how → Follows f t run fuel mine outcome
-whole_of f t {run} {fuel} {before} {mine} {outcome} paid {how} {r} is done reached ends = record {
+pub whole_of : (f : Files) (t : ℕ) {run : Run} {fuel : ℕ} {before mine : List (Event × Reply)} {outcome : Outcome} (paid : ℕ) {how : How} {r : Reply} → mine ≡ before ++ (End outcome paid, r) ∷ [] → r ≡ Done → Reaches (Some f) (spend paid (shown_first t) run) 0 before (Over how) → Ends fuel outcome paid how → Safe (shown_first t) run → Follows f t run fuel mine outcome
+whole_of f t {run} {fuel} {before} {mine} {outcome} paid {how} {r} is done reached ends safe = record {
   before = before;
   paid = paid;
   how = how;
   whole = is ∙ ap (λ x. before ++ (End outcome paid, x) ∷ []) done;
+  once = ap ends_in is ∙ once_at_end before outcome paid r (no_end t reached (safe_spend run paid (shown_first t) safe));
   eval = came f t run paid reached;
   ends = ends;
 }
@@ -100,17 +103,6 @@ pub on_err : {T E : Type 0} (r : Result T E) {P : Type 0} → P → OnErr r P
 on_err (Ok x) p = tt
 on_err (Err e) p = p
 
--- after it was given up, the first thing that was held is held no more
-same_name : (n : List ℕ) → pointwise nat_eq n n ≡ true
-same_name [] = refl
-same_name (b ∷ bs) = rw (eq-eqb b b refl) (same_name bs)
-
-pub given : (h : Holding) (r : Reply) (held : List Holding) → holds (gives h) r (h ∷ held) ≡ held
-given (Taken n) r held = rw (same_name n) refl
-given (Loading load) r held = rw (eq-eqb load load refl) refl
-given (Reloading mid None) r held = rw (eq-eqb mid mid refl) refl
-given (Reloading mid (Some load)) r held = rw (eq-eqb mid mid refl, eq-eqb load load refl) refl
-
 -- what one more pair shows
 pub held_more : (t : ℕ) (h : Holding) (held : List Holding) (mine mine' : List (Event × Reply)) (r : Reply) → (shown t mine).held ≡ h ∷ held → mine' ≡ mine ++ (gives h, r) ∷ [] → (shown t mine').held ≡ held
 held_more t h held mine mine' r is more = rw more (ap (λ (s : Shown). s.held) (shown-snoc t mine (gives h, r)) ∙ (ap (holds (gives h) r) is ∙ given h r held))
@@ -122,19 +114,8 @@ gives_more {files = files} t whole budget h held mine mine' of_tree r is more up
     let after : (shown t (mine ++ (gives h, r) ∷ [])).held ≡ held = held_more t h held mine (mine ++ (gives h, r) ∷ []) r is refl in
     rw more (subst (λ (held : List Holding). Reaches files (spend budget (shown_first t) whole) 0 (mine ++ (gives h, r) ∷ []) (gives_up of_tree held)) (sym after) (makes 0 mine (gives h) r (λ _. gives_up of_tree held) here))
 
-pub still : (h : Holding) (r : Reply) (d : Doing) → does (gives h) r d ≡ d
-still (Taken n) r d = refl
-still (Loading load) r d = refl
-still (Reloading mid load) r d = refl
-
 pub runs_more : (t : ℕ) (h : Holding) (mine mine' : List (Event × Reply)) (r : Reply) → (shown t mine).doing ≡ Running → mine' ≡ mine ++ (gives h, r) ∷ [] → (shown t mine').doing ≡ Running
 runs_more t h mine mine' r is more = rw more (ap (λ (s : Shown). s.doing) (shown-snoc t mine (gives h, r)) ∙ (still h r (shown t mine).doing ∙ is))
 
 pub all_given : {files : Option Files} (t : ℕ) (whole : Run) (budget : ℕ) (mine : List (Event × Reply)) (of_tree : Bool) → (shown t mine).held ≡ [] → GivesUp files t whole budget mine of_tree → Reaches files (spend budget (shown_first t) whole) 0 mine (Over (Spent of_tree))
 all_given {files = files} t whole budget mine of_tree is up = subst (λ (held : List Holding). Reaches files (spend budget (shown_first t) whole) 0 mine (gives_up of_tree held)) is up
-
--- what is held first may be given up
-pub may_give : (s : Shown) (h : Holding) (held : List Holding) → s.doing ≡ Running → s.held ≡ h ∷ held → IsShown s (gives h)
-may_give s (Taken n) held runs is = (runs, subst (λ (held : List Holding). Has held (Taken n)) (sym is) (inl refl))
-may_give s (Loading load) held runs is = (runs, subst (λ (held : List Holding). Has held (Loading load)) (sym is) (inl refl))
-may_give s (Reloading mid load) held runs is = (runs, subst (λ (held : List Holding). Has held (Reloading mid load)) (sym is) (inl refl))

@@ -8,6 +8,7 @@ use Rattle.machine_events.specs.declared.event.Outcome.{Outcome}
 use Rattle.machine_events.specs.declared.event.Outcome.TheVariants as o
 use Rattle.tree_files.specs.Files.{Files}
 use Rattle.thread_knowledge.specs.Shown.{shown}
+use Rattle.meanings.specs.Lists.{ends_in}
 use Rattle.meanings.specs.Runs.{Run, Pays, How, Ended, Spent, Came, play, on_budget, gives_up, replies_of, Reaches}
 
 -- with this fuel the script ends in this way, after what was paid
@@ -23,6 +24,8 @@ pub record Follows (files : Files) (t : ℕ) (run : Run) (fuel : ℕ) (mine : Li
   pub paid : ℕ
   pub how : How
   pub whole : mine ≡ before ++ (End outcome paid, Done) ∷ []
+  -- there is no other End
+  pub once : ends_in mine ≡ 1
   -- the budget is `paid`, since that is the fuel but at a Read
   pub eval : on_budget files t run paid (replies_of before) ≡ record { pairs = before; stop = Came how; left = [] }
   pub ends : Ends fuel outcome paid how

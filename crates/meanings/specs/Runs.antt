@@ -8,7 +8,7 @@ use Rattle.machine_events.specs.declared.event.Outcome.{Outcome}
 use Rattle.machine_events.specs.declared.event.Outcome.TheVariants as o
 use Rattle.base_types.specs.Path.{Path}
 use Rattle.tree_files.specs.declared.tree.Stamp.{Stamp}
-use Rattle.tree_files.specs.Files.{Files, node_at, stamp_of, bytes_of}
+use Rattle.tree_files.specs.Files.{Files, node_at, stamp_of, bytes_of, names_in}
 use Rattle.thread_knowledge.specs.Holdings.{Holding, Taken, Loading, Reloading}
 use Rattle.thread_knowledge.specs.Shown.{Shown, Running, Waiting, shown, shown_first, shown_more}
 use Rattle.thread_knowledge.specs.Knowing.{IsShown}
@@ -22,11 +22,14 @@ pub data How : Type 0 where
 pub data Question : Type 0 where
   StampOf : (path : Path) → Question
   TextOf : (path : Path) → Question
+  NamesOf : (path : Path) → Question
 
--- what it can answer: what stands at the path; the text of a file, and none where that is too long for a source
+-- what it can answer: what stands at the path; the text of a file, and none where that is too long for a source; the names in a
+-- directory, in the order of their bytes
 abbrev pub Answer : Question → Type 0
 Answer (StampOf path) = Stamp
 Answer (TextOf path) = Option (List ℕ)
+Answer (NamesOf path) = List (List ℕ)
 
 -- a source has at most 1,048,576 bytes
 abbrev pub within_source : List ℕ → Option (List ℕ)
@@ -36,6 +39,7 @@ within_source bytes = if nat_le (length bytes) 1048576 then Some bytes else None
 abbrev pub told : Files → (question : Question) → Answer question
 told files (StampOf path) = stamp_of (node_at files path)
 told files (TextOf path) = within_source (bytes_of (node_at files path))
+told files (NamesOf path) = names_in files path
 
 -- an answer is the one of the files, where the tree tells them
 abbrev pub IsTold : Option Files → (question : Question) → Answer question → Type 0
@@ -145,7 +149,7 @@ AfterAsk (Some r) files whole fuel pairs budget next = Stands files whole fuel p
 abbrev pub GivesUp : Option Files → ℕ → Run → ℕ → List (Event × Reply) → Bool → Type 0
 GivesUp files t whole budget pairs of_tree = Reaches files (spend budget (shown_first t) whole) 0 pairs (gives_up of_tree (shown t pairs).held)
 
--- what is shown is enough for each event of the run, for each that gives up, and for the end
+-- a run comes to its end by itself, or spent
 abbrev pub IsLast : How → Type 0
 IsLast (Ended o.Normal) = Unit {0}
 IsLast (Ended (o.Raised error)) = Unit {0}
@@ -158,8 +162,23 @@ abbrev pub MayMake : Shown → Event → Type 0
 MayMake s e.Wake = s.doing ≡ Waiting
 MayMake s event = IsShown s event
 
+-- whether an event keeps a listing, counted: one, or none
+abbrev pub keeps : Event → ℕ
+keeps (e.DirSet dir listing) = 1
+keeps event = 0
+
+-- how many listings are to be kept before anything else: one, where that event is next, or none
+abbrev pub due : Run → ℕ
+due (Over how) = 0
+due (Pays of_tree n next) = 0
+due (Looks q next) = 0
+due (Makes event next) = keeps event
+
+-- what is shown is enough for all that a run asks for, and what it lists, it keeps before anything else
 abbrev pub Safe : Shown → Run → Type 0
 Safe s (Over how) = IsLast how × ((s.doing ≡ Running) × (s.held ≡ []))
 Safe s (Pays of_tree n next) = (s.doing ≡ Running) × Safe s next
-Safe s (Looks q next) = (s.doing ≡ Running) × ((a : Answer q) → Safe s (next a))
+Safe s (Looks (StampOf path) next) = (s.doing ≡ Running) × ((stamp : Stamp) → Safe s (next stamp))
+Safe s (Looks (TextOf path) next) = (s.doing ≡ Running) × ((text : Option (List ℕ)) → Safe s (next text))
+Safe s (Looks (NamesOf path) next) = (s.doing ≡ Running) × ((names : List (List ℕ)) → (due (next names) ≡ 1) × Safe s (next names))
 Safe s (Makes event next) = MayMake s event × ((r : Reply) → Safe (shown_more s (event, r)) (next r))

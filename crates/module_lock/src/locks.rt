@@ -291,9 +291,10 @@ impl Locks {
         }
     }
 
-    /// Takes a lock that is free for the thread. An `Err` changes nothing.
+    /// Takes a lock that nobody or the thread owns. An `Err` changes nothing.
     pub fn take_free(&mut self, thread: u32, name: Dotted) -> Result<(), NoMemory>
         requires waits { map.get self.old.waits thread ≡ None }
+        requires free { IsTrue (is_free self.old thread name) }
         ensures ok { OnOk result (self.new ≡ got self.old thread name) }
         ensures err { OnErr result (self.new ≡ self.old) }
     {

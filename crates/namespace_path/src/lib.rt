@@ -3,7 +3,5 @@
 #![tactic(auto)]
 
 mod recompute;
-#[cfg(test)]
-mod tests;
 
 pub use recompute::{fresh, recomputed};

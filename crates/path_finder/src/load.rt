@@ -1,5 +1,5 @@
 //! The text of a file.
-ghost use Rattle.std.specs.Prelude.{◌≡◌, ◌≤◌, ◌<◌, length, IfOk, IfSome, IsErrOf};
+ghost use Rattle.std.specs.Prelude.{◌≡◌, ◌≤◌, ◌<◌, length, IfOk, IfSome, IsErrOf, OnOk};
 ghost use Rattle.std.specs.Option.{ForSome};
 ghost use Rattle.tree_files.specs.Count.{Rose};
 ghost use Rattle.tree_files.specs.Files.{node_at, bytes_of, IsFileAt};
@@ -54,9 +54,11 @@ pub fn load_text<T: Tree>(
 ) -> Result<Seq<u8>, LoadFault>
     requires { ForSome (T.files tree.old) (λ f. IsFileAt f file.now) }
     ensures loaded { IfSome (T.files tree.old) (λ f. IfOk result (λ text. text ≡ bytes_of (node_at f file.now))) }
-    ensures fits { IfOk result (λ text. length text ≤ LONGEST) }
-    ensures too_long { IfSome (T.files tree.old) (λ f. IsErrOf result LoadFault.TooLong → LONGEST < length (bytes_of (node_at f file.now))) }
+    ensures fits { IfOk result (λ text. length text ≤ 1048576) }
+    ensures too_long { IfSome (T.files tree.old) (λ f. IsErrOf result LoadFault.TooLong → 1048576 < length (bytes_of (node_at f file.now))) }
     ensures failed { HasFailed result → Rose (T.faults tree.old) (T.faults tree.new) }
+    ensures too_long_faults { IsErrOf result LoadFault.TooLong → T.faults tree.new ≡ T.faults tree.old }
+    ensures faults_stay { OnOk result (T.faults tree.new ≡ T.faults tree.old) }
     ensures files_stay { T.files tree.new ≡ T.files tree.old }
     ensures faults_grow { T.faults tree.old ≤ T.faults tree.new }
     ensures lists_stay { T.lists tree.new ≡ T.lists tree.old }

@@ -200,6 +200,7 @@ impl Look {
         ensures same { (self.new.sought ≡ self.old.sought) × (self.new.path ≡ self.old.path) }
         ensures refused { OnErr result (self.new.stage ≡ self.old.stage) }
         ensures failed { IsErrOf result TreeFault.Failed → Rose (T.faults tree.old) (T.faults tree.new) }
+        ensures faults_stay { OnOk result (T.faults tree.new ≡ T.faults tree.old) }
         ensures files_stay { T.files tree.new ≡ T.files tree.old }
         ensures faults_grow { T.faults tree.old ≤ T.faults tree.new }
         ensures lists_stay { T.lists tree.new ≡ T.lists tree.old }
@@ -263,6 +264,7 @@ impl Look {
         ensures same { (self.new.sought ≡ self.old.sought) × (self.new.path ≡ self.old.path) }
         ensures refused { OnErr result (self.new.stage ≡ self.old.stage) }
         ensures failed { IsErrOf result TreeFault.Failed → Rose (T.faults tree.old) (T.faults tree.new) }
+        ensures faults_stay { OnOk result (T.faults tree.new ≡ T.faults tree.old) }
         ensures files_stay { T.files tree.new ≡ T.files tree.old }
         ensures faults_grow { T.faults tree.old ≤ T.faults tree.new }
     {
@@ -390,6 +392,7 @@ impl Look {
         ensures same { (self.new.sought ≡ self.old.sought) × (self.new.path ≡ self.old.path) }
         ensures refused { OnErr result (self.new.stage ≡ self.old.stage) }
         ensures failed { IsErrOf result TreeFault.Failed → Rose (T.faults tree.old) (T.faults tree.new) }
+        ensures faults_stay { OnOk result (T.faults tree.new ≡ T.faults tree.old) }
         ensures files_stay { T.files tree.new ≡ T.files tree.old }
         ensures faults_grow { T.faults tree.old ≤ T.faults tree.new }
         ensures lists_stay { T.lists tree.new ≡ T.lists tree.old }
@@ -413,6 +416,7 @@ impl Look {
         ensures same { (self.new.sought ≡ self.old.sought) × (self.new.path ≡ self.old.path) }
         ensures refused { OnErr result (self.new.stage ≡ self.old.stage) }
         ensures failed { IsErrOf result TreeFault.Failed → Rose (T.faults tree.old) (T.faults tree.new) }
+        ensures faults_stay { OnOk result (T.faults tree.new ≡ T.faults tree.old) }
         ensures files_stay { T.files tree.new ≡ T.files tree.old }
         ensures faults_grow { T.faults tree.old ≤ T.faults tree.new }
         ensures lists_stay { T.lists tree.new ≡ T.lists tree.old }
@@ -436,6 +440,7 @@ impl Look {
         ensures same { (self.new.sought ≡ self.old.sought) × (self.new.path ≡ self.old.path) }
         ensures refused { OnErr result (self.new.stage ≡ Stage.Over) }
         ensures failed { IsErrOf result TreeFault.Failed → Rose (T.faults tree.old) (T.faults tree.new) }
+        ensures faults_stay { OnOk result (T.faults tree.new ≡ T.faults tree.old) }
         ensures files_stay { T.files tree.new ≡ T.files tree.old }
         ensures faults_grow { T.faults tree.old ≤ T.faults tree.new }
     {
@@ -475,6 +480,7 @@ impl Look {
         ensures same { (self.new.sought ≡ self.old.sought) × (self.new.path ≡ self.old.path) }
         ensures refused { OnErr result (self.new.stage ≡ Stage.Over) }
         ensures failed { IsErrOf result TreeFault.Failed → Rose (T.faults tree.old) (T.faults tree.new) }
+        ensures faults_stay { OnOk result (T.faults tree.new ≡ T.faults tree.old) }
         ensures files_stay { T.files tree.new ≡ T.files tree.old }
         ensures faults_grow { T.faults tree.old ≤ T.faults tree.new }
     {

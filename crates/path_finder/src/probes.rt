@@ -1,5 +1,5 @@
 //! What a directory has for a name, of the names that are listed there.
-ghost use Rattle.std.specs.Prelude.{◌≡◌, ◌≤◌, ℕ, List, IfOk, IsErrOf, true};
+ghost use Rattle.std.specs.Prelude.{◌≡◌, ◌≤◌, ℕ, List, IfOk, IsErrOf, OnOk, true};
 ghost use Rattle.spec_core.specs.Names.{tail_of};
 ghost use Rattle.tree_files.specs.Count.{Rose};
 ghost use Rattle.path_finder.specs.Find as place;
@@ -27,6 +27,7 @@ pub enum Has {
 fn stamp_folder<T: Tree>(sought: &Sought, tree: &mut T, dir: &TreePath) -> Result<Stamp, TreeFault>
     ensures shows { IfOk result (Shows (T.files tree.old) (place.folder dir.now (tail_of sought.now.name))) }
     ensures failed { IsErrOf result TreeFault.Failed → Rose (T.faults tree.old) (T.faults tree.new) }
+    ensures faults_stay { OnOk result (T.faults tree.new ≡ T.faults tree.old) }
     ensures files_stay { T.files tree.new ≡ T.files tree.old }
     ensures faults_grow { T.faults tree.old ≤ T.faults tree.new }
     ensures lists_stay { T.lists tree.new ≡ T.lists tree.old }
@@ -39,6 +40,7 @@ fn stamp_folder<T: Tree>(sought: &Sought, tree: &mut T, dir: &TreePath) -> Resul
 fn stamp_first<T: Tree>(sought: &Sought, tree: &mut T, dir: &TreePath) -> Result<Stamp, TreeFault>
     ensures shows { IfOk result (Shows (T.files tree.old) (place.first_file dir.now (tail_of sought.now.name))) }
     ensures failed { IsErrOf result TreeFault.Failed → Rose (T.faults tree.old) (T.faults tree.new) }
+    ensures faults_stay { OnOk result (T.faults tree.new ≡ T.faults tree.old) }
     ensures files_stay { T.files tree.new ≡ T.files tree.old }
     ensures faults_grow { T.faults tree.old ≤ T.faults tree.new }
     ensures lists_stay { T.lists tree.new ≡ T.lists tree.old }
@@ -51,6 +53,7 @@ fn stamp_first<T: Tree>(sought: &Sought, tree: &mut T, dir: &TreePath) -> Result
 fn stamp_module<T: Tree>(sought: &Sought, tree: &mut T, dir: &TreePath) -> Result<Stamp, TreeFault>
     ensures shows { IfOk result (Shows (T.files tree.old) (place.module_file dir.now (tail_of sought.now.name))) }
     ensures failed { IsErrOf result TreeFault.Failed → Rose (T.faults tree.old) (T.faults tree.new) }
+    ensures faults_stay { OnOk result (T.faults tree.new ≡ T.faults tree.old) }
     ensures files_stay { T.files tree.new ≡ T.files tree.old }
     ensures faults_grow { T.faults tree.old ≤ T.faults tree.new }
     ensures lists_stay { T.lists tree.new ≡ T.lists tree.old }
@@ -69,6 +72,7 @@ fn module_probed<T: Tree>(
 ) -> Result<Has, TreeFault>
     ensures reads { IfOk result (λ has. (portions : List (List ℕ)) (go : Onward) (search : Search) → Reads (T.files tree.old) (settled sought.now.name dir.now portions go has) search → Reads (T.files tree.old) (step.tries_module sought.now.name dir.now portion file portions go) search) }
     ensures failed { IsErrOf result TreeFault.Failed → Rose (T.faults tree.old) (T.faults tree.new) }
+    ensures faults_stay { OnOk result (T.faults tree.new ≡ T.faults tree.old) }
     ensures files_stay { T.files tree.new ≡ T.files tree.old }
     ensures faults_grow { T.faults tree.old ≤ T.faults tree.new }
     ensures lists_stay { T.lists tree.new ≡ T.lists tree.old }
@@ -92,6 +96,7 @@ fn package_probed<T: Tree>(
 ) -> Result<Has, TreeFault>
     ensures reads { IfOk result (λ has. (portions : List (List ℕ)) (go : Onward) (search : Search) → Reads (T.files tree.old) (settled sought.now.name dir.now portions go has) search → Reads (T.files tree.old) (step.folder_tried sought.now.name dir.now file portions go true) search) }
     ensures failed { IsErrOf result TreeFault.Failed → Rose (T.faults tree.old) (T.faults tree.new) }
+    ensures faults_stay { OnOk result (T.faults tree.new ≡ T.faults tree.old) }
     ensures files_stay { T.files tree.new ≡ T.files tree.old }
     ensures faults_grow { T.faults tree.old ≤ T.faults tree.new }
     ensures lists_stay { T.lists tree.new ≡ T.lists tree.old }
@@ -114,6 +119,7 @@ pub fn probed<T: Tree>(
 ) -> Result<Has, TreeFault>
     ensures reads { IfOk result (λ has. (portions : List (List ℕ)) (go : Onward) (search : Search) → Reads (T.files tree.old) (settled sought.now.name dir.now portions go has) search → Reads (T.files tree.old) (step.tries sought.now.name dir.now bare file portions go) search) }
     ensures failed { IsErrOf result TreeFault.Failed → Rose (T.faults tree.old) (T.faults tree.new) }
+    ensures faults_stay { OnOk result (T.faults tree.new ≡ T.faults tree.old) }
     ensures files_stay { T.files tree.new ≡ T.files tree.old }
     ensures faults_grow { T.faults tree.old ≤ T.faults tree.new }
     ensures lists_stay { T.lists tree.new ≡ T.lists tree.old }

@@ -1,5 +1,5 @@
 //! Looks at what stands at a path.
-ghost use Rattle.std.specs.Prelude.{◌≡◌, ◌≤◌, IfOk, IsErrOf, true};
+ghost use Rattle.std.specs.Prelude.{◌≡◌, ◌≤◌, IfOk, IsErrOf, OnOk, true};
 ghost use Rattle.std.specs.Option.{ForSome};
 ghost use Rattle.tree_files.specs.Count.{Rose};
 ghost use Rattle.tree_files.specs.Files.{IsDirAt};
@@ -13,6 +13,7 @@ pub fn stamp_at<T: Tree>(tree: &mut T, path: &TreePath) -> Result<Stamp, TreeFau
     ensures reads { IfOk result (Shows (T.files tree.old) path.now) }
     ensures dir { IfOk result (λ s. is_dir_stamp s ≡ true → ForSome (T.files tree.old) (λ f. IsDirAt f path.now)) }
     ensures failed { IsErrOf result TreeFault.Failed → Rose (T.faults tree.old) (T.faults tree.new) }
+    ensures faults_stay { OnOk result (T.faults tree.new ≡ T.faults tree.old) }
     ensures files_stay { T.files tree.new ≡ T.files tree.old }
     ensures faults_grow { T.faults tree.old ≤ T.faults tree.new }
     ensures lists_stay { T.lists tree.new ≡ T.lists tree.old }

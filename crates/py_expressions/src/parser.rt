@@ -10,30 +10,30 @@ use crate::tokens::{
     begins_comparison, begins_join, begins_trailer, close_bracket, close_paren, comma, comparator,
     join,
 };
-use base_types::{Exact, Seq, Text};
+use base_types::{Exact, NoMemory, Seq, Text};
 use py_syntax::{Expr, Items, Level, Lexeme, Spelled};
-use sqlite_items::Boxed;
+use shared::Shared;
 use std::alloc::Global;
 use token_reading::{ReadError, Refusal, refused};
 
 /// A tree that is spelled as a target.
-fn target(tree: Expr) -> Spelled
-    ensures { result ≡ record { tree = tree; is_target = true } }
+fn target(alloc: Global, tree: Expr) -> Result<Spelled, NoMemory>
+    ensures { IfOk result (λ it. it ≡ record { tree = tree; is_target = true }) }
 {
-    Spelled {
-        tree,
+    Ok(Spelled {
+        tree: Shared::new(alloc, tree)?,
         is_target: true,
-    }
+    })
 }
 
 /// Any other tree.
-fn other(tree: Expr) -> Spelled
-    ensures { result ≡ record { tree = tree; is_target = false } }
+fn other(alloc: Global, tree: Expr) -> Result<Spelled, NoMemory>
+    ensures { IfOk result (λ it. it ≡ record { tree = tree; is_target = false }) }
 {
-    Spelled {
-        tree,
+    Ok(Spelled {
+        tree: Shared::new(alloc, tree)?,
         is_target: false,
-    }
+    })
 }
 
 /// An item and the comma behind it.
@@ -86,7 +86,7 @@ fn in_parens(
 {
     let (items, rest) = all_items(alloc, tokens, room)?;
     let rest = close_paren(rest)?;
-    Ok((parenthesised(items), rest))
+    Ok((parenthesised(alloc, items)?, rest))
 }
 
 /// What stands in brackets, and the closing one.
@@ -102,7 +102,10 @@ fn in_brackets(
 {
     let (items, rest) = all_items(alloc, tokens, room)?;
     let rest = close_bracket(rest)?;
-    Ok((other(Expr::List(items.found)), rest))
+    Ok((
+        other(alloc, Expr::List(Shared::new(alloc, items.found)?))?,
+        rest,
+    ))
 }
 
 /// An atom (Language Reference 6.2).
@@ -113,12 +116,12 @@ fn atom(alloc: Global, tokens: &[Lexeme], room: usize) -> Result<(Spelled, &[Lex
     ensures shorter { Shortens tokens.now result }
 {
     match tokens {
-        [Lexeme::Name(name), rest @ ..] => Ok((target(Expr::Name(name.copy()?)), rest)),
-        [Lexeme::Number(n), rest @ ..] => Ok((other(Expr::Number(*n)), rest)),
-        [Lexeme::Str(text), rest @ ..] => Ok((other(Expr::Str(text.copy()?)), rest)),
-        [Lexeme::None, rest @ ..] => Ok((other(Expr::Nothing), rest)),
-        [Lexeme::True, rest @ ..] => Ok((other(Expr::True), rest)),
-        [Lexeme::False, rest @ ..] => Ok((other(Expr::False), rest)),
+        [Lexeme::Name(name), rest @ ..] => Ok((target(alloc, Expr::Name(name.copy()?))?, rest)),
+        [Lexeme::Number(n), rest @ ..] => Ok((other(alloc, Expr::Number(*n))?, rest)),
+        [Lexeme::Str(text), rest @ ..] => Ok((other(alloc, Expr::Str(text.copy()?))?, rest)),
+        [Lexeme::None, rest @ ..] => Ok((other(alloc, Expr::Nothing)?, rest)),
+        [Lexeme::True, rest @ ..] => Ok((other(alloc, Expr::True)?, rest)),
+        [Lexeme::False, rest @ ..] => Ok((other(alloc, Expr::False)?, rest)),
         [Lexeme::OpenParen, rest @ ..] => {
             if room == 0 {
                 return Err(refused(Refusal::TooDeep, tokens));
@@ -139,7 +142,7 @@ fn atom(alloc: Global, tokens: &[Lexeme], room: usize) -> Result<(Spelled, &[Lex
 #[tactic(auto, unfolding(expression_reading::specs::Reading::after_dot))]
 fn after_dot(
     alloc: Global,
-    left: Expr,
+    left: Shared<Expr>,
     tokens: &[Lexeme],
 ) -> Result<(Spelled, &[Lexeme]), ReadError>
     ensures value { GivesAt (λ x. x) result (reading.after_dot left tokens.now) }
@@ -148,10 +151,7 @@ fn after_dot(
     match tokens {
         [Lexeme::Name(name), rest @ ..] => {
             let name = name.copy()?;
-            Ok((
-                target(Expr::Attribute(Boxed::new(alloc, left)?, name)),
-                rest,
-            ))
+            Ok((target(alloc, Expr::Attribute(left, name))?, rest))
         }
         _ => Err(refused(Refusal::Syntax, tokens)),
     }
@@ -162,7 +162,7 @@ fn after_dot(
 #[tactic(auto, unfolding(expression_reading::specs::Reading::call_with))]
 fn call_with(
     alloc: Global,
-    left: Expr,
+    left: Shared<Expr>,
     tokens: &[Lexeme],
     room: usize,
 ) -> Result<(Spelled, &[Lexeme]), ReadError>
@@ -172,7 +172,7 @@ fn call_with(
     let (items, rest) = all_items(alloc, tokens, room)?;
     let rest = close_paren(rest)?;
     Ok((
-        other(Expr::Call(Boxed::new(alloc, left)?, items.found)),
+        other(alloc, Expr::Call(left, Shared::new(alloc, items.found)?))?,
         rest,
     ))
 }
@@ -182,7 +182,7 @@ fn call_with(
 #[tactic(auto, unfolding(expression_reading::specs::Reading::subscript_with))]
 fn subscript_with(
     alloc: Global,
-    left: Expr,
+    left: Shared<Expr>,
     tokens: &[Lexeme],
     room: usize,
 ) -> Result<(Spelled, &[Lexeme]), ReadError>
@@ -191,11 +191,7 @@ fn subscript_with(
 {
     let (index, rest) = expr(alloc, tokens, room)?;
     let rest = close_bracket(rest)?;
-    let left = Boxed::new(alloc, left)?;
-    Ok((
-        target(Expr::Subscript(left, Boxed::new(alloc, index.tree)?)),
-        rest,
-    ))
+    Ok((target(alloc, Expr::Subscript(left, index.tree))?, rest))
 }
 
 /// What follows an atom: a name, arguments or an index.
@@ -261,7 +257,7 @@ fn factor(alloc: Global, tokens: &[Lexeme], room: usize) -> Result<(Spelled, &[L
                 return Err(refused(Refusal::TooDeep, tokens));
             }
             let (value, rest) = factor(alloc, rest, room - 1)?;
-            Ok((other(Expr::Negative(Boxed::new(alloc, value.tree)?)), rest))
+            Ok((other(alloc, Expr::Negative(value.tree))?, rest))
         }
         _ => primary(alloc, tokens, room),
     }
@@ -283,7 +279,13 @@ fn joins(
     match tokens {
         [operator, rest @ ..] => {
             let (right, rest) = operand(alloc, rest, room, level)?;
-            Ok((other(join(alloc, operator, left.tree, right.tree)?), rest))
+            Ok((
+                Spelled {
+                    tree: join(alloc, operator, left.tree, right.tree)?,
+                    is_target: false,
+                },
+                rest,
+            ))
         }
         [] => Err(refused(Refusal::Syntax, tokens)),
     }
@@ -343,9 +345,10 @@ fn compare_with(
 {
     let (comparison, rest) = comparator(tokens)?;
     let (right, rest) = chain(alloc, rest, room, Level::Sum)?;
-    let left = Boxed::new(alloc, left.tree)?;
-    let right = Boxed::new(alloc, right.tree)?;
-    Ok((other(Expr::Compare(comparison, left, right)), rest))
+    Ok((
+        other(alloc, Expr::Compare(comparison, left.tree, right.tree))?,
+        rest,
+    ))
 }
 
 /// What a sum is compared with, if it is.
@@ -398,7 +401,7 @@ fn inversion(
                 return Err(refused(Refusal::TooDeep, tokens));
             }
             let (value, rest) = inversion(alloc, rest, room - 1)?;
-            Ok((other(Expr::Not(Boxed::new(alloc, value.tree)?)), rest))
+            Ok((other(alloc, Expr::Not(value.tree))?, rest))
         }
         _ => comparison(alloc, tokens, room),
     }

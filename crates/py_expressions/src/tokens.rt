@@ -8,7 +8,7 @@ ghost use Rattle.py_syntax.specs.declared.expr.Expr.TheVariants as exprs;
 
 use base_types::NoMemory;
 use py_syntax::{BinaryOp, Comparison, Expr, Level, Lexeme};
-use sqlite_items::Boxed;
+use shared::Shared;
 use std::alloc::Global;
 use token_reading::{ReadError, Refusal, refused};
 
@@ -176,12 +176,17 @@ pub fn comparator(tokens: &[Lexeme]) -> Result<(Comparison, &[Lexeme]), ReadErro
 
 /// What an operator makes of its operands (6.5 to 6.7, 6.11).
 #[tactic(auto, unfolding(expression_reading::specs::Reading::join))]
-pub fn join(alloc: Global, operator: &Lexeme, left: Expr, right: Expr) -> Result<Expr, NoMemory>
+pub fn join(
+    alloc: Global,
+    operator: &Lexeme,
+    left: Shared<Expr>,
+    right: Shared<Expr>,
+) -> Result<Shared<Expr>, NoMemory>
     ensures { IfOk result (λ expr. expr ≡ reading.join operator.now left right) }
 {
     match operator {
-        Lexeme::Or => Ok(Expr::Or(Boxed::new(alloc, left)?, Boxed::new(alloc, right)?)),
-        Lexeme::And => Ok(Expr::And(Boxed::new(alloc, left)?, Boxed::new(alloc, right)?)),
+        Lexeme::Or => Shared::new(alloc, Expr::Or(left, right)),
+        Lexeme::And => Shared::new(alloc, Expr::And(left, right)),
         Lexeme::Plus => binary(alloc, BinaryOp::Add, left, right),
         Lexeme::Minus => binary(alloc, BinaryOp::Sub, left, right),
         Lexeme::Star => binary(alloc, BinaryOp::Mul, left, right),
@@ -191,8 +196,13 @@ pub fn join(alloc: Global, operator: &Lexeme, left: Expr, right: Expr) -> Result
     }
 }
 
-fn binary(alloc: Global, op: BinaryOp, left: Expr, right: Expr) -> Result<Expr, NoMemory>
+fn binary(
+    alloc: Global,
+    op: BinaryOp,
+    left: Shared<Expr>,
+    right: Shared<Expr>,
+) -> Result<Shared<Expr>, NoMemory>
     ensures { IfOk result (λ expr. expr ≡ exprs.Binary op left right) }
 {
-    Ok(Expr::Binary(op, Boxed::new(alloc, left)?, Boxed::new(alloc, right)?))
+    Shared::new(alloc, Expr::Binary(op, left, right))
 }

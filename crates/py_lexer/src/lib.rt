@@ -13,8 +13,6 @@ mod operator;
 mod quoted;
 mod scan;
 mod source;
-#[cfg(test)]
-mod tests;
 mod text;
 mod word;
 

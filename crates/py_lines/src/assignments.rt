@@ -8,6 +8,7 @@ ghost use Rattle.py_lines.specs.Views.{augmented_at};
 use base_types::{Exact, NoMemory, Text};
 use py_expressions::expr;
 use py_syntax::{BinaryOp, Expr, Lexeme, Spelled, Stmt};
+use shared::Shared;
 use std::alloc::Global;
 use token_reading::{ReadError, Refusal, refused};
 
@@ -18,7 +19,7 @@ fn name_in(left: &Spelled) -> Result<Option<Text>, NoMemory>
     if !left.is_target {
         return Ok(None);
     }
-    match &left.tree {
+    match left.tree.get() {
         Expr::Name(name) => Ok(Some(name.copy()?)),
         _ => Ok(None),
     }
@@ -74,7 +75,7 @@ fn augmented(
 #[tactic(auto, unfolding(line_reading::specs::Reading::assigned_by))]
 fn assigned(
     alloc: Global,
-    left: Expr,
+    left: Shared<Expr>,
     tokens: &[Lexeme],
     room: usize,
 ) -> Result<(Stmt, &[Lexeme]), ReadError>

@@ -8,6 +8,7 @@ use crate::assignments::expr_first;
 use crate::imports::{imported, imported_from};
 use py_expressions::{expr, primary, starts};
 use py_syntax::{Context, Expr, Lexeme, Stmt};
+use shared::Shared;
 use std::alloc::Global;
 use token_reading::{ReadError, Refusal, refused};
 
@@ -30,7 +31,7 @@ fn some_value(
     alloc: Global,
     tokens: &[Lexeme],
     room: usize,
-) -> Result<(Option<Expr>, &[Lexeme]), ReadError>
+) -> Result<(Option<Shared<Expr>>, &[Lexeme]), ReadError>
     ensures value { GivesAt (λ x. x) result (reading.some_value room tokens.now) }
     ensures within { StaysWithin tokens.now result }
 {
@@ -44,7 +45,7 @@ fn value(
     alloc: Global,
     tokens: &[Lexeme],
     room: usize,
-) -> Result<(Option<Expr>, &[Lexeme]), ReadError>
+) -> Result<(Option<Shared<Expr>>, &[Lexeme]), ReadError>
     ensures value { GivesAt (λ x. x) result (reading.value room tokens.now) }
     ensures within { StaysWithin tokens.now result }
 {

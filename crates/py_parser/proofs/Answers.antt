@@ -54,19 +54,19 @@ told_refusal P TooDeep inside t h = h
 told_refusal P Syntax inside t h = told_what P (what_of inside t.kind) t.line h
 
 -- the token at a place stands between those before and those behind it
-cut_at : (ts : List Token) (k : ℕ) (t : Token) → slice_get ts k ≡ Some t → ts ≡ take k ts ++ t ∷ drop (suc k) ts
+pub cut_at : (ts : List Token) (k : ℕ) (t : Token) → slice_get ts k ≡ Some t → ts ≡ take k ts ++ t ∷ drop (suc k) ts
 cut_at [] k t e = absurd cc
 cut_at (x ∷ xs) zero t e = let p : x ≡ t = cc in ap (λ (y : Token). y ∷ xs) p
 cut_at (x ∷ xs) (suc k) t e = ap (λ (l : List Token). x ∷ l) (cut_at xs k t e)
 
 -- how many are left from it on
-left_at : (ts : List Token) (left : ℕ) (t : Token) → left ≤ length ts → slice_get ts (length ts - left) ≡ Some t → left ≡ suc (length (drop (suc (length ts - left)) ts))
+pub left_at : (ts : List Token) (left : ℕ) (t : Token) → left ≤ length ts → slice_get ts (length ts - left) ≡ Some t → left ≡ suc (length (drop (suc (length ts - left)) ts))
 left_at ts left t within e =
     let inside : length ts - left < length ts = slice_get_within ts (length ts - left) t e in
     let behind : length (drop (suc (length ts - left)) ts) ≡ length ts - suc (length ts - left) = length-drop (suc (length ts - left)) ts in
     omega arith
 
-abbrev IsRefused : List Token → Fault → Type 0
+abbrev pub IsRefused : List Token → Fault → Type 0
 IsRefused ts fault = IsFirstRefused Spells 64 (lexemes_of ts) fault
 
 pub told_refused : (ts : List Token) (fault : Fault) (t : Token) (e : ParseError) → IsRefused ts fault → fault.left ≤ length ts → slice_get ts (length ts - fault.left) ≡ Some t → e ≡ refusal_of fault.kind (inside_finally (take (length ts - fault.left) (lexemes_of ts))) t → Told_error (Reads ts) e
@@ -88,7 +88,7 @@ nothing [] e = refl
 nothing (t ∷ l) e = absurd (omega (arith, e))
 
 -- Were all tokens taken, what they begin would be a script, since nothing stands behind END.
-whole : (ts : List Token) (fault : Fault) → Ends ts → IsRefused ts fault → fault.left ≡ 0 → (script : Script) × Spells 64 (lexemes_of ts) script
+pub whole : (ts : List Token) (fault : Fault) → Ends ts → IsRefused ts fault → fault.left ≡ 0 → (script : Script) × Spells 64 (lexemes_of ts) script
 whole ts fault ends r e =
     let rest : r.rest ≡ [] = nothing r.rest (sym r.left ∙ e) in
     let front : lexemes_of ts ≡ r.front = r.parts ∙ ap (λ (l : List Lexeme). r.front ++ l) rest ∙ append-nil r.front in
@@ -102,7 +102,7 @@ left_within ts fault r =
     let parts : length (lexemes_of ts) ≡ length (r.front ++ r.rest) = ap length r.parts in
     omega (arith, parts, length-append r.front r.rest, length-map ts lexeme_at, r.left)
 
-positive : (n : ℕ) → ¬ (n ≡ 0) → 0 < n
+pub positive : (n : ℕ) → ¬ (n ≡ 0) → 0 < n
 positive zero h = absurd (h refl)
 positive (suc n) h = omega arith
 
@@ -121,7 +121,7 @@ not_read ts r fault script e h only =
 pub left_some : (ts : List Token) (r : Reading) (fault : Fault) → Ends ts → IsRefused ts fault → r ≡ Err (Refused fault) → ReadsAll ts r → 0 < fault.left
 left_some ts r fault ends refused e only = positive fault.left (λ z. let (script, h) = whole ts fault ends refused z in not_read ts r fault script e h only)
 
-token_at : (ts : List Token) (k : ℕ) → k < length ts → (t : Token) × (slice_get ts k ≡ Some t)
+pub token_at : (ts : List Token) (k : ℕ) → k < length ts → (t : Token) × (slice_get ts k ≡ Some t)
 token_at [] k h = absurd (omega arith)
 token_at (t ∷ ts) zero h = (t, refl)
 token_at (t ∷ ts) (suc k) h = token_at ts k (omega arith)

@@ -3,3 +3,4 @@ pub mod Refused
 pub mod LastToken
 pub mod OneAnswer
 pub mod Answers
+pub mod Computed

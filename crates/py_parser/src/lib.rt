@@ -3,8 +3,10 @@
 
 mod error;
 mod kinds;
+mod laws;
 mod place;
 mod source;
 
 pub use error::ParseError;
+pub use laws::one_answer;
 pub use source::parse;

@@ -6,6 +6,7 @@ ghost use Rattle.py_lexemes.specs.Words.{lexemes_of};
 ghost use Rattle.py_parser.specs.Kinds as kinds;
 ghost use Rattle.py_parser.specs.Places as places;
 ghost use Rattle.py_parser.specs.Parses.{Answer, Reads, Parses, Ends, Told};
+ghost use Rattle.py_parser.specs.Parsed.{parsed};
 
 use crate::error::ParseError;
 use crate::kinds::refusal_of;
@@ -62,7 +63,7 @@ fn read(alloc: Global, tokens: &[Token], lexemes: &[Lexeme]) -> Result<Script, P
 }
 
 /// The same of the tokens alone.
-fn parsed(alloc: Global, tokens: &[Token]) -> Result<Script, ParseError>
+fn parse_tokens(alloc: Global, tokens: &[Token]) -> Result<Script, ParseError>
     requires { Ends tokens.now }
     ensures { Told (Reads tokens.now) result }
 {
@@ -78,9 +79,11 @@ pub fn parse(alloc: Global, src: &[u8]) -> Result<Script, ParseError>
     ensures given { Told (Parses src.now) result }
     // It gives nothing else.
     ensures only { (answer : Answer) → Parses src.now answer → Told (λ told. told ≡ answer) result }
+    // It is what is computed of the source.
+    ensures is { Told (λ told. told ≡ parsed src.now) result }
 {
     match tokens(alloc, src) {
-        Ok(tokens) => parsed(alloc, tokens.as_slice()),
+        Ok(tokens) => parse_tokens(alloc, tokens.as_slice()),
         Err(error) => Err(without_tokens(error)),
     }
 }

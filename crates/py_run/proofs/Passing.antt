@@ -72,9 +72,9 @@ passes_module (it.Start name mid text left) m b p s a g f = record { does = λ n
 passes_module (it.Finish load mid i) m b p s a g f = absurd (f load mid i refl)
 
 -- a desk that was not called goes on as it is
-pub unchanged : (a : Sight) → Continues a a
+pub unchanged : {P : Type 0} (a : Sight P) → Continues a a
 unchanged a = continues_refl a
 
 -- and what went on so far goes on
-pub onward : (a b c : Sight) → Continues a b → Continues b c → Continues a c
+pub onward : {P : Type 0} (a b c : Sight P) → Continues a b → Continues b c → Continues a c
 onward a b c p q = continues_trans a b c p q

@@ -7,7 +7,7 @@ use Rattle.machine_events.specs.declared.event.Event.TheVariants.{End}
 use Rattle.machine_events.specs.declared.event.Reply.{Reply}
 use Rattle.machine_events.specs.declared.event.Reply.TheVariants.{Done}
 use Rattle.machine_events.specs.declared.event.Outcome.TheVariants as o
-use Rattle.thread_knowledge.specs.Shown.{Running, shown}
+use Rattle.thread_knowledge.specs.Shown.{Running, shown, shown_first}
 use Rattle.meanings.specs.Runs.{Run, How, Ended, Spent, Reaches, spend, Stands, StandsIn, IsSpent, IsUnread, Safe, GivesUp}
 use Rattle.meanings.specs.Runs as runs
 use Rattle.meanings.specs.Follows.{Follows, Ends}
@@ -24,17 +24,17 @@ ends_came (Found m) fuel = (refl, refl)
 ends_came (Raised error) fuel = (refl, refl)
 
 pub follows_came : (f : Files) (t : ℕ) (whole : Run) (fuel budget : ℕ) (mine mine' : List (Event × Reply)) (flow : Flow) → Stands (Some f) whole fuel mine budget (runs.Over (Ended (outcome_of flow)))
-    → mine' ≡ mine ++ (End (outcome_of flow) fuel, Done) ∷ [] → Follows f t whole fuel mine' (outcome_of flow)
-follows_came f t whole fuel budget mine mine' flow s is = whole_of f t fuel is refl (over_reached t s) (ends_came flow fuel)
+    → mine' ≡ mine ++ (End (outcome_of flow) fuel, Done) ∷ [] → Safe (shown_first t) whole → Follows f t whole fuel mine' (outcome_of flow)
+follows_came f t whole fuel budget mine mine' flow s is safe = whole_of f t fuel is refl (over_reached t s) (ends_came flow fuel) safe
 
 -- what was given up on the way to an End
 abbrev pub Gave : ℕ → List (Event × Reply) → List (Event × Reply) → Type 0
 Gave t mine before = (files : Option Files) (whole : Run) (budget : ℕ) (of_tree : Bool) → GivesUp files t whole budget mine of_tree → GivesUp files t whole budget before of_tree
 
 pub follows_out : (f : Files) (t : ℕ) (whole : Run) (fuel budget : ℕ) (mine before mine' : List (Event × Reply)) → IsSpent (Some f) whole fuel mine budget → Gave t mine before → (shown t before).held ≡ []
-    → mine' ≡ before ++ (End o.Fuel fuel, Done) ∷ [] → Follows f t whole fuel mine' o.Fuel
-follows_out f t whole fuel budget mine before mine' s gave free is =
-    whole_of f t fuel is refl (all_given t whole fuel before s.of_tree free (gave (Some f) whole fuel s.of_tree (spent_gives_up t s))) ((s.of_tree, refl), refl)
+    → mine' ≡ before ++ (End o.Fuel fuel, Done) ∷ [] → Safe (shown_first t) whole → Follows f t whole fuel mine' o.Fuel
+follows_out f t whole fuel budget mine before mine' s gave free is safe =
+    whole_of f t fuel is refl (all_given t whole fuel before s.of_tree free (gave (Some f) whole fuel s.of_tree (spent_gives_up t s))) ((s.of_tree, refl), refl) safe
 
 -- what was paid before the payment for the failed call, and that payment, are within the fuel
 unread_paid : {files : Option Files} (run : Run) (fuel left : ℕ) (mine : List (Event × Reply)) → IsUnread files run fuel mine left → fuel - left + 1 ≤ fuel
@@ -44,9 +44,9 @@ pub unread_left : {files : Option Files} (run : Run) (fuel left : ℕ) (mine : L
 unread_left run fuel left mine s = omega (arith, s.stands.sum)
 
 pub follows_read : (f : Files) (t : ℕ) (whole : Run) (fuel left : ℕ) (mine before mine' : List (Event × Reply)) → IsUnread (Some f) whole fuel mine left → Gave t mine before → (shown t before).held ≡ []
-    → mine' ≡ before ++ (End o.Read (fuel - left), Done) ∷ [] → Follows f t whole fuel mine' o.Read
-follows_read f t whole fuel left mine before mine' s gave free is =
-    whole_of f t (fuel - left) is refl (all_given t whole (fuel - left) before true free (gave (Some f) whole (fuel - left) true (unread_gives_up t s))) (refl, unread_paid whole fuel left mine s)
+    → mine' ≡ before ++ (End o.Read (fuel - left), Done) ∷ [] → Safe (shown_first t) whole → Follows f t whole fuel mine' o.Read
+follows_read f t whole fuel left mine before mine' s gave free is safe =
+    whole_of f t (fuel - left) is refl (all_given t whole (fuel - left) before true free (gave (Some f) whole (fuel - left) true (unread_gives_up t s))) (refl, unread_paid whole fuel left mine s) safe
 
 -- where it is broken off
 pub broken_in : (f : Files) (t : ℕ) (whole : Run) (fuel : ℕ) (mine : List (Event × Reply)) (old new : ℕ) → StandsIn (Some f) whole fuel mine → Broken f t whole fuel mine old new

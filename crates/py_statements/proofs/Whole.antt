@@ -48,7 +48,7 @@ leaves_nothing room ts rest s h = ends_there _ s rest h
 abbrev Read_script : Type 0
 Read_script = Result (Script × Bor (List Lexeme)) ReadError
 
-is_spelled : (room : ℕ) (ts rest : List Lexeme) (s : Script) → script room ts ≡ given s rest → Spells room ts s
+pub is_spelled : (room : ℕ) (ts rest : List Lexeme) (s : Script) → script room ts ≡ given s rest → Spells room ts s
 is_spelled room ts rest s h =
     let front : IsFront Spells room ts s rest = sound script Spells script_reader room ts s rest h in
     let whole : ts ≡ front.front = front.parts ∙ ap (λ (l : List Lexeme). front.front ++ l) (leaves_nothing room ts rest s h) ∙ append-nil front.front in

@@ -3,6 +3,7 @@
 use crate::name_set::NameSet;
 use base_types::{Seq, Text, Texts};
 use py_syntax::{Branch, Expr, Handler, Stmt};
+use shared::Shared;
 
 /// Statements, and the number of the first function behind them.
 #[derive(Drop)]
@@ -28,7 +29,7 @@ pub struct Branches {
 /// The kinds that a handler takes, and what the error is bound to.
 #[derive(Drop)]
 pub struct Caught {
-    pub kinds: Expr,
+    pub kinds: Shared<Expr>,
     pub bound: Option<Text>,
 }
 

@@ -18,6 +18,7 @@ use crate::statements::next_stmt;
 use crate::tokens::{end, stmt_ahead};
 use base_types::Seq;
 use py_syntax::{Context, Lexeme, Script};
+use shared::Shared;
 use std::alloc::Global;
 use token_reading::ReadError;
 
@@ -57,7 +58,12 @@ fn read(alloc: Global, tokens: &[Lexeme], room: usize) -> Result<(Script, &[Lexe
 {
     let (stmts, rest) = top_stmts(alloc, tokens, room)?;
     let rest = end(rest)?;
-    Ok((Script { body: stmts.found }, rest))
+    Ok((
+        Script {
+            body: Shared::new(alloc, stmts.found)?,
+        },
+        rest,
+    ))
 }
 
 /// What was read, without what follows it.

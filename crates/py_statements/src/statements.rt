@@ -19,6 +19,7 @@ use base_types::{NoMemory, Seq, Text, Texts};
 use py_expressions::expr;
 use py_lines::{bound, line, one, with};
 use py_syntax::{Branch, Context, Expr, FuncDef, Handler, Lexeme, Stmt};
+use shared::Shared;
 use std::alloc::Global;
 use token_reading::{ReadError, Refusal, refused};
 
@@ -209,19 +210,20 @@ fn branch(
 {
     let (test, rest) = expr(alloc, tokens, room)?;
     let (body, rest) = colon_block(alloc, context, number, rest, room)?;
-    Ok((tested(test.tree, body), rest))
+    Ok((tested(alloc, test.tree, body)?, rest))
 }
 
-fn tested(test: Expr, body: Stmts) -> Tested
-    ensures { tested_of result ≡ reading.branch_of test (stmts_of body) }
+fn tested(alloc: Global, test: Shared<Expr>, body: Stmts) -> Result<Tested, NoMemory>
+    ensures { IfOk result (λ it. tested_of it ≡ reading.branch_of test (stmts_of body)) }
 {
-    Tested {
+    let next = body.next;
+    Ok(Tested {
         branch: Branch {
             test,
-            body: body.found,
+            body: Shared::new(alloc, body.found)?,
         },
-        next: body.next,
-    }
+        next,
+    })
 }
 
 /// One more test and its block.
@@ -356,8 +358,10 @@ fn if_rest(
 {
     let (branches, rest) = branches(alloc, context, number, tokens, room)?;
     let (otherwise, rest) = else_part(alloc, context, branches.next, rest, room)?;
-    let stmt = Stmt::If(branches.found, otherwise.found);
-    Ok((alone(alloc, stmt, otherwise.next)?, rest))
+    let next = otherwise.next;
+    let branches = Shared::new(alloc, branches.found)?;
+    let stmt = Stmt::If(branches, Shared::new(alloc, otherwise.found)?);
+    Ok((alone(alloc, stmt, next)?, rest))
 }
 
 /// The rest of a `while` (8.2).
@@ -387,23 +391,25 @@ fn begins_handler(handlers: &Handlers, tokens: &[Lexeme]) -> bool
 
 /// One more handler.
 fn with_handler(
+    alloc: Global,
     handlers: Handlers,
-    kinds: Option<Expr>,
+    kinds: Option<Shared<Expr>>,
     bound: Option<Text>,
     body: Stmts,
     is_open: bool,
 ) -> Result<Handlers, NoMemory>
     ensures { IfOk result (λ it. handlers_of it ≡ reading.with_handler handlers.found kinds bound (stmts_of body) is_open) }
 {
+    let next = body.next;
     let handler = Handler {
         kinds,
         bound,
-        body: body.found,
+        body: Shared::new(alloc, body.found)?,
     };
     let found = with(handlers.found, handler)?;
     Ok(Handlers {
         found,
-        next: body.next,
+        next,
         is_open,
     })
 }
@@ -441,12 +447,22 @@ fn handler_rest(
     match tokens {
         [Lexeme::Colon, rest @ ..] => {
             let (body, rest) = block(alloc, context, handlers.next, rest, room)?;
-            Ok((with_handler(handlers, None, None, body, false)?, rest))
+            Ok((
+                with_handler(alloc, handlers, None, None, body, false)?,
+                rest,
+            ))
         }
         _ => {
             let (caught, rest) = caught(alloc, tokens, room)?;
             let (body, rest) = colon_block(alloc, context, handlers.next, rest, room)?;
-            let handlers = with_handler(handlers, Some(caught.kinds), caught.bound, body, true)?;
+            let handlers = with_handler(
+                alloc,
+                handlers,
+                Some(caught.kinds),
+                caught.bound,
+                body,
+                true,
+            )?;
             Ok((handlers, rest))
         }
     }
@@ -535,8 +551,13 @@ fn only_finally(
 {
     let context = within_finally(context);
     let (at_last, rest) = colon_block(alloc, context, body.next, tokens, room)?;
-    let stmt = Stmt::Try(body.found, Seq::new(alloc), Seq::new(alloc), at_last.found);
-    Ok((alone(alloc, stmt, at_last.next)?, rest))
+    let next = at_last.next;
+    let body = Shared::new(alloc, body.found)?;
+    let handlers = Shared::new(alloc, Seq::new(alloc))?;
+    let otherwise = Shared::new(alloc, Seq::new(alloc))?;
+    let at_last = Shared::new(alloc, at_last.found)?;
+    let stmt = Stmt::Try(body, handlers, otherwise, at_last);
+    Ok((alone(alloc, stmt, next)?, rest))
 }
 
 /// A `try` with handlers, behind its block.
@@ -553,8 +574,13 @@ fn with_handlers(
 {
     let (handlers, rest) = handlers(alloc, context, body.next, tokens, room)?;
     let (ends, rest) = try_ends(alloc, context, handlers.next, rest, room)?;
-    let stmt = Stmt::Try(body.found, handlers.found, ends.otherwise, ends.at_last);
-    Ok((alone(alloc, stmt, ends.next)?, rest))
+    let next = ends.next;
+    let body = Shared::new(alloc, body.found)?;
+    let handlers = Shared::new(alloc, handlers.found)?;
+    let otherwise = Shared::new(alloc, ends.otherwise)?;
+    let at_last = Shared::new(alloc, ends.at_last)?;
+    let stmt = Stmt::Try(body, handlers, otherwise, at_last);
+    Ok((alone(alloc, stmt, next)?, rest))
 }
 
 /// What follows the block of a `try` (8.4).
@@ -680,15 +706,16 @@ fn defined(
 ) -> Result<Stmts, NoMemory>
     ensures { IfOk result (λ it. stmts_of it ≡ reading.function number (signature_of signature) (body_of body)) }
 {
+    let next = body.next;
     let parameters = signature.parameters.texts(alloc)?;
     let function = FuncDef {
         number,
         name: signature.name,
         parameters,
         globals: body.globals,
-        body: body.stmts,
+        body: Shared::new(alloc, body.stmts)?,
     };
-    alone(alloc, Stmt::Def(function), body.next)
+    alone(alloc, Stmt::Def(Shared::new(alloc, function)?), next)
 }
 
 /// The rest of a `def`.

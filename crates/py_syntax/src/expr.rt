@@ -1,7 +1,7 @@
 //! Expressions.
 
 use base_types::{Seq, Text};
-use sqlite_items::Boxed;
+use shared::Shared;
 
 /// An operator of two operands (Language Reference 6.7).
 #[derive(Clone, Copy, Debug, PartialEq, Eq)]
@@ -51,20 +51,20 @@ pub enum Expr {
     Nothing,
     True,
     False,
-    Tuple(Seq<Expr>),
-    List(Seq<Expr>),
+    Tuple(Shared<Seq<Shared<Expr>>>),
+    List(Shared<Seq<Shared<Expr>>>),
     /// `object.name`.
-    Attribute(Boxed<Expr>, Text),
+    Attribute(Shared<Expr>, Text),
     /// `callee(arguments)`.
-    Call(Boxed<Expr>, Seq<Expr>),
+    Call(Shared<Expr>, Shared<Seq<Shared<Expr>>>),
     /// `object[index]`.
-    Subscript(Boxed<Expr>, Boxed<Expr>),
-    Negative(Boxed<Expr>),
-    Binary(BinaryOp, Boxed<Expr>, Boxed<Expr>),
-    Compare(Comparison, Boxed<Expr>, Boxed<Expr>),
-    Not(Boxed<Expr>),
-    And(Boxed<Expr>, Boxed<Expr>),
-    Or(Boxed<Expr>, Boxed<Expr>),
+    Subscript(Shared<Expr>, Shared<Expr>),
+    Negative(Shared<Expr>),
+    Binary(BinaryOp, Shared<Expr>, Shared<Expr>),
+    Compare(Comparison, Shared<Expr>, Shared<Expr>),
+    Not(Shared<Expr>),
+    And(Shared<Expr>, Shared<Expr>),
+    Or(Shared<Expr>, Shared<Expr>),
 }
 
 impl Drop for Expr {
@@ -72,31 +72,35 @@ impl Drop for Expr {
     // left side goes in a loop, so that the native stack holds a few calls for each level that is open in the source.
     fn drop(mut self) {
         loop {
-            match self {
+            let left = match self {
                 Expr::Name(text) | Expr::Str(text) => return drop(text),
                 Expr::Number(_) | Expr::Nothing | Expr::True | Expr::False => return,
                 Expr::Tuple(items) | Expr::List(items) => return drop(items),
                 Expr::Attribute(object, name) => {
                     drop(name);
-                    self = object.into_inner();
+                    object
                 }
                 Expr::Call(callee, arguments) => {
                     drop(arguments);
-                    self = callee.into_inner();
+                    callee
                 }
                 Expr::Subscript(object, index) => {
                     drop(index);
-                    self = object.into_inner();
+                    object
                 }
-                Expr::Negative(operand) | Expr::Not(operand) => self = operand.into_inner(),
+                Expr::Negative(operand) | Expr::Not(operand) => operand,
                 Expr::Binary(_, left, right) | Expr::Compare(_, left, right) => {
                     drop(right);
-                    self = left.into_inner();
+                    left
                 }
                 Expr::And(left, right) | Expr::Or(left, right) => {
                     drop(right);
-                    self = left.into_inner();
+                    left
                 }
+            };
+            match left.into_inner() {
+                Some(expr) => self = expr,
+                None => return,
             }
         }
     }
@@ -105,13 +109,13 @@ impl Drop for Expr {
 /// An expression with whether it is spelled as a target: as a name, an attribute or a subscription (7.2). `(x)` is not.
 #[derive(Drop)]
 pub struct Spelled {
-    pub tree: Expr,
+    pub tree: Shared<Expr>,
     pub is_target: bool,
 }
 
 /// Expressions with commas between, and whether another one may follow: where there is none yet, and behind a comma.
 #[derive(Drop)]
 pub struct Items {
-    pub found: Seq<Expr>,
+    pub found: Seq<Shared<Expr>>,
     pub is_open: bool,
 }

@@ -2,6 +2,7 @@
 
 use crate::expr::{BinaryOp, Expr};
 use base_types::{Seq, Text, Texts};
+use shared::Shared;
 
 /// `a.b` or `a.b as c` of `import` (Language Reference 7.11), with the parts of the dotted name.
 #[derive(Drop)]
@@ -21,17 +22,17 @@ pub enum ImportedNames {
 #[cycle(stmt)]
 #[derive(Drop)]
 pub struct Branch {
-    pub test: Expr,
-    pub body: Seq<Stmt>,
+    pub test: Shared<Expr>,
+    pub body: Shared<Seq<Stmt>>,
 }
 
 /// `except kinds as bound:` with its block (8.4). Without kinds it takes each error, and stands last.
 #[cycle(stmt)]
 #[derive(Drop)]
 pub struct Handler {
-    pub kinds: Option<Expr>,
+    pub kinds: Option<Shared<Expr>>,
     pub bound: Option<Text>,
-    pub body: Seq<Stmt>,
+    pub body: Shared<Seq<Stmt>>,
 }
 
 /// A function (8.7), numbered from 0 in the order of the `def` tokens of its source.
@@ -43,37 +44,37 @@ pub struct FuncDef {
     pub parameters: Texts,
     /// The names of its `global` lines (7.12).
     pub globals: Texts,
-    pub body: Seq<Stmt>,
+    pub body: Shared<Seq<Stmt>>,
 }
 
 /// A statement (chapters 7 and 8).
 #[cycle(stmt)]
 #[derive(Drop)]
 pub enum Stmt {
-    Evaluate(Expr),
+    Evaluate(Shared<Expr>),
     /// `target = value`.
-    Assign(Expr, Expr),
+    Assign(Shared<Expr>, Shared<Expr>),
     /// `name op= value`.
-    Augment(Text, BinaryOp, Expr),
-    Delete(Expr),
+    Augment(Text, BinaryOp, Shared<Expr>),
+    Delete(Shared<Expr>),
     Pass,
     Break,
     Continue,
-    Return(Option<Expr>),
-    Raise(Option<Expr>),
+    Return(Option<Shared<Expr>>),
+    Raise(Option<Shared<Expr>>),
     Import(Seq<Alias>),
     /// `from` as many dots and these parts `import` these names. Without dots there are parts.
     From(u32, Texts, ImportedNames),
     /// The branches in order, of which there is one at least, and the block of `else`, empty where there is none.
-    If(Seq<Branch>, Seq<Stmt>),
-    While(Expr, Seq<Stmt>),
+    If(Shared<Seq<Branch>>, Shared<Seq<Stmt>>),
+    While(Shared<Expr>, Shared<Seq<Stmt>>),
     /// The block, its handlers, and the blocks of `else` and `finally`, each empty where there is none.
-    Try(Seq<Stmt>, Seq<Handler>, Seq<Stmt>, Seq<Stmt>),
-    Def(FuncDef),
+    Try(Shared<Seq<Stmt>>, Shared<Seq<Handler>>, Shared<Seq<Stmt>>, Shared<Seq<Stmt>>),
+    Def(Shared<FuncDef>),
 }
 
 /// A script.
 #[derive(Drop)]
 pub struct Script {
-    pub body: Seq<Stmt>,
+    pub body: Shared<Seq<Stmt>>,
 }

@@ -7,21 +7,19 @@ use Rattle.tree_files.specs.Count.{Rose}
 use Rattle.machine_events.specs.declared.event.Entry.{Entry}
 use Rattle.machine_state.specs.declared.state.State.{State}
 use Rattle.machine_state.specs.Legal.{IsLegal}
-use Rattle.thread_knowledge.specs.Own.{own}
 use Rattle.meanings.specs.Runs.{Run}
 use Rattle.import_words.specs.Words.{Word}
 use Rattle.import_words.specs.Plans.{plan_of}
 use Rattle.import_words.specs.declared.plan.Plan.{Plan}
 use Rattle.import_words.specs.declared.plan.Plan.TheVariants as plans
 use Rattle.import_words.specs.declared.plan.RunPlan.{RunPlan}
-use Rattle.py_run.specs.Ending.{Broken, in_run, at_read}
 use Rattle.py_run.specs.Meaning.{meaning}
 use Rattle.pyimport.specs.Prints.{out_text}
 use Rattle.pyimport.specs.Ends.{err_text, status_of}
 use Rattle.pyimport.specs.Sinks.{At, Leaves}
 use Rattle.pyimport.specs.Scripts.{IsScript, Opens, by_node, first_of}
 use Rattle.pyimport.specs.Alone.{opening_of, HasCause, IsRun}
-use Rattle.pyimport.specs.Answers.{Answers, Runs, built, refusal_of}
+use Rattle.pyimport.specs.Answers.{Answers, Runs, ReadsBy, built, refusal_of}
 use Rattle.pyimport.specs.declared.open.Opened.{Opened}
 use Rattle.pyimport.specs.declared.open.Opened.TheVariants as opened
 use Rattle.pyimport.specs.declared.alone.Report.{Report}
@@ -38,8 +36,12 @@ module _ (words : List Word) (tree : Option Files) (old new : ℕ) (out_old out_
       (subst (λ (x : Option (List Entry)). Answers words tree old new out_old out_new err_old err_new status p x) (sym hh) a)
 
   -- memory was wanted first
-  pub short_by : (r : Report) (p : Option Plan) → r ≡ record { status = 6; plan = p; history = None } → out_new ≡ out_old → err_new ≡ err_old → Answers words tree old new out_old out_new err_old err_new r.status r.plan r.history
-  short_by r p e o q = subst (λ (x : Report). Answers words tree old new out_old out_new err_old err_new x.status x.plan x.history) (sym e) (Answers.short p o q)
+  pub wordless_by : (r : Report) → r ≡ record { status = 6; plan = None; history = None } → new ≡ old → out_new ≡ out_old → err_new ≡ err_old → Answers words tree old new out_old out_new err_old err_new r.status r.plan r.history
+  wordless_by r e n o q = subst (λ (x : Report). Answers words tree old new out_old out_new err_old err_new x.status x.plan x.history) (sym e) (Answers.wordless n o q)
+
+  pub short_by : (r : Report) (run : RunPlan) → built (plan_of words) ≡ Some run → r ≡ record { status = 6; plan = Some (plans.Run run); history = None } → out_new ≡ out_old → err_new ≡ err_old
+      → Answers words tree old new out_old out_new err_old err_new r.status r.plan r.history
+  short_by r run is e o q = subst (λ (x : Report). Answers words tree old new out_old out_new err_old err_new x.status x.plan x.history) (sym e) (Answers.short run is o q)
 
 -- a count that rose since a later moment
 rose_since : (first old new : ℕ) → first ≤ old → Rose old new → Rose first new
@@ -49,13 +51,9 @@ cause_since : (stop : Option ℕ) (first old new : ℕ) → first ≤ old → Ha
 cause_since None first old new h c = tt
 cause_since (Some k) first old new h c = rose_since first old new h c
 
-broken_since : (files : Files) (run : Run) (fuel : ℕ) (h : List Entry) (first old new : ℕ) → first ≤ old → Broken files 0 run fuel (own 0 h) old new → Broken files 0 run fuel (own 0 h) first new
-broken_since files run fuel h first old new f (in_run p) = in_run p
-broken_since files run fuel h first old new f (at_read k fits rose p) = at_read k fits (rose_since first old new f rose) p
-
 run_since : (files : Files) (opened : State) (run : Run) (fuel first old new status : ℕ) (h : List Entry) → first ≤ old → IsRun files opened run fuel old new h status → IsRun files opened run fuel first new h status
 run_since files opened run fuel first old new status h f (IsRun.whole stop solo cause) = IsRun.whole stop solo (cause_since stop first old new f cause)
-run_since files opened run fuel first old new status h f (IsRun.part is legal broken) = IsRun.part is legal (broken_since files run fuel h first old new f broken)
+run_since files opened run fuel first old new status h f (IsRun.part stop is broken cause) = IsRun.part stop is broken (cause_since stop first old new f cause)
 
 runs_by : (tree : Option Files) (run : RunPlan) (text : List ℕ) (first old new status : ℕ) (h : List Entry) → first ≤ old
     → IfSome tree (λ files. IsRun files (opening_of run (text ∷ [])) (meaning 0 text) run.fuel old new h status) → Runs tree run text first new h status
@@ -74,27 +72,30 @@ module _ (words : List Word) (tree : Option Files) (first old new : ℕ) (out_ol
       → (history ≡ None → (status ≡ 6) × (out_new.written ≡ out_old.written) × (out_new.faults ≡ out_old.faults) × (err_new.written ≡ err_old.written) × (err_new.faults ≡ err_old.faults))
       → IfSome history (IsLegal (opening_of run (text ∷ [])))
       → IfSome tree (λ files. IfSome history (λ h. IsRun files (opening_of run (text ∷ [])) (meaning 0 text) run.fuel old new h status))
+      → IfSome history (λ h. ReadsBy old new h status)
       → IfSome history (λ h. Leaves (status_of 1 h) 5 (out_text run.trace h) (err_text run.scripts h) out_old out_new err_old err_new status)
       → Answers words tree first new out_old out_new err_old err_new status (Some (plans.Run run)) history
-  played status None short legal ran leaves =
+  played status None short legal ran read leaves =
       let s = short refl in
       let o : out_new ≡ out_old = at_is out_new out_old s.1 s.2 in
       let e : err_new ≡ err_old = at_is err_new err_old s.3 s.4 in
-      subst (λ (x : ℕ). Answers words tree first new out_old out_new err_old err_new x (Some (plans.Run run)) None) (sym s.0) (Answers.short (Some (plans.Run run)) o e)
-  played status (Some h) short legal ran leaves = Answers.ran status run text h is opens legal (runs_by tree run text first old new status h later ran) leaves
+      subst (λ (x : ℕ). Answers words tree first new out_old out_new err_old err_new x (Some (plans.Run run)) None) (sym s.0) (Answers.short run is o e)
+  played status (Some h) short legal ran read leaves =
+      Answers.ran status run text h is opens legal (runs_by tree run text first old new status h later ran) (λ good it. rose_since first old new later (read good it)) leaves
 
   -- with the text in a list, and the plan in the report
   pub played_by : (texts : List (List ℕ)) → texts ≡ text ∷ [] → (ran : Ran) (r : Report) → r ≡ record { status = ran.status; plan = Some (plans.Run run); history = ran.history }
       → (ran.history ≡ None → (ran.status ≡ 6) × (out_new.written ≡ out_old.written) × (out_new.faults ≡ out_old.faults) × (err_new.written ≡ err_old.written) × (err_new.faults ≡ err_old.faults))
       → IfSome ran.history (IsLegal (opening_of run texts))
       → IfSome tree (λ files. IfSome ran.history (λ h. IsRun files (opening_of run texts) (meaning 0 (first_of texts)) run.fuel old new h ran.status))
+      → IfSome ran.history (λ h. ReadsBy old new h ran.status)
       → IfSome ran.history (λ h. Leaves (status_of 1 h) 5 (out_text run.trace h) (err_text run.scripts h) out_old out_new err_old err_new ran.status)
       → Answers words tree first new out_old out_new err_old err_new r.status r.plan r.history
-  played_by texts one ran r e short legal run' leaves =
+  played_by texts one ran r e short legal run' read leaves =
       subst (λ (x : Report). Answers words tree first new out_old out_new err_old err_new x.status x.plan x.history) (sym e)
       (played ran.status ran.history short
       (subst (λ (xs : List (List ℕ)). IfSome ran.history (IsLegal (opening_of run xs))) one legal)
-      (subst (λ (xs : List (List ℕ)). IfSome tree (λ files. IfSome ran.history (λ h. IsRun files (opening_of run xs) (meaning 0 (first_of xs)) run.fuel old new h ran.status))) one run') leaves)
+      (subst (λ (xs : List (List ℕ)). IfSome tree (λ files. IfSome ran.history (λ h. IsRun files (opening_of run xs) (meaning 0 (first_of xs)) run.fuel old new h ran.status))) one run') read leaves)
 
 -- what stands at the path that the word spells
 pub script_at : (tree : Option Files) (word : List ℕ) (path : Path) (r : Result Opened TreeFault) → Spells word path → IfSome tree (λ f. IfOk r (λ it. it ≡ by_node (node_at f path))) → IfSome tree (λ f. IfOk r (IsScript f word))

@@ -1,5 +1,5 @@
 -- How one script ended, by its pairs, and what is said of it.
-use Rattle.std.proofs.Common.{◌≡◌, ℕ, max, List, [], ◌∷◌, ◌++◌, length, Option, Some, None, Result, Ok, Err, IfOk, IfSome, OnErr, refl, sym, subst, ◌∙◌, ap, arith}
+use Rattle.std.proofs.Common.{◌≡◌, ℕ, max, List, [], ◌∷◌, ◌++◌, length, Option, Some, None, Result, Ok, Err, IfOk, IfSome, OnErr, refl, sym, subst, ◌∙◌, ap, arith, inr}
 use Rattle.std.proofs.Math.ListN.{get_or}
 use Rattle.std.proofs.lemmas.List.{append-nil}
 use Rattle.std.specs.Option.{option_or}
@@ -19,10 +19,9 @@ use Rattle.machine_state.specs.Legal.{IsLegal}
 use Rattle.thread_knowledge.specs.Own.{own, Ready}
 use Rattle.meanings.specs.Runs.{Run}
 use Rattle.meanings.specs.Follows.{Follows}
-use Rattle.solo_history.specs.Solo.{IsSolo}
 use Rattle.py_run.specs.declared.script.Ending.{Ending}
 use Rattle.py_run.specs.declared.script.Ending.TheVariants as ending
-use Rattle.py_run.specs.Ending.{Ended, Broken, IsRead, outcome}
+use Rattle.py_run.specs.Ending.{Ended, Broken, in_run, at_read, IsRead, outcome}
 use Rattle.pyimport.specs.Ends.{end_of, line_of, line_at, err_text, number_of, number_at, status_of}
 use Rattle.py_run.specs.Meaning.{meaning}
 use Rattle.pyimport.specs.Scripts.{first_of}
@@ -47,18 +46,26 @@ line_is script scripts history how is ended = ap (λ names. err_text names histo
 pub number_is : (history : List Entry) (how : Outcome) → Ended (own 0 history) how → status_of 1 history ≡ number_of how
 number_is history how ended = max_zero (number_at (end_of (own 0 history))) ∙ ap number_at (end_is (own 0 history) how ended)
 
-run_by : (files : Files) (opened : State) (run : Run) (fuel old new status : ℕ) (h : List Entry) (it : Ending) → IsLegal opened h → Follows files 0 run fuel (own 0 h) (outcome it) → (IsRead it → Rose old new) → IsRun files opened run fuel old new h status
-run_by files opened run fuel old new status h ending.Normal l f r = IsRun.whole None (record { legal = l; outcome = o.Normal; follows = f; stops = tt }) tt
-run_by files opened run fuel old new status h (ending.Raised e) l f r = IsRun.whole None (record { legal = l; outcome = o.Raised e; follows = f; stops = tt }) tt
-run_by files opened run fuel old new status h ending.Fuel l f r = IsRun.whole None (record { legal = l; outcome = o.Fuel; follows = f; stops = tt }) tt
-run_by files opened run fuel old new status h ending.Read l f r = IsRun.whole (Some f.paid) (record { legal = l; outcome = o.Read; follows = f; stops = refl }) (r tt)
+-- a machine of one script
+abbrev IsOne : State → Type 0
+IsOne opened = 1 ≡ length opened.rounds
+
+run_by : (files : Files) (opened : State) (run : Run) (fuel old new status : ℕ) (h : List Entry) (it : Ending) → IsOne opened → IsLegal opened h → Follows files 0 run fuel (own 0 h) (outcome it) → (IsRead it → Rose old new) → IsRun files opened run fuel old new h status
+run_by files opened run fuel old new status h ending.Normal one l f r = IsRun.whole None (record { many = one; legal = l; each = (record { outcome = o.Normal; follows = f; stops = tt }, tt) }) tt
+run_by files opened run fuel old new status h (ending.Raised e) one l f r = IsRun.whole None (record { many = one; legal = l; each = (record { outcome = o.Raised e; follows = f; stops = tt }, tt) }) tt
+run_by files opened run fuel old new status h ending.Fuel one l f r = IsRun.whole None (record { many = one; legal = l; each = (record { outcome = o.Fuel; follows = f; stops = tt }, tt) }) tt
+run_by files opened run fuel old new status h ending.Read one l f r = IsRun.whole (Some f.paid) (record { many = one; legal = l; each = (record { outcome = o.Read; follows = f; stops = refl }, tt) }) (r tt)
+
+broken_by : (files : Files) (opened : State) (run : Run) (fuel old new status : ℕ) (h : List Entry) → IsOne opened → IsLegal opened h → status ≡ 6 → Broken files 0 run fuel (own 0 h) old new → IsRun files opened run fuel old new h status
+broken_by files opened run fuel old new status h one l s (in_run part) = IsRun.part None s (record { many = one; legal = l; each = inr (part, tt) }) tt
+broken_by files opened run fuel old new status h one l s (at_read k fits rose given) = IsRun.part (Some k) s (record { many = one; legal = l; each = inr ((given, fits), tt) }) rose
 
 -- the history is the run of the script, or a beginning of it
-pub run_is : (files : Files) (opened : State) (run : Run) (fuel old new status : ℕ) (h : List Entry) (ran : Result Ending NoMemory) → IsLegal opened h
+pub run_is : (files : Files) (opened : State) (run : Run) (fuel old new status : ℕ) (h : List Entry) (ran : Result Ending NoMemory) → IsOne opened → IsLegal opened h
     → IfOk ran (λ it. Follows files 0 run fuel (own 0 h) (outcome it)) → OnErr ran (Broken files 0 run fuel (own 0 h) old new) → IfOk ran (λ it. IsRead it → Rose old new) → OnErr ran (status ≡ 6)
     → IsRun files opened run fuel old new h status
-run_is files opened run fuel old new status h (Ok it) l f b r s = run_by files opened run fuel old new status h it l f r
-run_is files opened run fuel old new status h (Err e) l f b r s = IsRun.part s l b
+run_is files opened run fuel old new status h (Ok it) one l f b r s = run_by files opened run fuel old new status h it one l f r
+run_is files opened run fuel old new status h (Err e) one l f b r s = broken_by files opened run fuel old new status h one l s b
 
 read_ending : (it : Ending) → outcome it ≡ o.Read → IsRead it
 read_ending ending.Read is = tt
@@ -76,12 +83,12 @@ read_is h (Err e) old new status ended r s good is = absurd (good s)
 pub follows_by : (files : Files) (run run' : Run) (fuel : ℕ) (mine mine' : List (Event × Reply)) (r : Result Ending NoMemory) → run ≡ run' → mine ≡ mine' → IfOk r (λ it. Follows files 0 run fuel mine (outcome it)) → IfOk r (λ it. Follows files 0 run' fuel mine' (outcome it))
 follows_by files run run' fuel mine mine' r p q f = subst (λ (m : List (Event × Reply)). IfOk r (λ it. Follows files 0 run' fuel m (outcome it))) q (subst (λ (x : Run). IfOk r (λ it. Follows files 0 x fuel mine (outcome it))) p f)
 
-pub run_told : (files : Files) (opened opened' : State) (text text' : List ℕ) (fuel old new status : ℕ) (h : List Entry) (ran : Result Ending NoMemory) → opened ≡ opened' → text ≡ text' → IsLegal opened h
+pub run_told : (files : Files) (opened opened' : State) (text text' : List ℕ) (fuel old new status : ℕ) (h : List Entry) (ran : Result Ending NoMemory) → IsOne opened' → opened ≡ opened' → text ≡ text' → IsLegal opened h
     → IfOk ran (λ it. Follows files 0 (meaning 0 text) fuel (own 0 h) (outcome it)) → OnErr ran (Broken files 0 (meaning 0 text) fuel (own 0 h) old new) → IfOk ran (λ it. IsRead it → Rose old new) → OnErr ran (status ≡ 6)
     → IsRun files opened' (meaning 0 text') fuel old new h status
-run_told files opened opened' text text' fuel old new status h ran p q l f b r s =
+run_told files opened opened' text text' fuel old new status h ran one p q l f b r s =
     subst (λ (t : List ℕ). IsRun files opened' (meaning 0 t) fuel old new h status) q
-    (subst (λ (x : State). IsRun files x (meaning 0 text) fuel old new h status) p (run_is files opened (meaning 0 text) fuel old new status h ran l f b r s))
+    (run_is files opened' (meaning 0 text) fuel old new status h ran one (subst (λ (x : State). IsLegal x h) p l) f b r s)
 
 -- over files that are told, or not
 pub told_by : (o : Option Files) (P : Files → Type 0) → ((files : Files) → o ≡ Some files → P files) → IfSome o P

@@ -2,6 +2,7 @@
 use Rattle.std.proofs.Common.{◌≡◌, ◌≤◌, ℕ, Bool, List, [], ◌∷◌, ◌++◌, Option, Some, None, Result, Ok, Err, IfOk, refl, sym, subst, ◌∙◌, ap, arith, take, drop, length}
 use Rattle.std.proofs.lemmas.List.{append-nil, take-append-drop}
 use Rattle.base_types.specs.declared.no_memory.NoMemory.{NoMemory}
+use Rattle.tree_files.specs.Count.{Rose}
 use Rattle.tree_files.specs.Writing.{appended, HasPrefixOf}
 use Rattle.machine_events.specs.declared.event.Entry.{Entry}
 use Rattle.machine_book.specs.declared.outlet.Flow.{Flow}
@@ -22,19 +23,19 @@ appends_none None = tt
 appends_none (Some a) = sym (append-nil a)
 
 pub gets_none : (a : At) → Gets a [] a Open
-gets_none a = appends_none a.written
+gets_none a = (appends_none a.written, refl)
 
 -- a sink that got a first text and was then an outlet for some entries, by how it stood between and stands now
-module _ (a : At) (s b : Outgo) (x y : List ℕ) (up : a.faults ≤ s.faults) (grows : s.faults ≤ b.faults) where
+module _ (a : At) (s b : Outgo) (x y : List ℕ) where
   gets_then : (m e : Flow) → s.flow ≡ m → b.flow ≡ e → Gets a x (record { written = s.written; faults = s.faults }) m → FlowsFrom s y b m → Gets a (x ++ y) (record { written = b.written; faults = b.faults }) e
   gets_then Open e sm be p q = open_then e be p (subst (λ (f : Flow). Flows s y b f) be q)
     where
       open_then : (e : Flow) → b.flow ≡ e → Gets a x (record { written = s.written; faults = s.faults }) Open → Flows s y b e → Gets a (x ++ y) (record { written = b.written; faults = b.faults }) e
-      open_then Open be p q = appends_then a.written s.written b.written x y p q
-      open_then Failed be p q = (part_then a.written s.written b.written x y p q.0, omega (arith, up, q.1))
-      open_then Short be p q = part_then a.written s.written b.written x y p q
-  gets_then Failed Failed sm be p q = (part_still a.written s.written b.written x y p.0 q.1, omega (arith, p.1, grows))
-  gets_then Short Short sm be p q = part_still a.written s.written b.written x y p q.1
+      open_then Open be p q = (appends_then a.written s.written b.written x y p.0 q.0, q.1 ∙ p.1)
+      open_then Failed be p q = (part_then a.written s.written b.written x y p.0 q.0, subst (λ f. Rose f b.faults) p.1 q.1)
+      open_then Short be p q = (part_then a.written s.written b.written x y p.0 q.0, q.1 ∙ p.1)
+  gets_then Failed Failed sm be p q = (part_still a.written s.written b.written x y p.0 q.1, subst (λ f. Rose a.faults f) (sym q.2) p.1)
+  gets_then Short Short sm be p q = (part_still a.written s.written b.written x y p.0 q.1, q.2 ∙ p.1)
   gets_then Failed Open sm be p q = absurd (cc (sm, be, q.0))
   gets_then Failed Short sm be p q = absurd (cc (sm, be, q.0))
   gets_then Short Open sm be p q = absurd (cc (sm, be, q.0))
@@ -50,15 +51,15 @@ number_for h (Ok it) ended = number_is h (outcome it) ended
 number_for h (Err e) ended = tt
 
 -- an outlet that was given a sink, and the sink that got it back: it has got the whole text of the history, or a beginning
-pub gets_back : (a : At) (s b : Outgo) (trace : Bool) (history : List Entry) (written : Option (List ℕ)) (faults : ℕ) (flow : Flow) → s.trace ≡ trace → a.faults ≤ s.faults
+pub gets_back : (a : At) (s b : Outgo) (trace : Bool) (history : List Entry) (written : Option (List ℕ)) (faults : ℕ) (flow : Flow) → s.trace ≡ trace
     → Gets a (opening_text trace) (record { written = s.written; faults = s.faults }) s.flow → Kept piece s b history → written ≡ b.written → faults ≡ b.faults → flow ≡ b.flow
     → Gets a (out_text trace history) (record { written = written; faults = faults }) flow
-gets_back a s b trace history written faults flow t up first k pw pf pl =
+gets_back a s b trace history written faults flow t first k pw pf pl =
     let text : List ℕ = out_text trace history in
     subst (λ (x : Flow). Gets a text (record { written = written; faults = faults }) x) (sym pl)
     (subst (λ (x : Option (List ℕ)). Gets a text (record { written = x; faults = faults }) b.flow) (sym pw)
     (subst (λ (x : ℕ). Gets a text (record { written = b.written; faults = x }) b.flow) (sym pf)
-    (gets_then a s b (opening_text trace) (text_of piece trace history) up k.faults s.flow b.flow refl refl first (subst (λ (x : Bool). FlowsFrom s (text_of piece x history) b s.flow) t k.text))))
+    (gets_then a s b (opening_text trace) (text_of piece trace history) s.flow b.flow refl refl first (subst (λ (x : Bool). FlowsFrom s (text_of piece x history) b s.flow) t k.text))))
 
 appends_by : (old new : Option (List ℕ)) (text : List ℕ) → new ≡ appended old text → Appends old new text
 appends_by None None text e = tt

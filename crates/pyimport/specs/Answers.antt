@@ -13,7 +13,9 @@ use Rattle.import_words.specs.declared.plan.Plan.TheVariants as plans
 use Rattle.import_words.specs.declared.plan.RunPlan.{RunPlan}
 use Rattle.py_run.specs.Meaning.{meaning}
 use Rattle.pyimport.specs.Prints.{out_text}
-use Rattle.pyimport.specs.Ends.{err_text, status_of}
+use Rattle.machine_events.specs.declared.event.Outcome.TheVariants as o
+use Rattle.thread_knowledge.specs.Own.{own}
+use Rattle.pyimport.specs.Ends.{end_of, err_text, status_of}
 use Rattle.pyimport.specs.Sinks.{At, Leaves}
 use Rattle.pyimport.specs.Scripts.{Opens, first_of}
 use Rattle.pyimport.specs.Alone.{opening_of, IsRun}
@@ -53,6 +55,10 @@ abbrev pub Runs : Option Files → RunPlan → List ℕ → ℕ → ℕ → List
 Runs None run text old new history status = Unit {0}
 Runs (Some files) run text old new history status = IsRun files (opening_of run (text ∷ [])) (meaning 0 text) run.fuel old new history status
 
+-- also where the tree tells nothing, a script ends by a failed call of the tree only where the tree's count of faults rose
+abbrev pub ReadsBy : ℕ → ℕ → List Entry → ℕ → Type 0
+ReadsBy old new history status = (status ≡ 6 → ⊥) → end_of (own 0 history) ≡ Some o.Read → Rose old new
+
 -- how a call ends that was made with these words over this tree, by the tree's count of faults and the two sinks before it
 -- and after it: its status, its plan and its history
 pub data Answers (words : List Word) (tree : Option Files) (old new : ℕ) (out_old out_new err_old err_new : At) : ℕ → Option Plan → Option (List Entry) → Type 0 where
@@ -67,8 +73,10 @@ pub data Answers (words : List Word) (tree : Option Files) (old new : ℕ) (out_
       → Answers words tree old new out_old out_new err_old err_new status (Some (plans.Run run)) None
   -- the script ran: what it printed, and a line where its end was not normal
   ran : (status : ℕ) (run : RunPlan) (text : List ℕ) (history : List Entry) → built (plan_of words) ≡ Some run → Opens tree (first_of run.scripts) (opened.Text text)
-      → IsLegal (opening_of run (text ∷ [])) history → Runs tree run text old new history status
+      → IsLegal (opening_of run (text ∷ [])) history → Runs tree run text old new history status → ReadsBy old new history status
       → Leaves (status_of 1 history) 5 (out_text run.trace history) (err_text run.scripts history) out_old out_new err_old err_new status
       → Answers words tree old new out_old out_new err_old err_new status (Some (plans.Run run)) (Some history)
+  -- memory was wanted before the words were read: nothing is written, and no call of the tree failed
+  wordless : new ≡ old → out_new ≡ out_old → err_new ≡ err_old → Answers words tree old new out_old out_new err_old err_new 6 None None
   -- memory was wanted before the history was begun: nothing is written
-  short : (plan : Option Plan) → out_new ≡ out_old → err_new ≡ err_old → Answers words tree old new out_old out_new err_old err_new 6 plan None
+  short : (run : RunPlan) → built (plan_of words) ≡ Some run → out_new ≡ out_old → err_new ≡ err_old → Answers words tree old new out_old out_new err_old err_new 6 (Some (plans.Run run)) None

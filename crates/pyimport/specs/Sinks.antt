@@ -11,11 +11,11 @@ pub record At : Type 0 where
   pub faults : ℕ
 
 -- a sink was to get a text. It has got the whole of it; or a write failed, which it has counted, and it has got a
--- beginning; or memory was wanting, and it has got a beginning
+-- beginning; or memory was wanting, and it has got a beginning. It has counted nothing but a write that failed
 abbrev pub Gets : At → List ℕ → At → Flow → Type 0
-Gets old text new Open = Appends old.written new.written text
+Gets old text new Open = Appends old.written new.written text × (new.faults ≡ old.faults)
 Gets old text new Failed = AppendsPart old.written new.written text × Rose old.faults new.faults
-Gets old text new Short = AppendsPart old.written new.written text
+Gets old text new Short = AppendsPart old.written new.written text × (new.faults ≡ old.faults)
 
 -- the status, by what became of both sinks: `good` where both have all, `bad` where one failed, and 6 for want of memory
 abbrev pub status_by : ℕ → ℕ → Flow → Flow → ℕ

@@ -8,8 +8,6 @@ mod laws;
 mod line;
 mod open;
 mod outlet;
-#[cfg(test)]
-mod tests;
 
 pub use alone::{Report, solo};
 pub use answer::pyimport;

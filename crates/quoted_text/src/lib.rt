@@ -5,8 +5,6 @@
 mod candidate;
 mod laws;
 mod read;
-#[cfg(test)]
-mod tests;
 mod write;
 
 pub use laws::{one_source, one_text};

@@ -7,8 +7,6 @@ mod line;
 mod place;
 mod read;
 mod rounds;
-#[cfg(test)]
-mod tests;
 
 pub use laws::{at_most_one_list, the_first_line_that_does_not_go_on, what_is_spelled_is_read};
 pub use read::read_rounds;

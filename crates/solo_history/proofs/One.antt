@@ -1,6 +1,5 @@
--- Whatever a script means, it has just one history.
-use Rattle.std.proofs.Common.{◌≡◌, ℕ, zero, suc, ◌+◌, ◌<◌, arith, length, true, false, List, [], ◌∷◌, ◌++◌, map, Option, Some, None, refl, sym, ◌∙◌, ap, subst}
-use Rattle.std.specs.Prelude.{slice_get, IsTrue}
+-- Whatever the scripts mean, they have just one history.
+use Rattle.std.proofs.Common.{◌≡◌, ◌≢◌, ◌<◌, ◌≤◌, ℕ, ◌+◌, Bool, true, false, List, [], ◌∷◌, ◌++◌, length, Option, Some, None, refl, sym, ◌∙◌, ap, subst, arith}
 use Rattle.std.proofs.lemmas.List.{append-nil, append_assoc}
 use Rattle.tree_files.specs.Files.{Files}
 use Rattle.machine_events.specs.declared.event.Event.{Event}
@@ -10,116 +9,47 @@ use Rattle.machine_events.specs.declared.event.Reply.TheVariants.{Done}
 use Rattle.machine_events.specs.declared.event.Outcome.{Outcome}
 use Rattle.machine_events.specs.declared.event.Outcome.TheVariants as o
 use Rattle.machine_events.specs.declared.event.Entry.{Entry}
-use Rattle.thread_knowledge.specs.Shown.{shown_first}
 use Rattle.machine_state.specs.declared.state.State.{State}
-use Rattle.machine_state.specs.Step.{step}
-use Rattle.machine_state.specs.Allowed.{allowed}
-use Rattle.machine_state.specs.Legal.{IsLegal}
-use Rattle.import_machine.specs.Sound.{IsSound}
-use Rattle.import_machine.proofs.Leave.{runs}
-use Rattle.import_machine.proofs.Lists.{within}
-use Rattle.import_machine.proofs.Steps.{sound_step}
-use Rattle.import_machine.proofs.Going.{goes_step}
+use Rattle.machine_state.specs.Legal.{replay, IsLegal}
+use Rattle.machine_laws.specs.Begun.{Begun, first}
 use Rattle.thread_knowledge.specs.Own.{own}
-use Rattle.machine_book.specs.Histories.{OnlyOf}
+use Rattle.thread_knowledge.specs.Shown.{shown, shown_first}
 use Rattle.meanings.specs.Runs.{Run, Over, Pays, Looks, Makes, How, Ended, Spent, Stop, Came, Cut, Ending, told, spend, play, on_budget, replies_of}
+use Rattle.meanings.specs.Lists.{ends, ends_in}
 use Rattle.meanings.specs.Follows.{Follows, Ends}
 use Rattle.meanings.proofs.Spends.{play_longer}
-use Rattle.solo_history.specs.Solo.{IsAlone, IsSolo, StopsBy}
+use Rattle.solo_history.specs.Made.{Turn, reply_of, state_after, pairs_from, how_from, budget_by, outcome_by, run_of, how_of, turn_pairs, turn_entries, entries_of, history_of, CanStopAt}
+use Rattle.solo_history.specs.Solo.{AreAlone, IsSolo, Plays, AllPlay, StopsBy}
+use Rattle.solo_history.proofs.Parts.{Replied, replied, replied_front, own_append, own_entries, own_others, replay_append, legal_front, legal_back, ended_back, has_end}
+use Rattle.solo_history.proofs.Turns.{At, now, at_start, at_entries, at_next, none_left, NoEnds, Front, front}
 
-abbrev pub reply_of : State → Event → Reply
-reply_of s e = (step s 0 e).0
-
-abbrev pub state_after : State → Event → State
-state_after s e = (step s 0 e).1
-
--- only the one script makes events
-first_alone : (s : State) (t : ℕ) (e : Event) → length s.rounds ≡ 1 → IsTrue (allowed s t e) → t ≡ 0
-first_alone s t e one h = let r = runs s t e h in let less = within s.rounds t r.first r.round in omega arith
-
-pub only_first : (s : State) (h : List Entry) → IsSound s → length s.rounds ≡ 1 → IsLegal s h → OnlyOf 0 h
-only_first s [] sound one l = tt
-only_first s (e ∷ es) sound one l = (
-  first_alone s e.thread e.event one l.0,
-  only_first (step s e.thread e.event).1 es (sound_step s sound e.thread e.event l.0) (ap length (goes_step s sound e.thread e.event).1 ∙ one) l.2,
-)
-
--- what the machine's replies make of a run, from a state: its pairs, and how it is over
-abbrev pub pairs_from : Files → State → Run → List (Event × Reply)
-pairs_from f s (Over how) = []
-pairs_from f s (Pays of_tree n next) = pairs_from f s next
-pairs_from f s (Looks q next) = pairs_from f s (next (told f q))
-pairs_from f s (Makes e next) = (e, reply_of s e) ∷ pairs_from f (state_after s e) (next (reply_of s e))
-
-abbrev pub how_from : Files → State → Run → How
-how_from f s (Over how) = how
-how_from f s (Pays of_tree n next) = how_from f s next
-how_from f s (Looks q next) = how_from f s (next (told f q))
-how_from f s (Makes e next) = how_from f (state_after s e) (next (reply_of s e))
-
--- the replies are the machine's
-abbrev Replied : State → List (Event × Reply) → Type 0
-Replied s [] = Unit {0}
-Replied s (p ∷ ps) = (p.1 ≡ reply_of s p.0) × Replied (state_after s p.0) ps
-
-front : (p : List (Event × Reply)) (a b : Event × Reply) (xs ys : List (Event × Reply)) → p ++ a ∷ xs ≡ p ++ b ∷ ys → a ≡ b
-front [] a b xs ys h = cc h
-front (x ∷ p) a b xs ys h = front p a b xs ys (cc h)
+pub heads_of : (p : List (Event × Reply)) (a b : Event × Reply) (xs ys : List (Event × Reply)) → p ++ a ∷ xs ≡ p ++ b ∷ ys → a ≡ b
+heads_of [] a b xs ys h = cc h
+heads_of (x ∷ p) a b xs ys h = heads_of p a b xs ys (cc h)
 
 -- a run on the machine's replies is the one that the machine makes
-pub determined : (f : Files) (run : Run) (s : State) (ps p : List (Event × Reply)) (how : How) → Replied s ps → play f run p (replies_of ps) ≡ record { pairs = p ++ ps; stop = Came how; left = [] } → (ps ≡ pairs_from f s run) × (how ≡ how_from f s run)
-determined f (Over how') s [] p how r h = (refl, sym (came_is (ap (λ (e : Ending). e.stop) h)))
+pub determined : (t : ℕ) (f : Files) (run : Run) (s : State) (ps p : List (Event × Reply)) (how : How) → Replied t s ps → play f run p (replies_of ps) ≡ record { pairs = p ++ ps; stop = Came how; left = [] } → (ps ≡ pairs_from t f s run) × (how ≡ how_from t f s run)
+determined t f (Over how') s [] p how r h = (refl, sym (came_is (ap (λ (e : Ending). e.stop) h)))
   where
     came_is : Came how' ≡ Came how → how' ≡ how
     came_is e = cc e
-determined f (Over how') s (x ∷ ps) p how r h = absurd (cc (ap (λ (e : Ending). e.left) h))
-determined f (Pays of_tree n next) s ps p how r h = determined f next s ps p how r h
-determined f (Looks q next) s ps p how r h = determined f (next (told f q)) s ps p how r h
-determined f (Makes e next) s [] p how r h = absurd (cc (ap (λ (e : Ending). e.stop) h))
-determined f (Makes e next) s (x ∷ ps) p how r h =
+determined t f (Over how') s (x ∷ ps) p how r h = absurd (cc (ap (λ (e : Ending). e.left) h))
+determined t f (Pays of_tree n next) s ps p how r h = determined t f next s ps p how r h
+determined t f (Looks q next) s ps p how r h = determined t f (next (told f q)) s ps p how r h
+determined t f (Makes e next) s [] p how r h = absurd (cc (ap (λ (e : Ending). e.stop) h))
+determined t f (Makes e next) s (x ∷ ps) p how r h =
     let longer = play_longer f (next x.1) (p ++ (e, x.1) ∷ []) (replies_of ps) in
     let both : p ++ (e, x.1) ∷ longer.0 ≡ p ++ x ∷ ps = sym (append_assoc p ((e, x.1) ∷ []) longer.0) ∙ (sym longer.1 ∙ ap (λ (e : Ending). e.pairs) h) in
-    let same : (e, x.1) ≡ x = front p (e, x.1) x longer.0 ps both in
+    let same : (e, x.1) ≡ x = heads_of p (e, x.1) x longer.0 ps both in
     let event : e ≡ x.0 = ap (λ (q : Event × Reply). q.0) same in
-    let reply : x.1 ≡ reply_of s e = r.0 ∙ ap (reply_of s) (sym event) in
-    let state : Replied (state_after s e) ps = subst (λ (f : Event). Replied (state_after s f) ps) (sym event) r.1 in
+    let reply : x.1 ≡ reply_of t s e = r.0 ∙ ap (reply_of t s) (sym event) in
+    let state : Replied t (state_after t s e) ps = subst (λ (f : Event). Replied t (state_after t s f) ps) (sym event) r.1 in
     let h' : play f (next x.1) (p ++ (e, x.1) ∷ []) (replies_of ps) ≡ record { pairs = (p ++ (e, x.1) ∷ []) ++ ps; stop = Came how; left = [] } =
     h ∙ ap (λ (w : List (Event × Reply)). record { pairs = w; stop = Came how; left = [] }) (ap (λ (q : Event × Reply). p ++ q ∷ ps) (sym same) ∙ sym (append_assoc p ((e, x.1) ∷ []) ps)) in
-    let rest : (ps ≡ pairs_from f (state_after s e) (next x.1)) × (how ≡ how_from f (state_after s e) (next x.1)) = determined f (next x.1) (state_after s e) ps (p ++ (e, x.1) ∷ []) how state h' in
-    let rest' : (ps ≡ pairs_from f (state_after s e) (next (reply_of s e))) × (how ≡ how_from f (state_after s e) (next (reply_of s e))) = subst (λ (y : Reply). (ps ≡ pairs_from f (state_after s e) (next y)) × (how ≡ how_from f (state_after s e) (next y))) reply rest in
-    let first : x ≡ (e, reply_of s e) = sym same ∙ ap (λ (y : Reply). (e, y)) reply in
-    (ap (λ (y : Event × Reply). y ∷ ps) first ∙ ap (λ (w : List (Event × Reply)). (e, reply_of s e) ∷ w) rest'.0, rest'.1)
-
--- the history that the machine makes of a run
-abbrev pub entries_of : List (Event × Reply) → List Entry
-entries_of ps = map (λ p. record { thread = 0; event = p.0; reply = p.1 }) ps
-
-pub own_cons : (e : Entry) (es : List Entry) → e.thread ≡ 0 → own 0 (e ∷ es) ≡ (e.event, e.reply) ∷ own 0 es
-own_cons e es z = rw z refl
-
-replied : (h : List Entry) (s : State) → OnlyOf 0 h → IsLegal s h → Replied s (own 0 h)
-replied [] s z l = tt
-replied (e ∷ es) s z l =
-    let reply : e.reply ≡ reply_of s e.event = l.1 ∙ ap (λ (t : ℕ). (step s t e.event).0) z.0 in
-    let legal : IsLegal (state_after s e.event) es = subst (λ (t : ℕ). IsLegal (step s t e.event).1 es) z.0 l.2 in
-    rw (own_cons e es z.0) (reply, replied es (state_after s e.event) z.1 legal)
-
--- entries of the script are their own pairs
-entries_are : (h : List Entry) → OnlyOf 0 h → h ≡ entries_of (own 0 h)
-entries_are [] z = refl
-entries_are (e ∷ es) z = rw (own_cons e es z.0) (cons_is e es z.0 (entries_are es z.1))
-  where
-    cons_is : (e : Entry) (es : List Entry) → e.thread ≡ 0 → es ≡ entries_of (own 0 es) → e ∷ es ≡ record { thread = 0; event = e.event; reply = e.reply } ∷ entries_of (own 0 es)
-    cons_is e es z rest = ap (λ (t : ℕ). record { thread = t; event = e.event; reply = e.reply } ∷ es) z ∙ ap (λ (w : List Entry). record { thread = 0; event = e.event; reply = e.reply } ∷ w) rest
-
-replied_front : (ps qs : List (Event × Reply)) (s : State) → Replied s (ps ++ qs) → Replied s ps
-replied_front [] qs s r = tt
-replied_front (p ∷ ps) qs s r = (r.0, replied_front ps qs (state_after s p.0) r.1)
-
--- the budget of an End is the fuel, or the one at which a call of the tree failed
-abbrev budget_by : Option ℕ → ℕ → ℕ
-budget_by (Some n) fuel = n
-budget_by None fuel = fuel
+    let rest : (ps ≡ pairs_from t f (state_after t s e) (next x.1)) × (how ≡ how_from t f (state_after t s e) (next x.1)) = determined t f (next x.1) (state_after t s e) ps (p ++ (e, x.1) ∷ []) how state h' in
+    let rest' : (ps ≡ pairs_from t f (state_after t s e) (next (reply_of t s e))) × (how ≡ how_from t f (state_after t s e) (next (reply_of t s e))) = subst (λ (y : Reply). (ps ≡ pairs_from t f (state_after t s e) (next y)) × (how ≡ how_from t f (state_after t s e) (next y))) reply rest in
+    let first : x ≡ (e, reply_of t s e) = sym same ∙ ap (λ (y : Reply). (e, y)) reply in
+    (ap (λ (y : Event × Reply). y ∷ ps) first ∙ ap (λ (w : List (Event × Reply)). (e, reply_of t s e) ∷ w) rest'.0, rest'.1)
 
 paid_by : (fuel : ℕ) (stop : Option ℕ) (x : Outcome) (k : ℕ) (h : How) → Ends fuel x k h → StopsBy stop x k → k ≡ budget_by stop fuel
 paid_by fuel None o.Normal k h e s = e.1
@@ -131,12 +61,6 @@ paid_by fuel (Some n) o.Normal k h e s = absurd s
 paid_by fuel (Some n) (o.Raised v) k h e s = absurd s
 paid_by fuel (Some n) o.Fuel k h e s = absurd s
 
--- the outcome of a script, by how its run is over
-abbrev pub outcome_by : Option ℕ → How → Outcome
-outcome_by (Some n) how = o.Read
-outcome_by None (Ended outcome) = outcome
-outcome_by None (Spent of_tree) = o.Fuel
-
 one_outcome : (fuel : ℕ) (stop : Option ℕ) (x : Outcome) (k : ℕ) (h : How) → Ends fuel x k h → StopsBy stop x k → x ≡ outcome_by stop h
 one_outcome fuel None o.Normal k h e s = rw e.0 refl
 one_outcome fuel None (o.Raised v) k h e s = rw e.0 refl
@@ -147,24 +71,90 @@ one_outcome fuel (Some n) o.Normal k h e s = absurd s
 one_outcome fuel (Some n) (o.Raised v) k h e s = absurd s
 one_outcome fuel (Some n) o.Fuel k h e s = absurd s
 
--- at most one history is the solo of a run
-pub solo_one : (f : Files) (opening : State) (run : Run) (fuel : ℕ) (stop : Option ℕ) (h h' : List Entry) → IsAlone opening
-    → IsSolo f opening run fuel stop h → IsSolo f opening run fuel stop h' → h ≡ h'
-solo_one files opening run fuel stop h h' alone a b =
-    let f = a.follows in
-    let g = b.follows in
-    let paid : g.paid ≡ f.paid = paid_by fuel stop b.outcome g.paid g.how g.ends b.stops ∙ sym (paid_by fuel stop a.outcome f.paid f.how f.ends a.stops) in
-    let only = only_first opening h alone.sound alone.one a.legal in
-    let only' = only_first opening h' alone.sound alone.one b.legal in
-    let spent : Run = spend f.paid (shown_first 0) run in
-    let rf : Replied opening f.before = replied_front f.before ((End a.outcome f.paid, Done) ∷ []) opening (subst (Replied opening) f.whole (replied h opening only a.legal)) in
-    let rg : Replied opening g.before = replied_front g.before ((End b.outcome g.paid, Done) ∷ []) opening (subst (Replied opening) g.whole (replied h' opening only' b.legal)) in
-    let df = determined files spent opening f.before [] f.how rf f.eval in
-    let dg = determined files spent opening g.before [] g.how rg (subst (λ (k : ℕ). on_budget files 0 run k (replies_of g.before) ≡ record { pairs = g.before; stop = Came g.how; left = [] }) paid g.eval) in
-    let before : f.before ≡ g.before = df.0 ∙ sym dg.0 in
-    let how : f.how ≡ g.how = df.1 ∙ sym dg.1 in
-    let outcome : a.outcome ≡ b.outcome = one_outcome fuel stop a.outcome f.paid f.how f.ends a.stops ∙ (ap (outcome_by stop) how ∙ sym (one_outcome fuel stop b.outcome g.paid g.how g.ends b.stops)) in
-    let own_is : own 0 h ≡ own 0 h' =
-    f.whole ∙ (ap (λ (w : List (Event × Reply)). w ++ (End a.outcome f.paid, Done) ∷ []) before
-    ∙ (ap (λ (x : Outcome). g.before ++ (End x f.paid, Done) ∷ []) outcome ∙ (ap (λ (k : ℕ). g.before ++ (End b.outcome k, Done) ∷ []) (sym paid) ∙ sym g.whole))) in
-    entries_are h only ∙ (ap entries_of own_is ∙ sym (entries_are h' only'))
+stops_there : (fuel : ℕ) (stop : Option ℕ) (x : Outcome) (k : ℕ) (h : How) → Ends fuel x k h → StopsBy stop x k → CanStopAt stop fuel h
+stops_there fuel None x k h e s = tt
+stops_there fuel (Some n) o.Read k h e s = (e.0, subst (λ (k : ℕ). k + 1 ≤ fuel) s e.1)
+stops_there fuel (Some n) o.Normal k h e s = absurd s
+stops_there fuel (Some n) (o.Raised v) k h e s = absurd s
+stops_there fuel (Some n) o.Fuel k h e s = absurd s
+
+-- no End stands before the last one
+none_before : (ps : List (Event × Reply)) (p : Event × Reply) → ends p.0 ≡ 1 → ends_in (ps ++ p ∷ []) ≡ 1 → NoEnds ps
+none_before [] p last all = tt
+none_before (q ∷ ps) p last all =
+    let here : ends q.0 ≡ 0 = (let some = at_least ps p last in omega (arith, some, all)) in
+    (here, none_before ps p last (omega (arith, here, all)))
+  where
+    at_least : (ps : List (Event × Reply)) (p : Event × Reply) → ends p.0 ≡ 1 → 1 ≤ ends_in (ps ++ p ∷ [])
+    at_least [] p last = omega (arith, last)
+    at_least (q ∷ ps) p last = let more = at_least ps p last in omega (arith, more)
+
+-- what a script that plays has made is what the machine makes of its run
+pub record Played (s : State) (turn : Turn) (t fuel : ℕ) (h : List Entry) : Type 0 where
+  pub rest : List Entry
+  pub joined : h ≡ turn_entries s turn t fuel ++ rest
+  pub can : CanStopAt turn.stop fuel (how_of s turn t fuel)
+
+pub played : (b : Begun) → AreAlone (first b) → (turn : Turn) (t fuel : ℕ) (pre h : List Entry) → At b pre t [] → IsLegal (now b pre) h → Plays turn t fuel (own t h) → Played (now b pre) turn t fuel h
+played b alone turn t fuel pre h at legal plays =
+    let s : State = now b pre in
+    let f = plays.follows in
+    let last : Event × Reply = (End plays.outcome f.paid, Done) in
+    let none : NoEnds f.before = none_before f.before last refl (ap ends_in (sym f.whole) ∙ f.once) in
+    let in_front : Front t h (f.before ++ last ∷ []) = front b alone t f.before last pre [] h at refl legal f.whole none in
+    let by : Replied t s (f.before ++ last ∷ []) = replied t s (f.before ++ last ∷ []) (legal_front s (entries_of t (f.before ++ last ∷ [])) in_front.rest (subst (IsLegal s) in_front.joined legal)) in
+    let paid : f.paid ≡ budget_by turn.stop fuel = paid_by fuel turn.stop plays.outcome f.paid f.how f.ends plays.stops in
+    let eval : play turn.files (run_of turn t fuel) [] (replies_of f.before) ≡ record { pairs = [] ++ f.before; stop = Came f.how; left = [] } =
+    subst (λ (k : ℕ). on_budget turn.files t turn.run k (replies_of f.before) ≡ record { pairs = f.before; stop = Came f.how; left = [] }) paid f.eval in
+    let det = determined t turn.files (run_of turn t fuel) s f.before [] f.how (replied_front t f.before (last ∷ []) s by) eval in
+    let outcome : plays.outcome ≡ outcome_by turn.stop (how_of s turn t fuel) = one_outcome fuel turn.stop plays.outcome f.paid f.how f.ends plays.stops ∙ ap (outcome_by turn.stop) det.1 in
+    let pairs : f.before ++ last ∷ [] ≡ turn_pairs s turn t fuel =
+    ap (λ (w : List (Event × Reply)). w ++ last ∷ []) det.0
+    ∙ (ap (λ (x : Outcome). pairs_from t turn.files s (run_of turn t fuel) ++ (End x f.paid, Done) ∷ []) outcome
+    ∙ ap (λ (k : ℕ). pairs_from t turn.files s (run_of turn t fuel) ++ (End (outcome_by turn.stop (how_of s turn t fuel)) k, Done) ∷ []) paid) in
+    record {
+      rest = in_front.rest;
+      joined = in_front.joined ∙ ap (λ (ps : List (Event × Reply)). entries_of t ps ++ in_front.rest) pairs;
+      can = subst (CanStopAt turn.stop fuel) det.1 (stops_there fuel turn.stop plays.outcome f.paid f.how f.ends plays.stops);
+    }
+
+-- where it stands after such a turn
+pub at_after : (b : Begun) (turn : Turn) (t fuel : ℕ) (pre : List Entry) → At b pre t [] → IsLegal (now b pre) (turn_entries (now b pre) turn t fuel) → At b (pre ++ turn_entries (now b pre) turn t fuel) (t + 1) []
+at_after b turn t fuel pre at legal =
+    let s : State = now b pre in
+    at_next b (pre ++ turn_entries s turn t fuel) t (turn_pairs s turn t fuel) (at_entries b pre t [] (turn_pairs s turn t fuel) at legal)
+    (ended_back pre (turn_entries s turn t fuel) t (has_end t (pairs_from t turn.files s (run_of turn t fuel)) (outcome_by turn.stop (how_of s turn t fuel)) (budget_by turn.stop fuel) Done))
+
+-- the later scripts' own pairs are those of what follows
+pub own_behind : (t u : ℕ) (ps : List (Event × Reply)) (rest : List Entry) → t < u → own u (entries_of t ps ++ rest) ≡ own u rest
+own_behind t u ps rest less = own_append u (entries_of t ps) rest ∙ ap (λ w. w ++ own u rest) (own_others u t ps (λ same. omega (arith, less, same)))
+
+pub all_same : (turns : List Turn) (t fuel : ℕ) (h h' : List Entry) → ((u : ℕ) → t ≤ u → own u h' ≡ own u h) → AllPlay turns t fuel h → AllPlay turns t fuel h'
+all_same [] t fuel h h' same all = tt
+all_same (turn ∷ turns) t fuel h h' same all = (
+  subst (Plays turn t fuel) (sym (same t (omega arith))) all.0,
+  all_same turns (t + 1) fuel h h' (λ u le. same u (omega (arith, le))) all.1,
+)
+
+one_from : (b : Begun) → AreAlone (first b) → (turns : List Turn) (t fuel : ℕ) (pre h : List Entry) → At b pre t [] → IsLegal (now b pre) h → AllPlay turns t fuel h → t + length turns ≡ length (first b).rounds
+    → h ≡ history_of (now b pre) turns t fuel
+one_from b alone [] t fuel pre [] at legal all many = refl
+one_from b alone [] t fuel pre (e ∷ es) at legal all many = absurd (none_left b alone pre t [] at (omega (arith, many)) e.thread e.event legal.0)
+one_from b alone (turn ∷ turns) t fuel pre h at legal all many =
+    let s : State = now b pre in
+    let it = played b alone turn t fuel pre h at legal all.0 in
+    let both : IsLegal s (turn_entries s turn t fuel ++ it.rest) = subst (IsLegal s) it.joined legal in
+    let next = at_after b turn t fuel pre at (legal_front s (turn_entries s turn t fuel) it.rest both) in
+    let state : now b (pre ++ turn_entries s turn t fuel) ≡ replay s (turn_entries s turn t fuel) = replay_append (first b) pre (turn_entries s turn t fuel) in
+    let legal' : IsLegal (now b (pre ++ turn_entries s turn t fuel)) it.rest = subst (λ (x : State). IsLegal x it.rest) (sym state) (legal_back s (turn_entries s turn t fuel) it.rest both) in
+    let later : AllPlay turns (t + 1) fuel it.rest =
+    all_same turns (t + 1) fuel h it.rest (λ u le. sym (ap (own u) it.joined ∙ own_behind t u (turn_pairs s turn t fuel) it.rest (omega (arith, le)))) all.1 in
+    it.joined ∙ ap (λ (w : List Entry). turn_entries s turn t fuel ++ w)
+    (one_from b alone turns (t + 1) fuel (pre ++ turn_entries s turn t fuel) it.rest next legal' later (omega (arith, many)) ∙ ap (λ (x : State). history_of x turns (t + 1) fuel) state)
+
+pub solo_is : (b : Begun) (turns : List Turn) (fuel : ℕ) (h : List Entry) → AreAlone (first b) → IsSolo (first b) turns fuel h → h ≡ history_of (first b) turns 0 fuel
+solo_is b turns fuel h alone solo = one_from b alone turns 0 fuel [] h (at_start b) solo.legal solo.each (omega (arith, solo.many))
+
+-- at most one history is theirs
+pub solo_one : (b : Begun) (turns : List Turn) (fuel : ℕ) (h h' : List Entry) → AreAlone (first b) → IsSolo (first b) turns fuel h → IsSolo (first b) turns fuel h' → h ≡ h'
+solo_one b turns fuel h h' alone x y = solo_is b turns fuel h alone x ∙ sym (solo_is b turns fuel h' alone y)

@@ -1,7 +1,5 @@
--- A safe run that no call of the tree stops has a history.
-use Rattle.std.proofs.Common.{◌≡◌, ℕ, ◌+◌, ◌-◌, zero, suc, ◌<◌, arith, length, Bool, true, false, nat_lt, if◌then◌else◌, List, [], ◌∷◌, ◌++◌, Some, None, refl, sym, ◌∙◌, ap, subst}
-use Rattle.std.specs.Prelude.{slice_get, IsTrue}
-use Rattle.std.proofs.lemmas.Bool.{false≢true}
+-- Safe runs have a history.
+use Rattle.std.proofs.Common.{◌≡◌, ◌≢◌, ◌<◌, ◌≤◌, ℕ, ◌+◌, Bool, true, false, List, [], ◌∷◌, ◌++◌, length, Option, Some, None, refl, sym, ◌∙◌, ap, subst, arith}
 use Rattle.std.proofs.lemmas.List.{append-nil, append_assoc}
 use Rattle.tree_files.specs.Files.{Files}
 use Rattle.machine_events.specs.declared.event.Event.{Event}
@@ -13,70 +11,40 @@ use Rattle.machine_events.specs.declared.event.Outcome.{Outcome}
 use Rattle.machine_events.specs.declared.event.Outcome.TheVariants as o
 use Rattle.machine_events.specs.declared.event.Entry.{Entry}
 use Rattle.machine_state.specs.declared.state.State.{State}
-use Rattle.machine_state.specs.Opening.{round_starts}
-use Rattle.machine_state.specs.Allowed.{allowed, is_due, is_due_from}
-use Rattle.machine_state.specs.Legal.{IsLegal}
-use Rattle.import_machine.specs.Bones.{bones}
-use Rattle.import_machine.specs.Sound.{IsRunning}
-use Rattle.import_machine.specs.Begun.{Begun, first}
-use Rattle.import_machine.proofs.First.{rounds_long}
-use Rattle.import_machine.proofs.Going.{goes_step}
-use Rattle.import_machine.proofs.Leave.{runs}
-use Rattle.thread_knowledge.specs.Holdings.{Holding, Taken, Loading, Reloading}
-use Rattle.thread_knowledge.specs.Shown.{Shown, Running, holds, shown_first, shown_more}
-use Rattle.thread_knowledge.specs.Knowing.{IsShown}
-use Rattle.thread_knowledge.specs.Own.{own, IsLone}
-use Rattle.machine_knowledge.proofs.Agreeing.{Agrees}
-use Rattle.machine_knowledge.proofs.First.{agrees_first}
-use Rattle.machine_knowledge.proofs.Along.{Whole, Exists, whole_first, whole_step, exists_first, exists_more, agree_own}
-use Rattle.machine_knowledge.proofs.Law.{allowed_from}
-use Rattle.machine_knowledge.proofs.Lone.{is_waiting, lone_step}
-use Rattle.meanings.specs.Runs.{Run, Over, Pays, Looks, Makes, How, Ended, Spent, Came, told, spend, play, replies_of, gives, gives_up, Safe, MayMake, IsLast}
+use Rattle.machine_state.specs.Legal.{Allowed, replay, IsLegal}
+use Rattle.machine_laws.specs.Begun.{Begun, first}
+use Rattle.thread_knowledge.specs.Own.{own}
+use Rattle.thread_knowledge.specs.Shown.{Shown, Doing, Running, Waiting, shown, shown_first, shown_more}
+use Rattle.thread_knowledge.specs.Knowing.{IsShown, Knows}
+use Rattle.machine_knowledge.proofs.Law.{knows_allowed}
+use Rattle.machine_knowledge.proofs.Lone.{lone_waits_not}
+use Rattle.meanings.specs.Runs.{Run, Over, Pays, Looks, Makes, How, Ended, Spent, Came, told, spend, play, replies_of, Safe, MayMake, IsLast}
+use Rattle.meanings.specs.Lists.{ends_in}
 use Rattle.meanings.specs.Follows.{Ends}
-use Rattle.meanings.proofs.Stand.{given, still, may_give}
-use Rattle.solo_history.specs.Solo.{IsSolo, StopsBy}
-use Rattle.solo_history.proofs.One.{reply_of, state_after, pairs_from, how_from, entries_of, outcome_by}
+use Rattle.meanings.proofs.Spends.{safe_looked, shown-snoc}
+use Rattle.meanings.proofs.Giving.{safe_spend}
+use Rattle.meanings.proofs.Once.{no_end_made, once_at_end}
+use Rattle.solo_history.specs.Made.{Turn, reply_of, state_after, pairs_from, how_from, budget_by, outcome_by, run_of, how_of, turn_pairs, turn_entries, entries_of, history_of, CanStopAt, CanStop, HaveNoStops}
+use Rattle.solo_history.specs.Solo.{AreAlone, IsSolo, Plays, AllPlay, AllSafe, StopsBy}
+use Rattle.solo_history.proofs.Parts.{own_append, own_entries, own_others, replay_append, legal_append}
+use Rattle.solo_history.proofs.Turns.{At, now, at_start, at_entry, ready, lone}
+use Rattle.solo_history.proofs.One.{at_after, own_behind, all_same}
 
 -- What the machine makes of a run is that run on its replies.
+made : (t : ℕ) (f : Files) (run : Run) (s : State) (p : List (Event × Reply)) → play f run p (replies_of (pairs_from t f s run)) ≡ record { pairs = p ++ pairs_from t f s run; stop = Came (how_from t f s run); left = [] }
+made t f (Over how) s p = ap (λ (w : List (Event × Reply)). record { pairs = w; stop = Came how; left = [] }) (sym (append-nil p))
+made t f (Pays of_tree n next) s p = made t f next s p
+made t f (Looks q next) s p = made t f (next (told f q)) s p
+made t f (Makes event next) s p =
+    let r : Reply = reply_of t s event in
+    made t f (next r) (state_after t s event) (p ++ (event, r) ∷ [])
+    ∙ ap (λ (w : List (Event × Reply)). record { pairs = w; stop = Came (how_from t f (state_after t s event) (next r)); left = [] }) (append_assoc p ((event, r) ∷ []) (pairs_from t f (state_after t s event) (next r)))
 
-made : (f : Files) (run : Run) (s : State) (p : List (Event × Reply)) → play f run p (replies_of (pairs_from f s run)) ≡ record { pairs = p ++ pairs_from f s run; stop = Came (how_from f s run); left = [] }
-made f (Over how) s p = ap (λ (w : List (Event × Reply)). record { pairs = w; stop = Came how; left = [] }) (sym (append-nil p))
-made f (Pays of_tree n next) s p = made f next s p
-made f (Looks q next) s p = made f (next (told f q)) s p
-made f (Makes e next) s p =
-    let r : Reply = reply_of s e in
-    made f (next r) (state_after s e) (p ++ (e, r) ∷ [])
-    ∙ ap (λ (w : List (Event × Reply)). record { pairs = w; stop = Came (how_from f (state_after s e) (next r)); left = [] }) (append_assoc p ((e, r) ∷ []) (pairs_from f (state_after s e) (next r)))
-
--- What gives up is safe, and so is a safe run with a budget.
-
-may_make : (s : Shown) (h : Holding) → IsShown s (gives h) → MayMake s (gives h)
-may_make s (Taken n) h = h
-may_make s (Loading load) h = h
-may_make s (Reloading mid load) h = h
-
-safe_given : (of_tree : Bool) (held : List Holding) (s : Shown) → s.doing ≡ Running → s.held ≡ held → Safe s (gives_up of_tree held)
-safe_given of_tree [] s run is = (tt, (run, is))
-safe_given of_tree (h ∷ held) s run is = (
-  may_make s h (may_give s h held run is),
-  λ r. safe_given of_tree held (shown_more s (gives h, r)) (still h r s.doing ∙ run) (ap (holds (gives h) r) is ∙ given h r held),
-)
-
-safe_spend : (run : Run) (budget : ℕ) (s : Shown) → Safe s run → Safe s (spend budget s run)
-safe_spend (Over how) budget s safe = safe
-safe_spend (Pays of_tree n next) budget s safe =
-    elim (nat_lt budget n) as (λ b. Safe s (if b then gives_up of_tree s.held else spend (budget - n) s next)) [
-      | true ↦ safe_given of_tree s.held s safe.0 refl
-      | false ↦ safe_spend next (budget - n) s safe.1
-    ]
-safe_spend (Looks q next) budget s safe = (safe.0, λ a. safe_spend (next a) budget s (safe.1 a))
-safe_spend (Makes e next) budget s safe = (safe.0, λ r. safe_spend (next r) budget (shown_more s (e, r)) (safe.1 r))
-
--- What the machine of one script makes of a safe run is legal.
+-- What the machine makes of a safe run is legal.
 
 -- an event that may be made by who does not wait is shown to be allowed
-no_waking : (s : Shown) (event : Event) → is_waiting s.doing ≡ false → MayMake s event → IsShown s event
-no_waking s e.Wake idle may = absurd (false≢true (sym idle ∙ ap is_waiting may))
+no_waking : (s : Shown) (event : Event) → (s.doing ≡ Waiting → ⊥) → MayMake s event → IsShown s event
+no_waking s e.Wake idle may = absurd (idle may)
 no_waking s (e.Ask n) idle may = may
 no_waking s (e.Take n) idle may = may
 no_waking s (e.Add spec text) idle may = may
@@ -106,107 +74,126 @@ no_waking s (e.Rouse mid) idle may = may
 no_waking s (e.Main spec text) idle may = may
 no_waking s (e.End outcome spent) idle may = may
 
--- what holds of the state before each event
-record Ready (sizes : List ℕ) (s : State) (k : Shown) : Type 0 where
-  whole : Whole s
-  agrees : Agrees (bones s) 0 k.held k.doing
-  exists : Exists s k
-  idle : is_waiting k.doing ≡ false
-  rounds : s.rounds ≡ round_starts 0 sizes
-  one : s.rounds ≡ 0 ∷ []
+module _ (b : Begun) (alone : AreAlone (first b)) (t : ℕ) (some : t < length (first b).rounds) where
+  may_be : (pre : List Entry) (mine : List (Event × Reply)) (event : Event) → At b pre t mine → IsShown (shown t mine) event → Allowed (now b pre) t event
+  may_be pre mine event at knows = knows_allowed b pre at.legal t event (ready b alone pre t mine at some) (subst (λ (ps : List (Event × Reply)). IsShown (shown t ps) event) (sym at.own_is) knows)
 
-due : (s : State) → s.rounds ≡ 0 ∷ [] → is_due s 0 ≡ true
-due s one = ap (λ (rs : List ℕ). is_due_from s (slice_get rs 0)) one
+  idle : (pre : List Entry) (mine : List (Event × Reply)) → At b pre t mine → (shown t mine).doing ≡ Waiting → ⊥
+  idle pre mine at waits = lone_waits_not b pre at.legal t (lone b alone pre t mine at some) (subst (λ (ps : List (Event × Reply)). (shown t ps).doing ≡ Waiting) (sym at.own_is) waits)
 
-lone : (rounds : List ℕ) → rounds ≡ 0 ∷ [] → IsLone rounds 0
-lone rounds one = subst (λ (rs : List ℕ). IsLone rs 0) (sym one) only
-  where
-    only : (u : ℕ) → slice_get {X = ℕ} (0 ∷ []) u ≡ slice_get {X = ℕ} (0 ∷ []) 0 → u ≡ 0
-    only zero is = refl
-    only (suc u) is = absurd (cc is)
+  legal_made : (f : Files) (run : Run) (pre : List Entry) (mine : List (Event × Reply)) (outcome : Outcome) (paid : ℕ) → At b pre t mine → Safe (shown t mine) run
+      → IsLegal (now b pre) (entries_of t (pairs_from t f (now b pre) run ++ (End outcome paid, Done) ∷ []))
+  legal_made f (Over how) pre mine outcome paid at safe = (may_be pre mine (End outcome paid) at safe.1, refl, tt)
+  legal_made f (Pays of_tree n next) pre mine outcome paid at safe = legal_made f next pre mine outcome paid at safe.1
+  legal_made f (Looks q next) pre mine outcome paid at safe = legal_made f (next (told f q)) pre mine outcome paid at (safe_looked (shown t mine) q (told f q) next safe)
+  legal_made f (Makes event next) pre mine outcome paid at safe =
+      let s : State = now b pre in
+      let r : Reply = reply_of t s event in
+      let may = may_be pre mine event at (no_waking (shown t mine) event (idle pre mine at) safe.0) in
+      let e : Entry = record { thread = t; event = event; reply = r } in
+      let more = legal_made f (next r) (pre ++ e ∷ []) (mine ++ (event, r) ∷ []) outcome paid (at_entry b pre t mine e at refl may refl)
+      (subst (λ (k : Shown). Safe k (next r)) (sym (shown-snoc t mine (event, r))) (safe.1 r)) in
+      (may, refl, subst (λ (x : State). IsLegal x (entries_of t (pairs_from t f x (next r) ++ (End outcome paid, Done) ∷ []))) (replay_append (first b) pre (e ∷ [])) more)
 
-may_be : (sizes : List ℕ) (s : State) (k : Shown) (event : Event) → Ready sizes s k → IsShown k event → IsTrue (allowed s 0 event)
-may_be sizes s k event ready knows = allowed_from s ready.whole 0 k (due s ready.one) ready.agrees ready.exists event knows
+-- a safe run makes no End of its own
+none_from : (t : ℕ) (f : Files) (run : Run) (s : State) (k : Shown) → Safe k run → ends_in (pairs_from t f s run) ≡ 0
+none_from t f (Over how) s k safe = refl
+none_from t f (Pays of_tree n next) s k safe = none_from t f next s k safe.1
+none_from t f (Looks q next) s k safe = none_from t f (next (told f q)) s k (safe_looked k q (told f q) next safe)
+none_from t f (Makes event next) s k safe =
+    let here = no_end_made event next k safe in
+    let later = none_from t f (next (reply_of t s event)) (state_after t s event) (shown_more k (event, reply_of t s event)) (safe.1 (reply_of t s event)) in
+    omega (arith, here, later)
 
-ready_more : (sizes : List ℕ) (s : State) (k : Shown) (event : Event) → Ready sizes s k → IsTrue (allowed s 0 event) → Ready sizes (state_after s event) (shown_more k (event, reply_of s event))
-ready_more sizes s k event ready may =
-    let same : (state_after s event).rounds ≡ s.rounds = (goes_step s ready.whole.sound 0 event).1 in
-    let running : IsRunning (bones s) 0 = runs s 0 event may in
+last_from : (t : ℕ) (f : Files) (run : Run) (s : State) (k : Shown) → Safe k run → IsLast (how_from t f s run)
+last_from t f (Over how) s k safe = safe.0
+last_from t f (Pays of_tree n next) s k safe = last_from t f next s k safe.1
+last_from t f (Looks q next) s k safe = last_from t f (next (told f q)) s k (safe_looked k q (told f q) next safe)
+last_from t f (Makes event next) s k safe = last_from t f (next (reply_of t s event)) (state_after t s event) (shown_more k (event, reply_of t s event)) (safe.1 (reply_of t s event))
+
+ends_by : (fuel : ℕ) (stop : Option ℕ) (how : How) → IsLast how → CanStopAt stop fuel how → Ends fuel (outcome_by stop how) (budget_by stop fuel) how
+ends_by fuel (Some n) how l can = can
+ends_by fuel None (Ended o.Normal) l can = (refl, refl)
+ends_by fuel None (Ended (o.Raised v)) l can = (refl, refl)
+ends_by fuel None (Ended o.Fuel) l can = absurd l
+ends_by fuel None (Ended o.Read) l can = absurd l
+ends_by fuel None (Spent of_tree) l can = ((of_tree, refl), refl)
+
+stops_by : (fuel : ℕ) (stop : Option ℕ) (how : How) → IsLast how → StopsBy stop (outcome_by stop how) (budget_by stop fuel)
+stops_by fuel (Some n) how l = refl
+stops_by fuel None (Ended o.Normal) l = tt
+stops_by fuel None (Ended (o.Raised v)) l = tt
+stops_by fuel None (Ended o.Fuel) l = absurd l
+stops_by fuel None (Ended o.Read) l = absurd l
+stops_by fuel None (Spent of_tree) l = tt
+
+-- a script plays what the machine makes of its run
+plays_made : (s : State) (turn : Turn) (t fuel : ℕ) → Safe (shown_first t) turn.run → CanStopAt turn.stop fuel (how_of s turn t fuel) → Plays turn t fuel (turn_pairs s turn t fuel)
+plays_made s turn t fuel safe can =
+    let ps : List (Event × Reply) = pairs_from t turn.files s (run_of turn t fuel) in
+    let all : Safe (shown_first t) (run_of turn t fuel) = safe_spend turn.run (budget_by turn.stop fuel) (shown_first t) safe in
+    let last : IsLast (how_of s turn t fuel) = last_from t turn.files (run_of turn t fuel) s (shown_first t) all in
+    let outcome : Outcome = outcome_by turn.stop (how_of s turn t fuel) in
     record {
-      whole = whole_step s 0 event may ready.whole;
-      agrees = agree_own s k event may ready.whole ready.agrees;
-      exists = exists_more s 0 event k may ready.whole ready.exists;
-      idle = lone_step s ready.whole.sound sizes ready.rounds 0 running (lone s.rounds ready.one) event k.doing ready.idle;
-      rounds = same ∙ ready.rounds;
-      one = same ∙ ready.one;
+      outcome = outcome;
+      follows = record {
+        before = ps;
+        paid = budget_by turn.stop fuel;
+        how = how_of s turn t fuel;
+        whole = refl;
+        once = once_at_end ps outcome (budget_by turn.stop fuel) Done (none_from t turn.files (run_of turn t fuel) s (shown_first t) all);
+        eval = made t turn.files (run_of turn t fuel) s [];
+        ends = ends_by fuel turn.stop (how_of s turn t fuel) last can;
+      };
+      stops = stops_by fuel turn.stop (how_of s turn t fuel) last;
     }
 
-legal_made : (f : Files) (sizes : List ℕ) (run : Run) (s : State) (k : Shown) (outcome : Outcome) (paid : ℕ) → Ready sizes s k → Safe k run → IsLegal s (entries_of (pairs_from f s run ++ (End outcome paid, Done) ∷ []))
-legal_made f sizes (Over how) s k outcome paid ready safe = (may_be sizes s k (End outcome paid) ready safe.1, refl, tt)
-legal_made f sizes (Pays of_tree n next) s k outcome paid ready safe = legal_made f sizes next s k outcome paid ready safe.1
-legal_made f sizes (Looks q next) s k outcome paid ready safe = legal_made f sizes (next (told f q)) s k outcome paid ready (safe.1 (told f q))
-legal_made f sizes (Makes event next) s k outcome paid ready safe =
-    let r : Reply = reply_of s event in
-    let may = may_be sizes s k event ready (no_waking k event ready.idle safe.0) in
-    (may, refl, legal_made f sizes (next r) (state_after s event) (shown_more k (event, r)) outcome paid (ready_more sizes s k event ready may) (safe.1 r))
+-- an earlier script has nothing of a later history
+own_before : (turns : List Turn) (t u fuel : ℕ) (s : State) → u < t → own u (history_of s turns t fuel) ≡ []
+own_before [] t u fuel s less = refl
+own_before (turn ∷ turns) t u fuel s less =
+    own_append u (turn_entries s turn t fuel) (history_of (replay s (turn_entries s turn t fuel)) turns (t + 1) fuel)
+    ∙ (ap (λ w. w ++ own u (history_of (replay s (turn_entries s turn t fuel)) turns (t + 1) fuel)) (own_others u t (turn_pairs s turn t fuel) (λ same. omega (arith, less, same)))
+    ∙ own_before turns (t + 1) u fuel (replay s (turn_entries s turn t fuel)) (omega (arith, less)))
 
--- The history.
+pub legal_turn : (b : Begun) → AreAlone (first b) → (turn : Turn) (t fuel : ℕ) (pre : List Entry) → t < length (first b).rounds → At b pre t [] → Safe (shown_first t) turn.run → IsLegal (now b pre) (turn_entries (now b pre) turn t fuel)
+legal_turn b alone turn t fuel pre some at safe =
+    legal_made b alone t some turn.files (run_of turn t fuel) pre [] (outcome_by turn.stop (how_of (now b pre) turn t fuel)) (budget_by turn.stop fuel) at (safe_spend turn.run (budget_by turn.stop fuel) (shown_first t) safe)
 
-own_entries : (ps : List (Event × Reply)) → own 0 (entries_of ps) ≡ ps
-own_entries [] = refl
-own_entries (p ∷ ps) = ap (λ w. p ∷ w) (own_entries ps)
-
-ends_by : (fuel : ℕ) (how : How) → IsLast how → Ends fuel (outcome_by None how) fuel how
-ends_by fuel (Ended o.Normal) l = (refl, refl)
-ends_by fuel (Ended (o.Raised v)) l = (refl, refl)
-ends_by fuel (Ended o.Fuel) l = absurd l
-ends_by fuel (Ended o.Read) l = absurd l
-ends_by fuel (Spent of_tree) l = ((of_tree, refl), refl)
-
-stops_by : (how : How) (k : ℕ) → IsLast how → StopsBy None (outcome_by None how) k
-stops_by (Ended o.Normal) k l = tt
-stops_by (Ended (o.Raised v)) k l = tt
-stops_by (Ended o.Fuel) k l = absurd l
-stops_by (Ended o.Read) k l = absurd l
-stops_by (Spent of_tree) k l = tt
-
-last_from : (f : Files) (run : Run) (s : State) (k : Shown) → Safe k run → IsLast (how_from f s run)
-last_from f (Over how) s k safe = safe.0
-last_from f (Pays of_tree n next) s k safe = last_from f next s k safe.1
-last_from f (Looks q next) s k safe = last_from f (next (told f q)) s k (safe.1 (told f q))
-last_from f (Makes event next) s k safe = last_from f (next (reply_of s event)) (state_after s event) (shown_more k (event, reply_of s event)) (safe.1 (reply_of s event))
-
--- a machine of one script has one round
-one_round : (b : Begun) → length b.scripts ≡ 1 → (first b).rounds ≡ 0 ∷ []
-one_round b one = by (first b).rounds (rounds_long 0 b.rounds ∙ b.whole ∙ one) (starts_low 0 b.rounds)
-  where
-    starts_low : (k : ℕ) (sizes : List ℕ) → (f : ℕ) → slice_get (round_starts k sizes) 0 ≡ Some f → f ≡ k
-    starts_low k [] f is = absurd (cc is)
-    starts_low k (zero ∷ sizes) f is = starts_low (k + 0) sizes f is ∙ omega arith
-    starts_low k (suc size ∷ sizes) f is = let g : k ≡ f = cc is in sym g
-
-    by : (rs : List ℕ) → length rs ≡ 1 → ((f : ℕ) → slice_get rs 0 ≡ Some f → f ≡ 0) → rs ≡ 0 ∷ []
-    by [] long low = absurd (omega arith)
-    by (x ∷ []) long low = ap (λ z. z ∷ []) (low x refl)
-    by (x ∷ y ∷ rs) long low = absurd (omega arith)
-
-pub solo_some : (f : Files) (b : Begun) (run : Run) (fuel : ℕ) → length b.scripts ≡ 1 → Safe (shown_first 0) run → (h : List Entry) × IsSolo f (first b) run fuel None h
-solo_some f b run fuel one safe =
-    let opening : State = first b in
-    let rounds : opening.rounds ≡ 0 ∷ [] = one_round b one in
-    let spent : Run = spend fuel (shown_first 0) run in
-    let all : Safe (shown_first 0) spent = safe_spend run fuel (shown_first 0) safe in
-    let less : 0 < length opening.rounds = let e : length opening.rounds ≡ 1 = ap length rounds in omega arith in
-    let ready : Ready b.rounds opening (shown_first 0) = record { whole = whole_first b; agrees = agrees_first b 0; exists = exists_first b 0 less; idle = refl; rounds = refl; one = rounds } in
-    let ps : List (Event × Reply) = pairs_from f opening spent in
-    let how : How = how_from f opening spent in
-    let last : IsLast how = last_from f spent opening (shown_first 0) all in
-    let outcome : Outcome = outcome_by None how in (
-      entries_of (ps ++ (End outcome fuel, Done) ∷ []),
-      record {
-        legal = legal_made f b.rounds spent opening (shown_first 0) outcome fuel ready all;
-        outcome = outcome;
-        follows = record { before = ps; paid = fuel; how = how; whole = own_entries (ps ++ (End outcome fuel, Done) ∷ []); eval = made f spent opening []; ends = ends_by fuel how last };
-        stops = stops_by how fuel last;
-      },
+there_from : (b : Begun) → AreAlone (first b) → (turns : List Turn) (t fuel : ℕ) (pre : List Entry) → At b pre t [] → AllSafe turns t → CanStop (now b pre) turns t fuel → t + length turns ≡ length (first b).rounds
+    → IsLegal (now b pre) (history_of (now b pre) turns t fuel) × AllPlay turns t fuel (history_of (now b pre) turns t fuel)
+there_from b alone [] t fuel pre at safe can many = (tt, tt)
+there_from b alone (turn ∷ turns) t fuel pre at safe can many =
+    let s : State = now b pre in
+    let here : List Entry = turn_entries s turn t fuel in
+    let legal : IsLegal s here = legal_turn b alone turn t fuel pre (omega (arith, many)) at safe.0 in
+    let after : now b (pre ++ here) ≡ replay s here = replay_append (first b) pre here in
+    let later = subst (λ (x : State). IsLegal x (history_of x turns (t + 1) fuel) × AllPlay turns (t + 1) fuel (history_of x turns (t + 1) fuel)) after
+    (there_from b alone turns (t + 1) fuel (pre ++ here) (at_after b turn t fuel pre at legal) safe.1 (subst (λ (x : State). CanStop x turns (t + 1) fuel) (sym after) can.1) (omega (arith, many))) in
+    let rest : List Entry = history_of (replay s here) turns (t + 1) fuel in
+    let own_is : own t (here ++ rest) ≡ turn_pairs s turn t fuel =
+    own_append t here rest ∙ (ap (λ w. w ++ own t rest) (own_entries t (turn_pairs s turn t fuel)) ∙ (ap (λ w. turn_pairs s turn t fuel ++ w) (own_before turns (t + 1) t fuel (replay s here) (omega arith)) ∙ append-nil (turn_pairs s turn t fuel))) in (
+      legal_append s here rest legal later.0,
+      (
+        subst (Plays turn t fuel) (sym own_is) (plays_made s turn t fuel safe.0 can.0),
+        all_same turns (t + 1) fuel rest (here ++ rest) (λ u le. own_behind t u (turn_pairs s turn t fuel) rest (omega (arith, le))) later.1,
+      ),
     )
+
+pub solo_made : (b : Begun) (turns : List Turn) (fuel : ℕ) → AreAlone (first b) → length turns ≡ length (first b).rounds → AllSafe turns 0 → CanStop (first b) turns 0 fuel → IsSolo (first b) turns fuel (history_of (first b) turns 0 fuel)
+solo_made b turns fuel alone many safe can =
+    let it = there_from b alone turns 0 fuel [] (at_start b) safe can (omega (arith, many)) in
+    record { many = many; legal = it.0; each = it.1 }
+
+pub solo_some : (b : Begun) (turns : List Turn) (fuel : ℕ) → AreAlone (first b) → length turns ≡ length (first b).rounds → AllSafe turns 0 → CanStop (first b) turns 0 fuel → (h : List Entry) × IsSolo (first b) turns fuel h
+solo_some b turns fuel alone many safe can = (history_of (first b) turns 0 fuel, solo_made b turns fuel alone many safe can)
+
+can_at : (stop : Option ℕ) (fuel : ℕ) (how : How) → stop ≡ None → CanStopAt stop fuel how
+can_at stop fuel how is = subst (λ (o : Option ℕ). CanStopAt o fuel how) (sym is) tt
+
+pub no_stops : (turns : List Turn) (t fuel : ℕ) (s : State) → HaveNoStops turns → CanStop s turns t fuel
+no_stops [] t fuel s none = tt
+no_stops (turn ∷ turns) t fuel s none = (can_at turn.stop fuel (how_of s turn t fuel) none.0, no_stops turns (t + 1) fuel (replay s (turn_entries s turn t fuel)) none.1)
+
+pub solo_free : (b : Begun) (turns : List Turn) (fuel : ℕ) → AreAlone (first b) → length turns ≡ length (first b).rounds → AllSafe turns 0 → HaveNoStops turns → (h : List Entry) × IsSolo (first b) turns fuel h
+solo_free b turns fuel alone many safe none = solo_some b turns fuel alone many safe (no_stops turns 0 fuel (first b) none)

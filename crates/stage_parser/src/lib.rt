@@ -3,8 +3,6 @@
 
 mod script;
 mod source;
-#[cfg(test)]
-mod tests;
 
 pub use script::{Script, Stmt};
 pub use source::{ParseError, parse};

@@ -10,6 +10,7 @@ use crate::names::{put, put_comma, put_name};
 use crate::operators::{op_sign, op_strength, put_comparator};
 use base_types::{Exact, NoMemory, Seq, Text};
 use py_syntax::{Comparison, Expr, Lexeme};
+use shared::Shared;
 
 /// How strongly the outermost form of an expression binds.
 fn strength(expr: &Expr) -> u8
@@ -175,7 +176,7 @@ fn put_attribute(out: &mut Seq<Lexeme>, name: &Text) -> Result<(), NoMemory>
 }
 
 #[cycle(exprs)]
-fn put_arguments(out: &mut Seq<Lexeme>, arguments: &Seq<Expr>) -> Result<(), NoMemory>
+fn put_arguments(out: &mut Seq<Lexeme>, arguments: &Seq<Shared<Expr>>) -> Result<(), NoMemory>
     ensures { OnOk result (out.new ≡ out.old ++ print.enclosed token.OpenParen (print.items (map print.print_of arguments.now)) token.CloseParen) }
 {
     put(out, Lexeme::OpenParen)?;
@@ -193,7 +194,7 @@ fn put_index(out: &mut Seq<Lexeme>, index: &Expr) -> Result<(), NoMemory>
 }
 
 #[cycle(exprs)]
-fn put_list(out: &mut Seq<Lexeme>, items: &Seq<Expr>) -> Result<(), NoMemory>
+fn put_list(out: &mut Seq<Lexeme>, items: &Seq<Shared<Expr>>) -> Result<(), NoMemory>
     ensures { OnOk result (out.new ≡ out.old ++ print.enclosed token.OpenBracket (print.items (map print.print_of items.now)) token.CloseBracket) }
 {
     put(out, Lexeme::OpenBracket)?;
@@ -202,7 +203,7 @@ fn put_list(out: &mut Seq<Lexeme>, items: &Seq<Expr>) -> Result<(), NoMemory>
 }
 
 #[cycle(exprs)]
-fn put_tuple(out: &mut Seq<Lexeme>, items: &Seq<Expr>) -> Result<(), NoMemory>
+fn put_tuple(out: &mut Seq<Lexeme>, items: &Seq<Shared<Expr>>) -> Result<(), NoMemory>
     ensures { OnOk result (out.new ≡ out.old ++ print.enclosed token.OpenParen (print.tuple_items (map print.print_of items.now)) token.CloseParen) }
 {
     put(out, Lexeme::OpenParen)?;
@@ -224,7 +225,7 @@ fn put_last_comma(out: &mut Seq<Lexeme>, items: usize) -> Result<(), NoMemory>
 
 /// Items with commas between.
 #[cycle(exprs)]
-fn put_items(out: &mut Seq<Lexeme>, items: &Seq<Expr>) -> Result<(), NoMemory>
+fn put_items(out: &mut Seq<Lexeme>, items: &Seq<Shared<Expr>>) -> Result<(), NoMemory>
     ensures { OnOk result (out.new ≡ out.old ++ print.items (map print.print_of items.now)) }
 {
     let items = items.as_slice();

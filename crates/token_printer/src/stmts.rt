@@ -11,6 +11,7 @@ use crate::names::{put, put_name, put_names};
 use crate::operators::augmented;
 use base_types::{NoMemory, Seq, Text, Texts};
 use py_syntax::{Alias, BinaryOp, Branch, Expr, FuncDef, Handler, ImportedNames, Lexeme, Stmt};
+use shared::Shared;
 
 // ---- lines
 
@@ -60,7 +61,7 @@ fn put_word(out: &mut Seq<Lexeme>, word: Lexeme) -> Result<(), NoMemory>
     put(out, Lexeme::Newline)
 }
 
-fn put_optional(out: &mut Seq<Lexeme>, expr: &Option<Expr>) -> Result<(), NoMemory>
+fn put_optional(out: &mut Seq<Lexeme>, expr: &Option<Shared<Expr>>) -> Result<(), NoMemory>
     ensures { OnOk result (out.new ≡ out.old ++ print.optional expr.now) }
 {
     match expr {
@@ -70,7 +71,11 @@ fn put_optional(out: &mut Seq<Lexeme>, expr: &Option<Expr>) -> Result<(), NoMemo
 }
 
 /// A word, and an expression if there is one.
-fn put_jump(out: &mut Seq<Lexeme>, word: Lexeme, expr: &Option<Expr>) -> Result<(), NoMemory>
+fn put_jump(
+    out: &mut Seq<Lexeme>,
+    word: Lexeme,
+    expr: &Option<Shared<Expr>>,
+) -> Result<(), NoMemory>
     ensures { OnOk result (out.new ≡ out.old ++ print.on_line (word ∷ print.optional expr.now)) }
 {
     put(out, word)?;

@@ -4,8 +4,6 @@
 mod events;
 mod fields;
 mod replies;
-#[cfg(test)]
-mod tests;
 mod trace;
 mod values;
 

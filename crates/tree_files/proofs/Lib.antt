@@ -1,3 +1,4 @@
 pub mod EditLemmas
 pub mod NamesBelow
+pub mod Listings
 pub mod MemFilesLemmas

@@ -3,8 +3,8 @@ use Rattle.std.specs.Prelude.{◌≡◌, ℕ, ◌-◌, ◌<◌, ◌≤◌, List,
 use Rattle.std.specs.Ordering.{nat_cmp}
 use Rattle.std.specs.List.Sorted.{IsStrictlySortedBy}
 use Rattle.std.specs.Cmp.Lexicographic.{slice_cmp, pointwise}
-use Rattle.std.specs.List.{list_any}
-use Rattle.std.specs.FinMap.{FinMap, get}
+use Rattle.std.specs.List.{list_any, filter_map}
+use Rattle.std.specs.FinMap.{FinMap, get, keys}
 use Rattle.base_types.specs.Path.{Path, path_cmp}
 use Rattle.tree_files.specs.declared.tree.Node.{Node}
 use Rattle.tree_files.specs.declared.tree.Node.TheVariants.{File, Dir}
@@ -66,6 +66,10 @@ has_name names name = list_any (λ other. pointwise nat_eq other name) names
 pub record IsListing (f : Files) (dir : Path) (names : List (List ℕ)) : Type 0 where
   pub ordered : IsStrictlySortedBy (slice_cmp nat_cmp) names
   pub exact : (name : List ℕ) → has_name names name ≡ is_some (node_at f (dir ++ name ∷ []))
+
+-- the names in a directory: the last parts of the paths that stand in it
+abbrev pub names_in : Files → Path → List (List ℕ)
+names_in f dir = filter_map (name_below dir) (keys f)
 
 -- n bytes from `at` on stand in the buffer, and some where there are some
 pub record IsRead (bytes : List ℕ) (at : ℕ) (old new : List ℕ) (n : ℕ) : Type 0 where

@@ -1,5 +1,9 @@
-ghost use Rattle.std.specs.Prelude.{◌≡◌, ◌≤◌, length, None, IfOk};
-ghost use Rattle.tree_files.specs.Count.{Rose};
+ghost use Rattle.std.specs.Prelude.{◌≡◌, ◌≤◌, ℕ, List, length, None, IfOk, OnOk};
+ghost use Rattle.std.specs.List.Sorted.{IsPermutation, IsSorted};
+ghost use Rattle.std.specs.Ordering.{nat_cmp};
+ghost use Rattle.std.specs.Cmp.Lexicographic.{slice_cmp};
+ghost use Rattle.tree_files.specs.Count.{Rose, raised};
+ghost use Rattle.tree_files.specs.Systems.{wants_slash, with_part, with_parts, or_here, system_name, says_absent, fault_of};
 ghost use Rattle.tree_files.specs.declared.tree.TreeFault.TheVariants as fault;
 
 use crate::tree::{Grove, Stamp, Tree, TreeFault};
@@ -26,6 +30,7 @@ impl<R: Files + AllocGlobal + Clone + Drop> RealTree<R> {
     pub fn at(rt: R, root: Text) -> RealTree<R>
         ensures faults { ⟦<RealTree<R> as Tree>⟧.faults result ≡ 0 }
         ensures lists { ⟦<RealTree<R> as Tree>⟧.lists result ≡ 0 }
+        ensures root { result.root ≡ root }
     {
         RealTree {
             rt,
@@ -35,32 +40,18 @@ impl<R: Files + AllocGlobal + Clone + Drop> RealTree<R> {
         }
     }
 
-    /// What the system calls a path.
-    fn name(&self, path: &TreePath) -> Result<String, AllocError> {
-        let mut name = String::from_str(self.rt.alloc(), self.root.as_str())?;
-        for part in path.parts().as_slice() {
-            if !name.is_empty() && !name.ends_with('/') {
-                name.push('/')?;
-            }
-            name.push_str(part.as_str())?;
-        }
-        if name.is_empty() {
-            name.push('.')?;
-        }
-        Ok(name)
-    }
-
     /// The fault of an error, which is counted where it is no want of memory.
     fn refuse(&mut self, error: io::Error) -> TreeFault
         ensures failed { result ≡ fault.Failed → Rose self.old.faults self.new.faults }
+        ensures wanting { result ≡ fault.NoMemory → self.new.faults ≡ self.old.faults }
         ensures faults_grow { self.old.faults ≤ self.new.faults }
         ensures lists_stay { self.new.lists ≡ self.old.lists }
     {
-        if error.kind() == ErrorKind::OutOfMemory {
-            return TreeFault::NoMemory;
+        let fault = fault_of(error.kind());
+        if fault == TreeFault::Failed {
+            self.faults = self.faults.saturating_add(1);
         }
-        self.faults = self.faults.saturating_add(1);
-        TreeFault::Failed
+        fault
     }
 }
 
@@ -72,7 +63,7 @@ impl<R: Files + AllocGlobal + Clone + Drop> Tree for RealTree<R> {
     ghost lists = { λ t. t.lists };
 
     fn stamp(&mut self, path: &TreePath) -> Result<Stamp, TreeFault> {
-        let name = self.name(path)?;
+        let name = system_name(&self.root, path)?;
         match stamp_at(&self.rt, name.as_str()) {
             Ok(stamp) => Ok(stamp),
             Err(error) => Err(self.refuse(error)),
@@ -80,7 +71,7 @@ impl<R: Files + AllocGlobal + Clone + Drop> Tree for RealTree<R> {
     }
 
     fn list(&mut self, dir: &TreePath) -> Result<Texts, TreeFault> {
-        let name = self.name(dir)?;
+        let name = system_name(&self.root, dir)?;
         match names_in(&self.rt, name.as_str()) {
             Ok(names) => {
                 self.lists = self.lists.saturating_add(1);
@@ -91,7 +82,7 @@ impl<R: Files + AllocGlobal + Clone + Drop> Tree for RealTree<R> {
     }
 
     fn read(&mut self, file: &TreePath, at: u64, into: &mut [u8]) -> Result<usize, TreeFault> {
-        let name = self.name(file)?;
+        let name = system_name(&self.root, file)?;
         match read_at(&self.rt, name.as_str(), at, into) {
             Ok(count) => Ok(count),
             Err(error) => Err(self.refuse(error)),
@@ -100,7 +91,14 @@ impl<R: Files + AllocGlobal + Clone + Drop> Tree for RealTree<R> {
 }
 
 impl<R: Files + AllocGlobal + Clone + Send + Drop> Grove for RealTree<R> {
-    fn fork(&mut self) -> Result<RealTree<R>, NoMemory> {
+    fn fork(&mut self) -> Result<RealTree<R>, NoMemory>
+        ensures root { IfOk result (λ child. child.root ≡ self.old.root) }
+        ensures root_stays { self.new.root ≡ self.old.root }
+        ensures faults { IfOk result (λ child. child.faults ≡ 0) }
+        ensures lists { IfOk result (λ child. child.lists ≡ 0) }
+        ensures faults_stay { self.new.faults ≡ self.old.faults }
+        ensures lists_stay { self.new.lists ≡ self.old.lists }
+    {
         Ok(RealTree {
             rt: self.rt.clone()?,
             root: self.root.copy()?,
@@ -109,9 +107,77 @@ impl<R: Files + AllocGlobal + Clone + Send + Drop> Grove for RealTree<R> {
         })
     }
 
-    fn absorb(&mut self, child: RealTree<R>) {
+    fn absorb(&mut self, child: RealTree<R>)
+        ensures root { self.new.root ≡ self.old.root }
+        ensures faults { self.new.faults ≡ raised self.old.faults child.faults }
+        ensures lists { self.new.lists ≡ raised self.old.lists child.lists }
+    {
         self.faults = self.faults.saturating_add(child.faults);
         self.lists = self.lists.saturating_add(child.lists);
+    }
+}
+
+/// Whether a slash is wanted between a name and a part that follows it.
+fn wants_slash(name: &Text) -> bool
+    ensures { result ≡ wants_slash name.now }
+{
+    match name.as_bytes().last() {
+        Some(byte) => *byte != b'/',
+        None => false,
+    }
+}
+
+fn add_part(name: &mut Text, part: &Text) -> Result<(), NoMemory>
+    ensures { OnOk result (name.new ≡ with_part name.old part.now) }
+{
+    if wants_slash(name) {
+        name.push_str("/")?;
+    }
+    name.push_str(part.as_str())
+}
+
+/// The name of a folder with the parts of a path behind it.
+fn with_parts(folder: &Text, path: &TreePath) -> Result<Text, NoMemory>
+    ensures { IfOk result (λ name. name ≡ with_parts folder.now path.now) }
+{
+    let mut name = folder.copy()?;
+    for part in path.parts().as_slice() {
+        add_part(&mut name, part)?;
+    }
+    Ok(name)
+}
+
+/// What the system calls a path below a folder. The empty name is the current folder.
+fn system_name(folder: &Text, path: &TreePath) -> Result<Text, NoMemory>
+    ensures { IfOk result (λ name. name ≡ system_name folder.now path.now) }
+{
+    let name = with_parts(folder, path)?;
+    if name.len() == 0 {
+        return Text::from_str(name.alloc(), ".");
+    }
+    Ok(name)
+}
+
+/// Whether an error says that nothing stands at a name.
+fn says_absent(kind: ErrorKind) -> bool
+    ensures { result ≡ says_absent kind }
+{
+    match kind {
+        ErrorKind::NotFound => true,
+        ErrorKind::NotADirectory => true,
+        ErrorKind::FilesystemLoop => true,
+        ErrorKind::InvalidFilename => true,
+        _ => false,
+    }
+}
+
+/// What an error means for a call.
+fn fault_of(kind: ErrorKind) -> TreeFault
+    ensures { result ≡ fault_of kind }
+{
+    match kind {
+        ErrorKind::OutOfMemory => TreeFault::NoMemory,
+        _ => TreeFault::Failed,
     }
 }
 
@@ -119,13 +185,12 @@ impl<R: Files + AllocGlobal + Clone + Send + Drop> Grove for RealTree<R> {
 fn stamp_at<R: Files>(rt: &R, name: &str) -> io::Result<Stamp> {
     match fs::metadata(rt, name) {
         Ok(data) => stamp_of(&data),
-        Err(error) => match error.kind() {
-            ErrorKind::NotFound
-            | ErrorKind::NotADirectory
-            | ErrorKind::FilesystemLoop
-            | ErrorKind::InvalidFilename => Ok(Stamp::Absent),
-            _ => Err(error),
-        },
+        Err(error) => {
+            if says_absent(error.kind()) {
+                return Ok(Stamp::Absent);
+            }
+            Err(error)
+        }
     }
 }
 
@@ -140,6 +205,16 @@ fn stamp_of(data: &Metadata) -> io::Result<Stamp> {
         return Ok(Stamp::File(data.len()));
     }
     Ok(Stamp::Absent)
+}
+
+/// The names in the order of their bytes.
+fn in_order(names: Vec<Text>) -> Result<Texts, AllocError>
+    ensures ordered { IfOk result (IsSorted (slice_cmp nat_cmp)) }
+    ensures same { IfOk result (IsPermutation names.items) }
+{
+    let mut names = names;
+    names.sort()?;
+    Ok(Texts::from_vec(names))
 }
 
 /// The names in a folder, in order, without those that are not UTF-8.
@@ -158,8 +233,7 @@ fn names_in<R: Files + AllocGlobal + Clone + Drop>(rt: &R, folder: &str) -> io::
             }
         }
     }
-    names.sort()?;
-    Ok(Texts::from_vec(names))
+    Ok(in_order(names)?)
 }
 
 fn read_at<R: Files>(rt: &R, name: &str, at: u64, into: &mut [u8]) -> io::Result<usize>

@@ -41,7 +41,8 @@ impl From<NoMemory> for SinkFault {
 pub trait Sink: Sized + Drop {
     // The bytes that it has got, where it tells them.
     ghost written: { Self → Option (List ℕ) };
-    // How many calls failed: a count that never falls, and stops at the greatest u64.
+    // How many calls failed: a count that never falls, and stops at the greatest u64. No other call
+    // raises it.
     ghost faults: { Self → ℕ };
 
     /// Takes some of the piece, from its front, and answers how many bytes. A sink that takes nothing
@@ -53,6 +54,8 @@ pub trait Sink: Sized + Drop {
         ensures count { IfOk result (λ n. n ≤ length piece.now) }
         ensures some { IfOk result (λ n. 0 < length piece.now → 0 < n) }
         ensures failed { IsErrOf result SinkFault.Failed → Rose (faults self.old) (faults self.new) }
+        ensures wanting { IsErrOf result SinkFault.NoMemory → faults self.new ≡ faults self.old }
+        ensures ok { OnOk result (faults self.new ≡ faults self.old) }
         ensures faults_grow { faults self.old ≤ faults self.new };
 
     /// A sink that stands for this one, which is empty until it is given back.
@@ -74,6 +77,8 @@ pub fn write_whole<K: Sink>(sink: &mut K, bytes: &[u8]) -> Result<(), SinkFault>
     ensures ok { OnOk result (K.written sink.new ≡ appended (K.written sink.old) bytes.now) }
     ensures err { OnErr result (HasPrefixOf bytes.now (K.written sink.old) (K.written sink.new)) }
     ensures failed { IsErrOf result SinkFault.Failed → Rose (K.faults sink.old) (K.faults sink.new) }
+    ensures wanting { IsErrOf result SinkFault.NoMemory → K.faults sink.new ≡ K.faults sink.old }
+    ensures faults_stay { OnOk result (K.faults sink.new ≡ K.faults sink.old) }
     ensures faults_grow { K.faults sink.old ≤ K.faults sink.new }
 {
     let mut done = 0;

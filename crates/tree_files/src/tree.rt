@@ -69,15 +69,18 @@ impl<T: Drop> From<AllocFailed<T>> for TreeFault {
 pub trait Tree: Sized + Drop {
     // The files, where the tree tells them.
     ghost files: { Self → Option Files };
-    // How many calls failed: a count that never falls, and stops at the greatest u64.
+    // How many calls failed: a count that never falls, and stops at the greatest u64. A call that
+    // succeeds leaves it as it was.
     ghost faults: { Self → ℕ };
-    // How many calls of `list` answered names or wanted memory, which stops at the greatest u64.
+    // How many calls of `list` answered names, and some of those that wanted memory; it stops at the
+    // greatest u64. Nothing else raises it.
     ghost lists: { Self → ℕ };
 
     /// What stands at a path. That nothing stands there is no fault.
     fn stamp(&mut self, path: &TreePath) -> Result<Stamp, TreeFault>
         ensures told { IfSome (files self.old) (λ f. IfOk result (λ s. s ≡ stamp_of (node_at f path.now))) }
         ensures failed { IsErrOf result TreeFault.Failed → Rose (faults self.old) (faults self.new) }
+        ensures faults_stay { OnOk result (faults self.new ≡ faults self.old) }
         ensures is_tree { IfSome (files self.old) IsTree }
         ensures files_stay { files self.new ≡ files self.old }
         ensures faults_grow { faults self.old ≤ faults self.new }
@@ -88,6 +91,7 @@ pub trait Tree: Sized + Drop {
         requires { ForSome (files self.old) (λ f. IsDirAt f dir.now) }
         ensures told { IfSome (files self.old) (λ f. IfOk result (IsListing f dir.now)) }
         ensures failed { IsErrOf result TreeFault.Failed → Rose (faults self.old) (faults self.new) }
+        ensures faults_stay { OnOk result (faults self.new ≡ faults self.old) }
         ensures is_tree { IfSome (files self.old) IsTree }
         ensures files_stay { files self.new ≡ files self.old }
         ensures faults_grow { faults self.old ≤ faults self.new }
@@ -103,6 +107,7 @@ pub trait Tree: Sized + Drop {
         ensures told { IfSome (files self.old) (λ f. IfOk result (IsRead (bytes_of (node_at f file.now)) at into.old into.new)) }
         ensures count { IfOk result (λ n. n ≤ length into.old) }
         ensures failed { IsErrOf result TreeFault.Failed → Rose (faults self.old) (faults self.new) }
+        ensures faults_stay { OnOk result (faults self.new ≡ faults self.old) }
         ensures is_tree { IfSome (files self.old) IsTree }
         ensures files_stay { files self.new ≡ files self.old }
         ensures faults_grow { faults self.old ≤ faults self.new }

@@ -70,6 +70,7 @@ impl<T: Tree> Overlay<T> {
     fn names_inside(&mut self, dir: &TreePath) -> Result<Texts, TreeFault>
         ensures told { IfSome (T.files self.old.tree) (λ f. IfOk result (λ names. (name : List ℕ) → has_name names name ≡ is_some (node_at f (dir.now ++ name ∷ [])))) }
         ensures failed { IsErrOf result TreeFault.Failed → Rose (T.faults self.old.tree) (T.faults self.new.tree) }
+        ensures faults_stay { OnOk result (T.faults self.new.tree ≡ T.faults self.old.tree) }
         ensures is_tree { IfSome (T.files self.old.tree) IsTree }
         ensures files_stay { T.files self.new.tree ≡ T.files self.old.tree }
         ensures faults_grow { T.faults self.old.tree ≤ T.faults self.new.tree }
@@ -106,6 +107,7 @@ impl<T: Tree> Tree for Overlay<T> {
         ensures told { IfSome (edited_told self.old.edits (T.files self.old.tree)) (λ f. IfOk result (IsListing f dir.now)) }
         ensures wrong_kind { IsNoDir self.old.edits dir.now → IfOk result (λ names. names ≡ []) }
         ensures failed { IsErrOf result TreeFault.Failed → Rose (T.faults self.old.tree) (T.faults self.new.tree) }
+        ensures faults_stay { OnOk result (T.faults self.new.tree ≡ T.faults self.old.tree) }
         ensures is_tree { IfSome (edited_told self.old.edits (T.files self.old.tree)) IsTree }
         ensures files_stay { edited_told self.new.edits (T.files self.new.tree) ≡ edited_told self.old.edits (T.files self.old.tree) }
         ensures faults_grow { T.faults self.old.tree ≤ T.faults self.new.tree }
@@ -127,6 +129,7 @@ impl<T: Tree> Tree for Overlay<T> {
         ensures count { IfOk result (λ n. n ≤ length into.old) }
         ensures wrong_kind { IsNoFile self.old.edits file.now → IfOk result (λ n. n ≡ 0) }
         ensures failed { IsErrOf result TreeFault.Failed → Rose (T.faults self.old.tree) (T.faults self.new.tree) }
+        ensures faults_stay { OnOk result (T.faults self.new.tree ≡ T.faults self.old.tree) }
         ensures is_tree { IfSome (edited_told self.old.edits (T.files self.old.tree)) IsTree }
         ensures files_stay { edited_told self.new.edits (T.files self.new.tree) ≡ edited_told self.old.edits (T.files self.old.tree) }
         ensures faults_grow { T.faults self.old.tree ≤ T.faults self.new.tree }

@@ -8,8 +8,6 @@ mod draft;
 mod items;
 mod outcome;
 mod quoting;
-#[cfg(test)]
-mod tests;
 mod texts;
 
 pub use arithmetic::{augmented, binary, negate};

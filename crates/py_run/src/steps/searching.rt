@@ -1,5 +1,5 @@
 //! The search for a module, in the root alone, and the reading of its file.
-ghost use Rattle.std.specs.Prelude.{◌≡◌, ◌≤◌, ℕ, List, [], ◌∷◌, ◌++◌, IfOk, IsErrOf, Option};
+ghost use Rattle.std.specs.Prelude.{◌≡◌, ◌≤◌, ℕ, List, [], ◌∷◌, ◌++◌, IfOk, IsErrOf, OnOk, Option};
 ghost use Rattle.std.specs.Option.{ForSome};
 ghost use Rattle.tree_files.specs.Count.{Rose};
 ghost use Rattle.tree_files.specs.Files.{IsFileAt};
@@ -30,6 +30,7 @@ fn look<T: Tree>(tree: &mut T, path: &TreePath) -> Result<Stamp, TreeFault>
     ensures stands { IfOk result (λ stamp. (whole : Run) (fuel : ℕ) (mine : List (Event × Reply)) (budget : ℕ) (next : Stamp → Run) → Stands (T.files tree.old) whole fuel mine budget (Looks (StampOf path.now) next) → Stands (T.files tree.old) whole fuel mine budget (next stamp)) }
     ensures file { IfOk result (λ stamp. IsFileStamp stamp → ForSome (T.files tree.old) (λ f. IsFileAt f path.now)) }
     ensures failed { IsErrOf result TreeFault.Failed → Rose (T.faults tree.old) (T.faults tree.new) }
+    ensures faults_stay { OnOk result (T.faults tree.new ≡ T.faults tree.old) }
     ensures faults_grow { T.faults tree.old ≤ T.faults tree.new }
     ensures files { T.files tree.new ≡ T.files tree.old }
 {

@@ -10,7 +10,7 @@ invariant-loop-text g l = record {
   room : length l.buffer ≡ 4096;
   so_far : IfSome (g.T.Tree.files l.initial.tree) (λ f. l.text.items ≡ take (vec_len l.text) (bytes_of (node_at f l.file)));
   files : g.T.Tree.files l.tree ≡ g.T.Tree.files l.initial.tree;
-  faults : g.T.Tree.faults l.initial.tree ≤ g.T.Tree.faults l.tree;
+  faults : g.T.Tree.faults l.tree ≡ g.T.Tree.faults l.initial.tree;
   lists : g.T.Tree.lists l.tree ≡ g.T.Tree.lists l.initial.tree;
 }
 

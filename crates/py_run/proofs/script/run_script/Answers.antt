@@ -16,6 +16,7 @@ use Rattle.py_run.specs.declared.work.Over.{Over}
 use Rattle.py_run.specs.declared.work.Over.TheVariants as over
 use Rattle.py_run.proofs.Loops.{begins_in}
 use Rattle.py_run.proofs.Whole.{follows_came, follows_out, follows_read, broken_in, broken_out, broken_read, came_safe, spent_runs, unread_runs}
+use Rattle.py_run.proofs.Safety.{safe_meaning}
 use Rattle.py_run.proofs.script.run_script.Goals as goal
 
 on_err_then : {T E : Type 0} {P Q : Type 0} (r : Result T E) → OnErr r P → (P → Q) → OnErr r Q
@@ -94,7 +95,7 @@ returns-in-Came-clause-follows g c = λ files e.
     let mine' = (g.D.Desk.sight c.came.new.desk).mine in
     let stands : Stands (Some files) whole fuel mine came_to.0 (runs.Over (Ended (outcome_of c.in-Came.flow))) = subst (λ (o : Option Files). Stands o whole fuel mine came_to.0 (runs.Over (Ended (outcome_of c.in-Came.flow)))) e came_to.1 in
     IfOk-weaker c.came.result _ _ (λ ending ends.
-    subst (λ (how : Outcome). Follows files t whole fuel mine' how) (sym ends.0) (follows_came files t whole fuel came_to.0 mine mine' c.in-Came.flow stands ends.1)) c.came.ensures.ends
+    subst (λ (how : Outcome). Follows files t whole fuel mine' how) (sym ends.0) (follows_came files t whole fuel came_to.0 mine mine' c.in-Came.flow stands ends.1 (safe_meaning t text))) c.came.ensures.ends
 
 pub returns-in-Came-clause-part : goal.returns-in-Came-clause-part
 returns-in-Came-clause-part g c = λ files e.
@@ -157,7 +158,7 @@ returns-in-Out-clause-follows g c = λ files e.
     let mine' = (g.D.Desk.sight c.broke.new.desk).mine in
     let ends = c.in_ok-broke-in-Out.ensures.ends in
     let spent : IsSpent (Some files) whole fuel mine came_to.0 = subst (λ (o : Option Files). IsSpent o whole fuel mine came_to.0) e came_to.1 in
-    follows_out files t whole fuel came_to.0 mine ends.0 mine' spent ends.3 ends.1 ends.2
+    follows_out files t whole fuel came_to.0 mine ends.0 mine' spent ends.3 ends.1 ends.2 (safe_meaning t text)
 
 pub broke-requires-in-Unread-clause-runs : goal.broke-requires-in-Unread-clause-runs
 broke-requires-in-Unread-clause-runs g c =
@@ -206,4 +207,4 @@ returns-clause-follows g c = λ files e.
     let mine' = (g.D.Desk.sight c.broke-in-Unread.new.desk).mine in
     let ends = c.in_ok-broke-in-Unread.ensures.ends in
     let unread : IsUnread (Some files) whole fuel mine c.in-Unread.left = subst (λ (o : Option Files). IsUnread o whole fuel mine c.in-Unread.left) e came_to in
-    follows_read files t whole fuel c.in-Unread.left mine ends.0 mine' unread ends.3 ends.1 ends.2
+    follows_read files t whole fuel c.in-Unread.left mine ends.0 mine' unread ends.3 ends.1 ends.2 (safe_meaning t text)

@@ -19,7 +19,7 @@ returns-clause-run g c =
     let old = g.T.Tree.faults c.args.tree.now in
     let new = g.T.Tree.faults c.run_alone-alone.new.tree in
     told_by _ _ (λ files e. ran_has c.of_run.result _ _ (λ h status. IsRun files opened run c.args.plan.now.fuel old new h status) c.of_run.ensures
-    (run_told files _ opened _ (first_of c.args.texts) c.args.plan.now.fuel old new _ _ c.run_alone-alone.result.ran c.in-Ok.ensures.opening c.in-Ok.ensures.text c.run_alone-alone.ensures.legal (c.run_alone-alone.ensures.follows files e) (c.run_alone-alone.ensures.part files e) c.run_alone-alone.ensures.read c.finish-status.ensures.short))
+    (run_told files _ opened _ (first_of c.args.texts) c.args.plan.now.fuel old new _ _ c.run_alone-alone.result.ran refl c.in-Ok.ensures.opening c.in-Ok.ensures.text c.run_alone-alone.ensures.legal (c.run_alone-alone.ensures.follows files e) (c.run_alone-alone.ensures.part files e) c.run_alone-alone.ensures.read c.finish-status.ensures.short))
 
 pub returns-clause-leaves : goal.returns-clause-leaves
 returns-clause-leaves g c =
@@ -33,7 +33,7 @@ returns-clause-leaves g c =
     (record {
       out_flow = c.close-flow.result;
       err_flow = said.0;
-      out_gets = gets_back _ _ _ c.args.plan.now.trace h _ _ _ c.open-outlet.ensures.trace c.open-outlet.ensures.faults_grow c.open-outlet.ensures.gets c.run_alone-alone.ensures.kept c.close-flow.ensures.written c.close-flow.ensures.faults c.close-flow.ensures.flow;
+      out_gets = gets_back _ _ _ c.args.plan.now.trace h _ _ _ c.open-outlet.ensures.trace c.open-outlet.ensures.gets c.run_alone-alone.ensures.kept c.close-flow.ensures.written c.close-flow.ensures.faults c.close-flow.ensures.flow;
       err_gets = said.1;
       is = said.2;
     })

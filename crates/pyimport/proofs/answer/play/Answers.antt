@@ -4,8 +4,8 @@ use Rattle.pyimport.proofs.Answering.{played_by, short_by}
 use Rattle.pyimport.proofs.answer.play.Goals as goal
 
 pub returns-in_default-clause-answers : goal.returns-in_default-clause-answers
-returns-in_default-clause-answers g c = λ words first is opens later. short_by words _ _ _ _ _ _ _ c.report.result (Some (plans.Run c.args.run)) c.report.ensures refl refl
+returns-in_default-clause-answers g c = λ words first is opens later. short_by words _ _ _ _ _ _ _ c.report.result c.args.run is c.report.ensures refl refl
 
 pub returns-clause-answers : goal.returns-clause-answers
 returns-clause-answers g c = λ words first is opens later.
-    played_by words _ first _ _ _ _ _ _ c.args.run c.args.text later is opens c.in-Ok.texts c.in-Ok.ensures c.run_one-ran.result c.with_plan.result c.with_plan.ensures c.run_one-ran.ensures.short c.run_one-ran.ensures.legal c.run_one-ran.ensures.run c.run_one-ran.ensures.leaves
+    played_by words _ first _ _ _ _ _ _ c.args.run c.args.text later is opens c.in-Ok.texts c.in-Ok.ensures c.run_one-ran.result c.with_plan.result c.with_plan.ensures c.run_one-ran.ensures.short c.run_one-ran.ensures.legal c.run_one-ran.ensures.run c.run_one-ran.ensures.read c.run_one-ran.ensures.leaves

@@ -1,10 +1,10 @@
 use Rattle.std.proofs.Common.{◌≡◌, ◌∙◌, [], None, refl, sym}
 use Rattle.pyimport.specs.Answers.{Answers}
-use Rattle.pyimport.proofs.Answering.{answers_with, short_by}
+use Rattle.pyimport.proofs.Answering.{answers_with, wordless_by}
 use Rattle.pyimport.proofs.answer.pyimport.Goals as goal
 
 pub returns-in-Err-clause-answers : goal.returns-in-Err-clause-answers
-returns-in-Err-clause-answers g c = short_by _ _ _ _ _ _ _ _ c.report.result None c.report.ensures refl refl
+returns-in-Err-clause-answers g c = wordless_by _ _ _ _ _ _ _ _ c.report.result c.report.ensures refl refl refl
 
 pub returns-in-Ok-None-clause-answers : goal.returns-in-Ok-None-clause-answers
 returns-in-Ok-None-clause-answers g c =

@@ -22,4 +22,4 @@ returns-in-Err-Failed-clause-answers g c = λ words is.
     (Answers.unread _ c.args.run is (c.in-Err-Failed.ensures.failed (ap Err c.in-Err-Failed.field-0-is)) (c.unread.ensures.leaves _))
 
 pub returns-in-Err-NoMemory-clause-answers : goal.returns-in-Err-NoMemory-clause-answers
-returns-in-Err-NoMemory-clause-answers g c = λ words is. short_by words _ _ _ _ _ _ _ c.report.result (Some (plans.Run c.args.run)) c.report.ensures refl refl
+returns-in-Err-NoMemory-clause-answers g c = λ words is. short_by words _ _ _ _ _ _ _ c.report.result c.args.run is c.report.ensures refl refl

@@ -13,12 +13,12 @@ put_clause-returns t c =
 pub put_stmt-returns-in_ok-put_branches-in-If : goal.put_stmt-returns-in_ok-put_branches-in-If
 put_stmt-returns-in_ok-put_branches-in-If t c =
     on_ok c.put_clause.result
-    (λ e. e ∙ ap (λ ts. ts ++ clause token.Else (map stmt_tokens c.in-If.otherwise)) c.in_ok-put_branches-in-If.ensures ∙ if_put c.args.out.now c.in-If.branches c.in-If.otherwise ∙ ap (λ s. c.args.out.now ++ stmt_tokens s) (sym c.in-If.is))
-    c.put_clause.ensures
+    (λ e. e ∙ ap (λ ts. ts ++ clause token.Else (map stmt_tokens c.in-If.otherwise)) (rw c.deref-in-If.ensures at c.in_ok-put_branches-in-If.ensures) ∙ if_put c.args.out.now c.in-If.branches c.in-If.otherwise ∙ ap (λ s. c.args.out.now ++ stmt_tokens s) (sym c.in-If.is))
+    (rw c.deref-in-If-2.ensures at c.put_clause.ensures)
 
 pub put_stmt-returns-in_ok-put_clause-in-Try : goal.put_stmt-returns-in_ok-put_clause-in-Try
 put_stmt-returns-in_ok-put_clause-in-Try t c =
     on_ok c.put_clause-in-Try-2.result
-    (λ e. e ∙ ap (λ ts. ts ++ clause token.Finally (map stmt_tokens c.in-Try.finally)) (c.in_ok-put_clause-in-Try.ensures ∙ ap (λ ts. ts ++ clause token.Else (map stmt_tokens c.in-Try.otherwise)) (c.in_ok-put_handlers-in-Try.ensures ∙ ap (λ ts. ts ++ in_order (map handler_tokens c.in-Try.handlers)) c.in_ok-put_try-in-Try.ensures))
+    (λ e. e ∙ ap (λ ts. ts ++ clause token.Finally (map stmt_tokens c.in-Try.finally)) ((rw c.deref-in-Try-3.ensures at c.in_ok-put_clause-in-Try.ensures) ∙ ap (λ ts. ts ++ clause token.Else (map stmt_tokens c.in-Try.otherwise)) ((rw c.deref-in-Try-2.ensures at c.in_ok-put_handlers-in-Try.ensures) ∙ ap (λ ts. ts ++ in_order (map handler_tokens c.in-Try.handlers)) (rw c.deref-in-Try.ensures at c.in_ok-put_try-in-Try.ensures)))
     ∙ try_put c.args.out.now c.in-Try.body c.in-Try.handlers c.in-Try.otherwise c.in-Try.finally ∙ ap (λ s. c.args.out.now ++ stmt_tokens s) (sym c.in-Try.is))
-    c.put_clause-in-Try-2.ensures
+    (rw c.deref-in-Try-4.ensures at c.put_clause-in-Try-2.ensures)

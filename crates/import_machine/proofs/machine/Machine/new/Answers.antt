@@ -1,6 +1,6 @@
 use Rattle.std.proofs.Common.{sym, subst, arith}
-use Rattle.import_machine.specs.Sound.{IsSound}
-use Rattle.import_machine.proofs.First.{sound_opening, rounds_long}
+use Rattle.machine_laws.specs.Sound.{IsSound}
+use Rattle.machine_laws.proofs.First.{sound_opening, rounds_long}
 use Rattle.import_machine.proofs.machine.Machine.new.Goals as goal
 
 pub invariant_of-result : goal.invariant_of-result

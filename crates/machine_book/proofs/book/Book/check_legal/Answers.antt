@@ -7,4 +7,4 @@ pub returns-clause-begun : goal.returns-clause-begun
 returns-clause-begun g c =
     let o = c.self.inside.opening in
     let can = c.self.invariant.2 in
-    (record { scripts = o.scripts; texts = o.texts; path = o.path; rounds = o.rounds; few = can.few; as_many = can.texts; whole = can.rounds }, ap (λ (x : BoundTo _). x.opening) c.self.view_is)
+    (record { scripts = o.scripts; texts = o.texts; path = o.path; rounds = o.rounds; some = can.some; few = can.few; as_many = can.texts; each = can.each; whole = can.rounds }, ap (λ (x : BoundTo _). x.opening) c.self.view_is)

@@ -1,6 +1,5 @@
 -- The entry was allowed, and has the machine's reply.
 use Rattle.machine_book.specs.Bound.{opened}
-use Rattle.machine_book.proofs.Fitting.{fits_step}
 use Rattle.machine_book.proofs.Histories.{book_snoc}
 use Rattle.machine_book.proofs.book.Book.step.Goals as goal
 
@@ -19,6 +18,3 @@ returns-clause-legal g c =
     (book_snoc (opened b.opening) b.machine c.step.new.self b.history.items c.reserve.new.self.items c.push_reserved.new.self.items (record { thread = c.args.thread; event = c.in_ok-written.written; reply = c.in_ok-answer.answer }) (c.self.invariant.0, c.self.invariant.1)
     (rw c.in_ok-written.ensures (rw (← c.self.view_is) at c.requires))
     c.in_ok-answer.ensures (rw c.in_ok-written.ensures c.in_ok-reply.ensures.ok) c.in_ok-reserve.ensures.items c.push_reserved.ensures.items).1
-
-pub returns-clause-fits : goal.returns-clause-fits
-returns-clause-fits g c = rw c.in_ok-reply.ensures.reply (fits_step c.self.inside.machine c.args.thread c.args.event)

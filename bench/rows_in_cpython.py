@@ -1,0 +1,287 @@
+#!/usr/bin/env python3.12
+"""Compares the rows of the tables that CPython can answer with the answers of the CPython that runs this script, 3.12.
+
+Values and names are evaluated; sources are tokenized and parsed, and what is printed of them must have the same tree;
+searches are made by importlib's PathFinder in folders that are made for them; whole calls are run as scripts. Prints how
+many rows of each table were compared, and each row that is answered otherwise. Exit status 1 where there is one.
+"""
+import ast
+import importlib
+import importlib._bootstrap
+import importlib.machinery
+import io
+import keyword
+import os
+import pathlib
+import re
+import subprocess
+import sys
+import tempfile
+import tokenize
+import unicodedata
+
+CRATES = pathlib.Path(__file__).resolve().parent.parent / "crates"
+OWN_RULES = "# Where this language differs"
+
+
+def sections(table):
+    """The rows of a table with their answers, each beside the notes that stand above it."""
+    notes, between = [], True
+    rows, answered = ((CRATES / table / name).read_text().split("\n") for name in ("stdin", "stdout"))
+    for row, line in zip(rows, answered, strict=True):
+        if row.startswith("#"):
+            notes = [row] if between else [*notes, row]
+            between = False
+        elif row:
+            between = True
+            yield " ".join(notes), row, line[len(row) + len(" -> ") :] if line != row else None
+
+
+# Values.
+
+VALUES = {
+    "letters": lambda n: "a" * n,
+    "zeros": lambda n: [0] * n,
+    "type": lambda value: Plain(type(value).__name__),
+    "str": str,
+    "repr": repr,
+}
+
+
+class Plain(str):
+    """A text that is shown as it is."""
+
+
+def shown(row, value):
+    """What a row shows of a value: texts of `str`, `repr` and `type` as they are, all others by `repr`."""
+    if isinstance(value, Plain) or row.startswith(("str(", "repr(")):
+        return str(value)
+    return repr(value)
+
+
+def evaluated(row):
+    names = dict(VALUES)
+    if re.match(r"(str|repr|type)\((str|repr|len|print)\)$", row):
+        names = {"type": VALUES["type"]}
+    try:
+        return shown(row, eval(row, names))
+    except Exception as error:
+        return f"{type(error).__name__}: {error}"
+
+
+def argument(word):
+    return ast.literal_eval(word) if word.startswith('"') else word
+
+
+def is_dotted(text):
+    return all(
+        part.isidentifier() and unicodedata.normalize("NFKC", part) == part and not keyword.iskeyword(part)
+        for part in text.split(".")
+    )
+
+
+def yes(answer):
+    return "yes" if answer else "no"
+
+
+def resolved(row):
+    found = re.fullmatch(r'resolve (\S+) level (\d+) ?(\S*)', row)
+    package, level, name = argument(found[1]), int(found[2]), found[3]
+    if package == "none" or not is_dotted(package):
+        return "no parent"
+    try:
+        return importlib._bootstrap._resolve_name(name, package, level)
+    except ImportError:
+        return "beyond top"
+
+
+def package(row):
+    _, kind, name = row.split(" ")
+    module = {"__name__": name}
+    if kind in ("package", "namespace"):
+        module["__path__"] = []
+    return importlib._bootstrap._calc___package__(module)
+
+
+def named(row):
+    call, _, rest = row.partition(" ")
+    answers = {
+        "dotted": lambda: yes(is_dotted(argument(rest))),
+        "identifier": lambda: yes(rest.isidentifier()),
+        "normal": lambda: unicodedata.normalize("NFKC", rest),
+        "keyword": lambda: yes(keyword.iskeyword(rest)),
+        "resolve": lambda: resolved(row),
+        "package": lambda: package(row),
+    }
+    return answers[call]() if call in answers else None
+
+
+def value_rows():
+    for notes, row, answer in sections("value_rows"):
+        if answer is None or OWN_RULES in notes:
+            continue
+        if notes.startswith("# Operators"):
+            yield row, answer, evaluated(row)
+        elif row.split(" ")[0].isalpha():
+            yield row, answer, named(row)
+
+
+# Sources.
+
+
+def quoted(text):
+    marks = {"\\": "\\\\", '"': '\\"', "\n": "\\n", "\r": "\\r", "\t": "\\t"}
+    plain = lambda c: f"\\x{ord(c):02x}" if ord(c) < 32 or ord(c) == 127 else c
+    return '"' + "".join(marks.get(c, plain(c)) for c in text) + '"'
+
+
+def source_of(row):
+    """The source of a row, or None where Python does not spell it so."""
+    spelled = row.split(" ", 1)[1]
+    if spelled.startswith(("blocks(", "hex(")):
+        return None
+    return eval(spelled)
+
+
+def token(kind, text):
+    if kind == tokenize.NAME:
+        return f"word {text}" if keyword.iskeyword(text) else f"name {text}"
+    if kind == tokenize.NUMBER:
+        return str(ast.literal_eval(text))
+    if kind == tokenize.STRING:
+        return quoted(ast.literal_eval(text))
+    names = {tokenize.NEWLINE: "newline", tokenize.INDENT: "indent", tokenize.DEDENT: "dedent", tokenize.ENDMARKER: "end"}
+    return names.get(kind, text)
+
+
+def tokenized(source):
+    lines = {}
+    for it in tokenize.generate_tokens(io.StringIO(source).readline):
+        if it.type not in (tokenize.COMMENT, tokenize.NL):
+            lines.setdefault(it.start[0], []).append(token(it.type, it.string))
+    return "; ".join(f"line {line}: {' '.join(tokens)}" for line, tokens in lines.items())
+
+
+class JoinedGlobals(ast.NodeTransformer):
+    """Puts the names of all `global` lines of a function into its first, as the printer does."""
+
+    def visit_FunctionDef(self, function):
+        names = [name for line in function.body if isinstance(line, ast.Global) for name in line.names]
+        others = [line for line in function.body if not isinstance(line, ast.Global)]
+        function.body = [ast.Global(names=names), *others] if names else others
+        return self.generic_visit(function)
+
+
+def tree(source):
+    return ast.dump(JoinedGlobals().visit(ast.parse(source)))
+
+
+def source_rows():
+    for notes, row, answer in sections("source_rows"):
+        source = source_of(row) if row.startswith(("tokens ", "tree ")) else None
+        if source is None:
+            continue
+        if row.startswith("tokens ") and notes.startswith("# Tokens, by lines") and source.endswith("\n"):
+            yield row, answer, tokenized(source)
+        if row.startswith("tree ") and answer.startswith('"'):
+            printed = ast.literal_eval(answer)
+            yield row, tree(printed), tree(source)
+
+
+# Searches.
+
+
+def make(folder, files):
+    for name in files:
+        path = folder / name
+        if name.endswith("/"):
+            path.mkdir(parents=True, exist_ok=True)
+        else:
+            path.parent.mkdir(parents=True, exist_ok=True)
+            path.write_text("pass\n")
+
+
+def found(name, entries):
+    importlib.invalidate_caches()
+    sys.path_importer_cache.clear()
+    spec = importlib.machinery.PathFinder.find_spec(name, entries)
+    below = lambda path: os.path.relpath(path)
+    if spec is None:
+        return "none"
+    if spec.origin is None:
+        return " ".join(["portions", *map(below, spec.submodule_search_locations)])
+    if spec.submodule_search_locations is None:
+        return f"module {below(spec.origin)}"
+    return " ".join(["package", below(spec.origin), *map(below, spec.submodule_search_locations)])
+
+
+def search_rows():
+    home = os.getcwd()
+    for _, row, answer in sections("search_rows"):
+        parts = re.fullmatch(r'find (\S+) on (\S+) in ?(.*)', row)
+        if parts is None:
+            continue
+        with tempfile.TemporaryDirectory() as folder:
+            make(pathlib.Path(folder), parts[3].split())
+            os.chdir(folder)
+            entries = [7 if entry == "#" else entry for entry in argument(parts[2]).split(":")]
+            yield row, answer, found(parts[1], entries)
+            os.chdir(home)
+
+
+# Whole calls.
+
+
+def calls():
+    """The calls of the table that begin with files alone: name, files, output, last line of the errors, status."""
+    text = (CRATES / "run_rows" / "stdout").read_text()
+    for block in re.split(r"^row ", text, flags=re.M)[1:]:
+        name, body = block.split("\n", 1)
+        parts = re.fullmatch(r"((?:file .*\n|\| .*\n|\|\n)*)words run main.py\nrun\nout\n((?:\| .*\n)*)(?:err\n\| (.*)\n)?status (\d)\n(?:\n|#.*\n)*", body)
+        if parts:
+            yield name, parts[1], parts[2], parts[3], parts[4]
+
+
+def lines_of(text):
+    return "".join(line[2:] + "\n" for line in text.splitlines() if line.startswith("|"))
+
+
+def run(folder, files):
+    for one in re.split(r"^file ", files, flags=re.M)[1:]:
+        path, lines = one.split("\n", 1)
+        (folder / path).parent.mkdir(parents=True, exist_ok=True)
+        (folder / path).write_text(lines_of(lines))
+    done = subprocess.run([sys.executable, "main.py"], cwd=folder, capture_output=True, text=True)
+    told = done.stderr.strip().split("\n")[-1]
+    return done.stdout, told, str(done.returncode)
+
+
+def run_rows():
+    for name, files, out, err, status in calls():
+        own = err and any(word in err for word in ("ProfileError", "source is longer"))
+        if own:
+            continue
+        with tempfile.TemporaryDirectory() as folder:
+            wanted = (lines_of(out), err.removeprefix("main.py: ") if err else "", status)
+            yield name, wanted, run(pathlib.Path(folder), files)
+
+
+def main():
+    if sys.version_info[:2] != (3, 12):
+        sys.exit("this needs CPython 3.12")
+    others = 0
+    for rows in (value_rows, source_rows, search_rows, run_rows):
+        count = 0
+        for row, answer, answered in rows():
+            if answered is None:
+                continue
+            count += 1
+            if answer != answered:
+                others += 1
+                print(f"{rows.__name__}: {row}\n    here    {answer}\n    CPython {answered}")
+        print(f"{rows.__name__}: {count} compared")
+    sys.exit(1 if others else 0)
+
+
+if __name__ == "__main__":
+    main()

@@ -1,0 +1,31 @@
+-- An outlet's start, which is what it was at one moment, as plain data: its code, by which a ghost field may keep it.
+use Rattle.std.specs.Prelude.{◌≡◌, ℕ, zero, suc, Bool, List, Option, refl}
+use Rattle.std.specs.Coded.{Coded, code_by, coded×, coded_ℕ, coded_bool, coded_list, coded_option}
+use Rattle.machine_book.specs.declared.outlet.Flow.{Flow}
+use Rattle.machine_book.specs.declared.outlet.Flow.TheVariants.{Open, Failed, Short}
+use Rattle.machine_book.specs.Outgo.{Outgo}
+
+abbrev pub flow_number : Flow → ℕ
+flow_number Open = 0
+flow_number Failed = 1
+flow_number Short = 2
+
+abbrev pub numbered_flow : ℕ → Flow
+numbered_flow zero = Open
+numbered_flow (suc zero) = Failed
+numbered_flow (suc (suc n)) = Short
+
+abbrev pub same_flow : (flow : Flow) → numbered_flow (flow_number flow) ≡ flow
+same_flow Open = refl
+same_flow Failed = refl
+same_flow Short = refl
+
+abbrev pub flow_code : Coded Flow
+flow_code = code_by ℕ coded_ℕ flow_number numbered_flow same_flow
+
+abbrev pub outgo_code : Coded Outgo
+outgo_code =
+    code_by ((Bool × Option (List ℕ)) × (ℕ × Flow))
+    (coded× (coded× coded_bool (coded_option (coded_list coded_ℕ))) (coded× coded_ℕ flow_code))
+    (λ o. ((o.trace, o.written), (o.faults, o.flow)))
+    (λ p. record { trace = p.0.0; written = p.0.1; faults = p.1.0; flow = p.1.1 }) (λ _. refl)

@@ -1,0 +1,4 @@
+pub mod Bones
+pub mod Sound
+pub mod Answered
+pub mod Begun

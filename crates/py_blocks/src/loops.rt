@@ -1,0 +1,114 @@
+//! `while` (Language Reference 8.2).
+ghost use Rattle.std.specs.Prelude.{◌≡◌, IfOk};
+ghost use Rattle.py_meaning.specs.Pieces.{most};
+ghost use Rattle.py_frames.specs.Does.{Does, begins, goes_on};
+ghost use Rattle.py_frames.specs.declared.work.Frame.TheVariants as frames;
+ghost use Rattle.py_frames.specs.declared.work.Item.TheVariants as items;
+
+use crate::few::is_unbuilt;
+use base_types::{NoMemory, Seq};
+use py_faults::Fault;
+use py_frames::{Frame, Item, Want};
+use py_names::fail;
+use py_state::{Flow, Leave, Thread};
+use py_syntax::{Expr, Stmt};
+use py_value::{Value, truth};
+use shared::Shared;
+use std::alloc::Global;
+
+/// No loop can have more turns, and no payment have more units, since each unit is one of a budget of 64 bits.
+pub fn most() -> u64
+    ensures { result ≡ most }
+{
+    u64::MAX
+}
+
+/// A loop that can take so many turns: the next one pays a unit.
+pub fn begin_turn(thread: &Thread, test: Shared<Expr>, body: Shared<Seq<Stmt>>, turns: u64) -> Want
+    ensures { Does thread.now (begins (items.Turn test body turns) thread.now) result }
+{
+    let _ = thread;
+    if turns == 0 {
+        return Want::Pay {
+            of_tree: false,
+            units: most(),
+            item: Item::Give(Flow::Went(Value::Nothing)),
+        };
+    }
+    Want::Pay {
+        of_tree: false,
+        units: 1,
+        item: Item::Test {
+            test,
+            body,
+            turns: turns - 1,
+        },
+    }
+}
+
+/// A turn whose unit is paid: its test.
+pub fn begin_test(
+    thread: &Thread,
+    test: Shared<Expr>,
+    body: Shared<Seq<Stmt>>,
+    turns: u64,
+) -> Result<Want, NoMemory>
+    ensures { IfOk result (Does thread.now (begins (items.Test test body turns) thread.now)) }
+{
+    let _ = thread;
+    Ok(Want::Both(
+        Item::Eval(test.share()?),
+        Frame::Decide { test, body, turns },
+    ))
+}
+
+/// The test of a loop has a value: its block comes, or its end.
+pub fn go_on_decide(
+    alloc: Global,
+    thread: &Thread,
+    test: Shared<Expr>,
+    body: Shared<Seq<Stmt>>,
+    turns: u64,
+    flow: Flow,
+) -> Result<Want, NoMemory>
+    ensures { IfOk result (Does thread.now (goes_on (frames.Decide test body turns) flow thread.now)) }
+{
+    let value = match flow {
+        Flow::Left(leave) => return Ok(Want::Go(Flow::Left(leave))),
+        Flow::Went(value) => value,
+    };
+    if is_unbuilt(&value) {
+        return fail(alloc, thread, Fault::NotBuilt);
+    }
+    if !truth(&value) {
+        return Ok(Want::Go(Flow::Went(Value::Nothing)));
+    }
+    let block = Item::Block {
+        stmts: body.share()?,
+        at: 0,
+    };
+    Ok(Want::Both(block, Frame::Loop { test, body, turns }))
+}
+
+/// The block of a loop came to its end: the next turns follow, unless it was left for good.
+pub fn go_on_loop(
+    thread: &Thread,
+    test: Shared<Expr>,
+    body: Shared<Seq<Stmt>>,
+    turns: u64,
+    flow: Flow,
+) -> Want
+    ensures { Does thread.now (goes_on (frames.Loop test body turns) flow thread.now) result }
+{
+    let _ = thread;
+    match flow {
+        Flow::Went(value) => {
+            drop(value);
+            Want::Then(Item::Turn { test, body, turns })
+        }
+        Flow::Left(Leave::Continue) => Want::Then(Item::Turn { test, body, turns }),
+        Flow::Left(Leave::Break) => Want::Go(Flow::Went(Value::Nothing)),
+        Flow::Left(Leave::Raised(error)) => Want::Go(Flow::Left(Leave::Raised(error))),
+        Flow::Left(Leave::Return(value)) => Want::Go(Flow::Left(Leave::Return(value))),
+    }
+}

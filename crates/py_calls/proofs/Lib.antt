@@ -1,0 +1,4 @@
+pub mod Lines
+pub mod Bound
+pub mod Depth
+pub mod Asking

@@ -1,0 +1,6 @@
+mod Paying
+mod Looked
+mod Holding
+mod Framing
+mod Turning
+mod Whole

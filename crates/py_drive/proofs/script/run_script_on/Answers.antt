@@ -1,0 +1,162 @@
+use Rattle.std.proofs.Common.{◌≡◌, ◌-◌, ℕ, List, ◌++◌, ◌∷◌, [], Option, Some, Result, Ok, Err, OnErr, IfOk, sym, ◌∙◌, subst}
+use Rattle.std.proofs.lemmas.Result.{IfOk-weaker}
+use Rattle.tree_files.specs.Files.{Files}
+use Rattle.machine_events.specs.declared.event.Outcome.TheVariants as o
+use Rattle.meanings.specs.Runs.{Run, Stands, StandsIn, IsSpent, IsUnread}
+use Rattle.meanings.proofs.Stand.{in_some}
+use Rattle.script_port.proofs.Staying.{stays_trans}
+use Rattle.script_end.specs.Ending.{Broken, GaveAll, Gave}
+use Rattle.py_meaning.specs.Meaning.{meaning}
+use Rattle.py_sources.specs.Sources.{sources}
+use Rattle.py_drive.specs.Turns.{ended}
+use Rattle.py_drive.specs.Overs.{Overs}
+use Rattle.py_drive.specs.declared.drive.Over.{Over}
+use Rattle.py_drive.specs.declared.drive.Over.TheVariants as over
+use Rattle.py_drive.proofs.Whole.{follows_came, follows_out, follows_read, broken_in, broken_out, broken_read, came_shown, spent_idle, unread_idle, unread_left}
+use Rattle.py_drive.proofs.script.run_script_on.Goals as goal
+
+on_err_then : {T E : Type 0} {P Q : Type 0} (r : Result T E) → OnErr r P → (P → Q) → OnErr r Q
+on_err_then (Ok x) p f = tt
+on_err_then (Err e) p f = f p
+
+if_ok : {T E : Type 0} {P : T → Type 0} (r : Result T E) → ((x : T) → P x) → IfOk r P
+if_ok (Ok x) f = f x
+if_ok (Err e) f = tt
+
+pub returns-in-Err-clause-part : goal.returns-in-Err-clause-part
+returns-in-Err-clause-part g c = λ files e.
+    let whole : Run = meaning sources c.args.script c.args.text in
+    let mine = (g.P.Port.view c.run.new.port).mine in
+    broken_in files c.args.script whole c.args.fuel mine _ _ (subst (λ (o : Option Files). StandsIn o whole c.args.fuel mine) e c.in-Err.ensures.part)
+
+pub came-requires-clause-ready : goal.came-requires-clause-ready
+came-requires-clause-ready g c = c.run.ensures.stays.ready c.requires.begun.ready
+
+pub came-requires-clause-knows : goal.came-requires-clause-knows
+came-requires-clause-knows g c =
+    let whole : Run = meaning sources c.args.script c.args.text in
+    let files = g.T.Tree.files c.args.tree.now in
+    let v = g.P.Port.view c.run.new.port in
+    let came : Overs files (g.T.Tree.faults c.args.tree.now) (g.T.Tree.faults c.run.new.tree) whole c.args.fuel v.mine (over.Came c.in-Came.flow) =
+        subst (λ (o : Over). Overs files (g.T.Tree.faults c.args.tree.now) (g.T.Tree.faults c.run.new.tree) whole c.args.fuel v.mine o) c.in-Came.is c.in-Ok.ensures.over in
+    came_shown (g.P.Port.view c.args.port.now) v files c.args.script whole c.args.fuel c.in-Came.flow c.requires.begun c.run.ensures.stays c.requires.safe came
+
+pub returns-in-Came-clause-stays : goal.returns-in-Came-clause-stays
+returns-in-Came-clause-stays g c = stays_trans _ _ _ c.run.ensures.stays c.came.ensures.stays
+
+pub returns-in-Came-clause-ended : goal.returns-in-Came-clause-ended
+returns-in-Came-clause-ended g c = IfOk-weaker c.came.result _ _ (λ ending ends. record { before = (g.P.Port.view c.run.new.port).mine; paid = c.args.fuel; whole = rw ends.0 ends.1 }) c.came.ensures.ends
+
+pub returns-in-Came-clause-follows : goal.returns-in-Came-clause-follows
+returns-in-Came-clause-follows g c = λ told e.
+    let whole : Run = meaning sources c.args.script c.args.text in
+    let files = g.T.Tree.files c.args.tree.now in
+    let v = g.P.Port.view c.run.new.port in
+    let came : Overs files (g.T.Tree.faults c.args.tree.now) (g.T.Tree.faults c.run.new.tree) whole c.args.fuel v.mine (over.Came c.in-Came.flow) =
+        subst (λ (o : Over). Overs files (g.T.Tree.faults c.args.tree.now) (g.T.Tree.faults c.run.new.tree) whole c.args.fuel v.mine o) c.in-Came.is c.in-Ok.ensures.over in
+    let stands : Stands (Some told) whole c.args.fuel v.mine came.0 (ended c.in-Came.flow) = subst (λ (o : Option Files). Stands o whole c.args.fuel v.mine came.0 (ended c.in-Came.flow)) e came.1 in
+    IfOk-weaker c.came.result _ _ (λ ending ends. rw ends.0 (follows_came told c.args.script whole c.args.fuel came.0 v.mine (g.P.Port.view c.came.new.port).mine c.in-Came.flow stands ends.1 c.requires.safe)) c.came.ensures.ends
+
+pub returns-in-Came-clause-part : goal.returns-in-Came-clause-part
+returns-in-Came-clause-part g c = λ told e.
+    let whole : Run = meaning sources c.args.script c.args.text in
+    let files = g.T.Tree.files c.args.tree.now in
+    let v = g.P.Port.view c.run.new.port in
+    let came : Overs files (g.T.Tree.faults c.args.tree.now) (g.T.Tree.faults c.run.new.tree) whole c.args.fuel v.mine (over.Came c.in-Came.flow) =
+        subst (λ (o : Over). Overs files (g.T.Tree.faults c.args.tree.now) (g.T.Tree.faults c.run.new.tree) whole c.args.fuel v.mine o) c.in-Came.is c.in-Ok.ensures.over in
+    on_err_then c.came.result c.came.ensures.err (λ same. rw same (broken_in told c.args.script whole c.args.fuel v.mine _ _ (subst (λ (o : Option Files). StandsIn o whole c.args.fuel v.mine) e (in_some came.1))))
+
+pub returns-in-Came-clause-read : goal.returns-in-Came-clause-read
+returns-in-Came-clause-read g c = IfOk-weaker c.came.result _ _ (λ ending other is. absurd (other is)) c.came.ensures.read
+
+pub spent-requires-clause-idle : goal.spent-requires-clause-idle
+spent-requires-clause-idle g c =
+    let whole : Run = meaning sources c.args.script c.args.text in
+    let files = g.T.Tree.files c.args.tree.now in
+    let v = g.P.Port.view c.run.new.port in
+    let out : Overs files (g.T.Tree.faults c.args.tree.now) (g.T.Tree.faults c.run.new.tree) whole c.args.fuel v.mine over.Out =
+        subst (λ (o : Over). Overs files (g.T.Tree.faults c.args.tree.now) (g.T.Tree.faults c.run.new.tree) whole c.args.fuel v.mine o) c.in-Out.is c.in-Ok.ensures.over in
+    spent_idle (g.P.Port.view c.args.port.now) v files c.args.script whole c.args.fuel c.run.new.course.held c.requires.begun c.run.ensures.stays c.requires.safe c.in-Ok.ensures.holds out
+
+pub returns-in-Out-clause-stays : goal.returns-in-Out-clause-stays
+returns-in-Out-clause-stays g c = stays_trans _ _ _ c.run.ensures.stays c.spent.ensures.stays
+
+pub returns-in-Out-clause-ended : goal.returns-in-Out-clause-ended
+returns-in-Out-clause-ended g c = IfOk-weaker c.spent.result _ _ (λ ending ends. record { before = ends.1.before; paid = c.args.fuel; whole = rw ends.0 ends.1.whole }) c.spent.ensures.ends
+
+pub returns-in-Out-clause-follows : goal.returns-in-Out-clause-follows
+returns-in-Out-clause-follows g c = λ told e.
+    let whole : Run = meaning sources c.args.script c.args.text in
+    let files = g.T.Tree.files c.args.tree.now in
+    let v = g.P.Port.view c.run.new.port in
+    let mine' = (g.P.Port.view c.spent.new.port).mine in
+    let out : Overs files (g.T.Tree.faults c.args.tree.now) (g.T.Tree.faults c.run.new.tree) whole c.args.fuel v.mine over.Out =
+        subst (λ (o : Over). Overs files (g.T.Tree.faults c.args.tree.now) (g.T.Tree.faults c.run.new.tree) whole c.args.fuel v.mine o) c.in-Out.is c.in-Ok.ensures.over in
+    let here : IsSpent (Some told) whole c.args.fuel v.mine out.0 = subst (λ (o : Option Files). IsSpent o whole c.args.fuel v.mine out.0) e out.1 in
+    let number : v.number ≡ c.args.script = c.run.ensures.stays.number ∙ c.requires.begun.number in
+    IfOk-weaker c.spent.result _ _ (λ ending ends. rw ends.0
+    (follows_out told c.args.script whole c.args.fuel out.0 v.mine mine' here (subst (λ (t : ℕ). GaveAll t v.mine mine' o.Fuel c.args.fuel) number ends.1) c.requires.safe)) c.spent.ensures.ends
+
+pub returns-in-Out-clause-part : goal.returns-in-Out-clause-part
+returns-in-Out-clause-part g c = λ told e.
+    let whole : Run = meaning sources c.args.script c.args.text in
+    let files = g.T.Tree.files c.args.tree.now in
+    let v = g.P.Port.view c.run.new.port in
+    let mine' = (g.P.Port.view c.spent.new.port).mine in
+    let out : Overs files (g.T.Tree.faults c.args.tree.now) (g.T.Tree.faults c.run.new.tree) whole c.args.fuel v.mine over.Out =
+        subst (λ (o : Over). Overs files (g.T.Tree.faults c.args.tree.now) (g.T.Tree.faults c.run.new.tree) whole c.args.fuel v.mine o) c.in-Out.is c.in-Ok.ensures.over in
+    let here : IsSpent (Some told) whole c.args.fuel v.mine out.0 = subst (λ (o : Option Files). IsSpent o whole c.args.fuel v.mine out.0) e out.1 in
+    let number : v.number ≡ c.args.script = c.run.ensures.stays.number ∙ c.requires.begun.number in
+    on_err_then c.spent.result c.spent.ensures.part (λ gave. broken_out told c.args.script whole c.args.fuel out.0 v.mine mine' _ _ here (subst (λ (t : ℕ). Gave t v.mine mine') number gave))
+
+pub returns-in-Out-clause-read : goal.returns-in-Out-clause-read
+returns-in-Out-clause-read g c = IfOk-weaker c.spent.result _ _ (λ ending other is. absurd (other is)) c.spent.ensures.read
+
+pub unread-requires-clause-idle : goal.unread-requires-clause-idle
+unread-requires-clause-idle g c =
+    let whole : Run = meaning sources c.args.script c.args.text in
+    let files = g.T.Tree.files c.args.tree.now in
+    let v = g.P.Port.view c.run.new.port in
+    let lost : Overs files (g.T.Tree.faults c.args.tree.now) (g.T.Tree.faults c.run.new.tree) whole c.args.fuel v.mine (over.Unread c.in-Unread.left) =
+        subst (λ (o : Over). Overs files (g.T.Tree.faults c.args.tree.now) (g.T.Tree.faults c.run.new.tree) whole c.args.fuel v.mine o) c.in-Unread.is c.in-Ok.ensures.over in
+    unread_idle (g.P.Port.view c.args.port.now) v files c.args.script whole c.args.fuel c.in-Unread.left c.run.new.course.held c.requires.begun c.run.ensures.stays c.requires.safe c.in-Ok.ensures.holds lost.0
+
+pub returns-in-Unread-clause-stays : goal.returns-in-Unread-clause-stays
+returns-in-Unread-clause-stays g c = stays_trans _ _ _ c.run.ensures.stays c.unread.ensures.stays
+
+pub returns-in-Unread-clause-ended : goal.returns-in-Unread-clause-ended
+returns-in-Unread-clause-ended g c = IfOk-weaker c.unread.result _ _ (λ ending ends. record { before = ends.1.before; paid = c.args.fuel - c.in-Unread.left; whole = rw ends.0 ends.1.whole }) c.unread.ensures.ends
+
+pub returns-in-Unread-clause-follows : goal.returns-in-Unread-clause-follows
+returns-in-Unread-clause-follows g c = λ told e.
+    let whole : Run = meaning sources c.args.script c.args.text in
+    let files = g.T.Tree.files c.args.tree.now in
+    let v = g.P.Port.view c.run.new.port in
+    let mine' = (g.P.Port.view c.unread.new.port).mine in
+    let lost : Overs files (g.T.Tree.faults c.args.tree.now) (g.T.Tree.faults c.run.new.tree) whole c.args.fuel v.mine (over.Unread c.in-Unread.left) =
+        subst (λ (o : Over). Overs files (g.T.Tree.faults c.args.tree.now) (g.T.Tree.faults c.run.new.tree) whole c.args.fuel v.mine o) c.in-Unread.is c.in-Ok.ensures.over in
+    let here : IsUnread (Some told) whole c.args.fuel v.mine c.in-Unread.left = subst (λ (o : Option Files). IsUnread o whole c.args.fuel v.mine c.in-Unread.left) e lost.0 in
+    let number : v.number ≡ c.args.script = c.run.ensures.stays.number ∙ c.requires.begun.number in
+    IfOk-weaker c.unread.result _ _ (λ ending ends. rw ends.0
+    (follows_read told c.args.script whole c.args.fuel c.in-Unread.left v.mine mine' here (subst (λ (t : ℕ). GaveAll t v.mine mine' o.Read (c.args.fuel - c.in-Unread.left)) number ends.1) c.requires.safe)) c.unread.ensures.ends
+
+pub returns-in-Unread-clause-part : goal.returns-in-Unread-clause-part
+returns-in-Unread-clause-part g c = λ told e.
+    let whole : Run = meaning sources c.args.script c.args.text in
+    let files = g.T.Tree.files c.args.tree.now in
+    let v = g.P.Port.view c.run.new.port in
+    let mine' = (g.P.Port.view c.unread.new.port).mine in
+    let lost : Overs files (g.T.Tree.faults c.args.tree.now) (g.T.Tree.faults c.run.new.tree) whole c.args.fuel v.mine (over.Unread c.in-Unread.left) =
+        subst (λ (o : Over). Overs files (g.T.Tree.faults c.args.tree.now) (g.T.Tree.faults c.run.new.tree) whole c.args.fuel v.mine o) c.in-Unread.is c.in-Ok.ensures.over in
+    let here : IsUnread (Some told) whole c.args.fuel v.mine c.in-Unread.left = subst (λ (o : Option Files). IsUnread o whole c.args.fuel v.mine c.in-Unread.left) e lost.0 in
+    let number : v.number ≡ c.args.script = c.run.ensures.stays.number ∙ c.requires.begun.number in
+    on_err_then c.unread.result c.unread.ensures.part (λ gave. broken_read told c.args.script whole c.args.fuel c.in-Unread.left v.mine mine' _ _ here (subst (λ (t : ℕ). Gave t v.mine mine') number gave) lost.1)
+
+pub returns-in-Unread-clause-read : goal.returns-in-Unread-clause-read
+returns-in-Unread-clause-read g c =
+    let whole : Run = meaning sources c.args.script c.args.text in
+    let files = g.T.Tree.files c.args.tree.now in
+    let v = g.P.Port.view c.run.new.port in
+    let lost : Overs files (g.T.Tree.faults c.args.tree.now) (g.T.Tree.faults c.run.new.tree) whole c.args.fuel v.mine (over.Unread c.in-Unread.left) =
+        subst (λ (o : Over). Overs files (g.T.Tree.faults c.args.tree.now) (g.T.Tree.faults c.run.new.tree) whole c.args.fuel v.mine o) c.in-Unread.is c.in-Ok.ensures.over in
+    if_ok c.unread.result (λ ending is. lost.1)

@@ -1,0 +1,278 @@
+//! Faults, and the errors that they are raised as.
+ghost use Rattle.std.specs.Prelude.{◌≡◌, IfOk, codes, ◌++◌};
+ghost use Rattle.std.specs.Fmt.{decimal};
+ghost use Rattle.py_faults.specs.Faults.{error_of};
+ghost use Rattle.py_faults.specs.Faults as table;
+ghost use Rattle.py_faults.specs.declared.fault.Fault.TheVariants as faults;
+ghost use Rattle.py_value.specs.declared.kind.Kind.TheVariants as kinds;
+
+use base_types::{NoMemory, Text};
+use py_value::{Kind, Native, Raised, TypeName};
+use std::alloc::Global;
+
+/// What goes wrong in a script, apart from what an operator raises by itself.
+#[derive(Drop)]
+pub enum Fault {
+    /// A name has no value (Language Reference 4.2.2).
+    NotDefined(Text),
+    /// A local variable has no value.
+    Unbound(Text),
+    /// A module has no such attribute; whether it is initialising still.
+    NoAttribute {
+        is_initialising: bool,
+        module: Text,
+        name: Text,
+    },
+    /// An attribute that is to be deleted is not there.
+    NotDeleted(Text),
+    /// A built-in function was given too few or too many arguments.
+    ArgumentCount(Native),
+    /// A function that takes so many arguments was given so many.
+    Parameters {
+        function: Text,
+        takes: usize,
+        given: usize,
+    },
+    /// A value of this type has no length.
+    NoLength(TypeName),
+    /// The name of an attribute is no text.
+    NameNotText,
+    /// Items of a value of this type cannot be set or deleted.
+    NoItemAssignment(TypeName),
+    NotCallable(TypeName),
+    /// What was to be raised is no error and no kind.
+    NoException,
+    /// A bare `raise` where no error is handled.
+    NothingToRaise,
+    /// An `except` names what is no kind.
+    NotCaught,
+    /// 200 bodies, calls and imports are open.
+    TooDeep,
+    /// A text has more than 65,536 bytes.
+    TextTooLong,
+    /// What the language of scripts leaves out.
+    NotInProfile,
+    /// What is not built so far.
+    NotBuilt,
+    /// The entry of the name in the cache is `None`.
+    Halted(Text),
+    /// No module of the name was found.
+    NotFound(Text),
+    /// Waiting for the lock of the name would close a cycle.
+    Deadlock(Text),
+    /// The entry of the name was dropped while its body ran.
+    Lost(Text),
+    /// The file has more than 1,048,576 bytes.
+    TooLong,
+    /// This error.
+    Given(Raised),
+}
+
+/// An error without a name.
+fn plain(alloc: Global, kind: Kind, text: &str) -> Result<Raised, NoMemory>
+    ensures { IfOk result (λ error. error ≡ table.raised kind text.now) }
+{
+    Ok(Raised {
+        kind,
+        text: Text::from_str(alloc, text)?,
+        name: None,
+    })
+}
+
+/// A text between two others.
+fn joined(alloc: Global, front: &str, middle: &str, back: &str) -> Result<Text, NoMemory>
+    ensures { IfOk result (λ text. text ≡ front.now ++ middle.now ++ back.now) }
+{
+    Ok(Text::from_string(format!(in alloc; "{front}{middle}{back}")?))
+}
+
+/// An error with a text around another one.
+fn around(
+    alloc: Global,
+    kind: Kind,
+    front: &str,
+    middle: &str,
+    back: &str,
+) -> Result<Raised, NoMemory>
+    ensures { IfOk result (λ error. error ≡ table.raised kind (front.now ++ middle.now ++ back.now)) }
+{
+    Ok(Raised {
+        kind,
+        text: joined(alloc, front, middle, back)?,
+        name: None,
+    })
+}
+
+/// The error of an attribute that a module lacks, with the texts around it.
+fn lacking(
+    alloc: Global,
+    front: &str,
+    module: &str,
+    name: &str,
+    back: &str,
+) -> Result<Raised, NoMemory>
+    ensures { IfOk result (λ error. error ≡ table.raised kinds.AttributeError (front.now ++ module.now ++ codes "' has no attribute '" ++ name.now ++ back.now)) }
+{
+    let start = joined(alloc, front, module, "' has no attribute '")?;
+    around(alloc, Kind::AttributeError, start.as_str(), name, back)
+}
+
+/// The error of an attribute that a module lacks.
+fn no_attribute(
+    alloc: Global,
+    is_initialising: bool,
+    module: &str,
+    name: &str,
+) -> Result<Raised, NoMemory>
+    ensures { IfOk result (λ error. error ≡ error_of (faults.NoAttribute is_initialising module.now name.now)) }
+{
+    if is_initialising {
+        let front = "partially initialized module '";
+        let back = "' (most likely due to a circular import)";
+        return lacking(alloc, front, module, name, back);
+    }
+    lacking(alloc, "module '", module, name, "'")
+}
+
+/// A text with a number between two others.
+fn counted(alloc: Global, front: &str, n: usize, back: &str) -> Result<Text, NoMemory>
+    ensures { IfOk result (λ text. text ≡ front.now ++ decimal n ++ back.now) }
+{
+    Ok(Text::from_string(format!(in alloc; "{front}{n}{back}")?))
+}
+
+/// The error of a call with so many arguments of a function that takes so many.
+fn parameters(alloc: Global, function: &str, takes: usize, given: usize) -> Result<Raised, NoMemory>
+    ensures { IfOk result (λ error. error ≡ error_of (faults.Parameters function.now takes given)) }
+{
+    let start = joined(alloc, "", function, "() takes ")?;
+    let middle = counted(alloc, start.as_str(), takes, " arguments, ")?;
+    let text = counted(alloc, middle.as_str(), given, " given")?;
+    plain(alloc, Kind::TypeError, text.as_str())
+}
+
+/// The error of a module that was not found.
+fn not_found(alloc: Global, front: &str, name: Text, back: &str) -> Result<Raised, NoMemory>
+    ensures { IfOk result (λ error. error ≡ table.not_found (front.now ++ name ++ back.now) name) }
+{
+    let text = format!(in alloc; "{front}{}{back}", name.as_str())?;
+    Ok(Raised {
+        kind: Kind::ModuleNotFoundError,
+        text: Text::from_string(text),
+        name: Some(name),
+    })
+}
+
+/// The error that a fault is raised as.
+pub fn raised(alloc: Global, fault: Fault) -> Result<Raised, NoMemory>
+    ensures { IfOk result (λ error. error ≡ error_of fault) }
+{
+    let (kind, text) = match fault {
+        Fault::NotDefined(x) => {
+            return around(
+                alloc,
+                Kind::NameError,
+                "name '",
+                x.as_str(),
+                "' is not defined",
+            );
+        }
+        Fault::Unbound(x) => {
+            let back = "' where it is not associated with a value";
+            return around(
+                alloc,
+                Kind::UnboundLocalError,
+                "cannot access local variable '",
+                x.as_str(),
+                back,
+            );
+        }
+        Fault::NoAttribute {
+            is_initialising,
+            module,
+            name,
+        } => {
+            return no_attribute(alloc, is_initialising, module.as_str(), name.as_str());
+        }
+        Fault::NotDeleted(x) => {
+            return around(
+                alloc,
+                Kind::AttributeError,
+                "'module' object has no attribute '",
+                x.as_str(),
+                "'",
+            );
+        }
+        Fault::ArgumentCount(native) => {
+            return around(
+                alloc,
+                Kind::TypeError,
+                "wrong number of arguments for ",
+                native.name(),
+                "()",
+            );
+        }
+        Fault::Parameters {
+            function,
+            takes,
+            given,
+        } => {
+            return parameters(alloc, function.as_str(), takes, given);
+        }
+        Fault::NoLength(t) => {
+            return around(
+                alloc,
+                Kind::TypeError,
+                "object of type '",
+                t.text(),
+                "' has no len()",
+            );
+        }
+        Fault::NoItemAssignment(t) => {
+            return around(
+                alloc,
+                Kind::TypeError,
+                "'",
+                t.text(),
+                "' object does not support item assignment",
+            );
+        }
+        Fault::NotCallable(t) => {
+            return around(
+                alloc,
+                Kind::TypeError,
+                "'",
+                t.text(),
+                "' object is not callable",
+            );
+        }
+        Fault::Halted(n) => {
+            return not_found(alloc, "import of ", n, " halted; None in sys.modules");
+        }
+        Fault::NotFound(n) => return not_found(alloc, "No module named '", n, "'"),
+        Fault::Deadlock(n) => {
+            return around(
+                alloc,
+                Kind::DeadlockError,
+                "deadlock detected by _ModuleLock('",
+                n.as_str(),
+                "')",
+            );
+        }
+        Fault::Lost(n) => return around(alloc, Kind::KeyError, "'", n.as_str(), "'"),
+        Fault::Given(error) => return Ok(error),
+        Fault::NameNotText => (Kind::TypeError, "attribute name must be string"),
+        Fault::NoException => (Kind::TypeError, "exceptions must derive from BaseException"),
+        Fault::NothingToRaise => (Kind::RuntimeError, "No active exception to reraise"),
+        Fault::NotCaught => (
+            Kind::TypeError,
+            "catching classes that do not inherit from BaseException is not allowed",
+        ),
+        Fault::TooDeep => (Kind::RecursionError, "maximum recursion depth exceeded"),
+        Fault::TextTooLong => (Kind::ProfileError, "text too long"),
+        Fault::NotInProfile => (Kind::ProfileError, "not in the profile"),
+        Fault::NotBuilt => (Kind::ProfileError, "not built yet"),
+        Fault::TooLong => (Kind::SyntaxError, "source is longer than 1048576 bytes"),
+    };
+    plain(alloc, kind, text)
+}

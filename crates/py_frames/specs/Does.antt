@@ -1,0 +1,287 @@
+-- What the work that remains will do, in the words of the meaning.
+use Rattle.std.specs.Prelude.{◌≡◌, ℕ, zero, suc, List, [], ◌∷◌, ◌++◌, map, drop, length, slice_get, Option, Some, None, Bool, true, false}
+use Rattle.py_value.specs.declared.value.Raised.{Raised as Error}
+use Rattle.py_value.specs.declared.value.Value.{Value}
+use Rattle.machine_events.specs.declared.event.Event.TheVariants as e
+use Rattle.machine_events.specs.declared.event.Reply.{Reply}
+use Rattle.meanings.specs.Runs.{Run, Pays, Looks, Makes, StampOf}
+use Rattle.py_syntax.specs.declared.expr.Expr.{Expr, out-Expr}
+use Rattle.py_syntax.specs.declared.expr.Expr.TheOpen.{Expr-F}
+use Rattle.py_syntax.specs.declared.stmt.Alias.{Alias}
+use Rattle.py_syntax.specs.declared.stmt.Branch.{Branch}
+use Rattle.py_syntax.specs.declared.stmt.FuncDef.{FuncDef}
+use Rattle.py_syntax.specs.declared.stmt.Handler.{Handler}
+use Rattle.py_syntax.specs.declared.stmt.Stmt.{Stmt, out-Stmt}
+use Rattle.py_syntax.specs.declared.stmt.Stmt.TheOpen.{Stmt-F}
+use Rattle.py_faults.specs.declared.fault.Fault.TheVariants as fault
+use Rattle.py_state.specs.declared.flow.Flow.{Flow}
+use Rattle.py_state.specs.declared.flow.Flow.TheVariants.{Went, Left}
+use Rattle.py_state.specs.declared.thread.State.{State}
+use Rattle.py_state.specs.declared.thread.Thread.{Thread}
+use Rattle.py_meaning.specs.Pieces.{Piece, Onward, pay, calls, after_reply, on_value, done, passes, fails, sized, gathers, in_order, built, decides}
+use Rattle.py_meaning.specs.Names.{reads_global, read_global, member, member_read, stores, stored, deleted, member_deleted}
+use Rattle.py_meaning.specs.Calls.{telling, defaulting}
+use Rattle.py_meaning.specs.Operators.{Around, operands_at, applies_at, atom_at, conjoins, disjoins, eval}
+use Rattle.py_meaning.specs.Statements.{BranchPiece, HandlerPiece, DefPiece, augment, stmt_operands_at, performs_at, imports_one, imports_all, tests, turn, turns, looped, handled, handles, binds_error, chosen, takes, catches, tried, tries, finishes, resumes, guards, unbinds, defines, run, branch, handler, run_all}
+use Rattle.py_meaning.specs.Imports.{opens}
+use Rattle.py_meaning.specs.Meaning.{World, around_at, calls_at, imports_at, bodies_at, starts, loaded, body_gives, ends}
+use Rattle.find_load.specs.Means.{means}
+use Rattle.find_load.specs.declared.words.In.{In}
+use Rattle.find_load.specs.declared.words.In.TheVariants as given
+use Rattle.py_frames.specs.declared.work.Procedure.{Procedure}
+use Rattle.py_frames.specs.declared.work.Procedure.TheVariants.{Import}
+use Rattle.py_frames.specs.declared.work.Form.{Form}
+use Rattle.py_frames.specs.declared.work.Form.TheVariants.{Expression, Statement}
+use Rattle.py_frames.specs.declared.work.Item.{Item}
+use Rattle.py_frames.specs.declared.work.Item.TheVariants as it
+use Rattle.py_frames.specs.declared.work.Frame.{Frame}
+use Rattle.py_frames.specs.declared.work.Frame.TheVariants as frame
+use Rattle.py_frames.specs.declared.want.OnReply.{OnReply}
+use Rattle.py_frames.specs.declared.want.OnReply.TheVariants as on
+use Rattle.py_frames.specs.declared.want.Want.{Want}
+use Rattle.py_frames.specs.declared.want.Want.TheVariants as want
+
+-- the rest of the work, by how many more bodies, calls and imports may be open
+abbrev pub Rest : Type 0
+Rest = ℕ → Onward
+
+-- ---- parts of trees
+
+-- the statement at a place of a block, where there is one
+abbrev pub operands_of_stmt : Option Stmt → List Expr
+operands_of_stmt None = []
+operands_of_stmt (Some s) = stmt_operands_at (out-Stmt s)
+
+abbrev pub performs : Option Stmt → List Value → Piece
+performs None vs = fails fault.NotInProfile
+performs (Some s) vs = performs_at (out-Stmt s) vs
+
+abbrev pub operands_of : Form → List Expr
+operands_of (Expression e) = operands_at (out-Expr e)
+operands_of (Statement stmts at) = operands_of_stmt (slice_get stmts at)
+
+-- a form on the values of its operands: an operator is paid for first
+abbrev pub completes : Around → Form → List Value → Piece
+completes around (Expression e) vs = λ s k. pay 1 (applies_at around (out-Expr e) vs s (sized k))
+completes around (Statement stmts at) vs = performs (slice_get stmts at) vs
+
+-- `and` and `or` behind their left operand
+abbrev pub chooses_at : Around → Expr-F Expr → Value → Piece
+chooses_at around (Expr-F.And a b) v = conjoins (eval around b) v
+chooses_at around (Expr-F.Or a b) v = disjoins (eval around b) v
+chooses_at around form v = fails fault.NotInProfile
+
+abbrev pub chooses : Around → Expr → Value → Piece
+chooses around e v = chooses_at around (out-Expr e) v
+
+abbrev pub aliases_at : Stmt-F Stmt Branch FuncDef Handler → List Alias
+aliases_at (Stmt-F.Import items) = items
+aliases_at stmt = []
+
+abbrev pub aliases_of : Option Stmt → List Alias
+aliases_of None = []
+aliases_of (Some s) = aliases_at (out-Stmt s)
+
+abbrev pub imports_some : Around → Option Alias → Piece
+imports_some around None = fails fault.NotInProfile
+imports_some around (Some a) = imports_one around a
+
+abbrev pub branches : Around → List Branch → List BranchPiece
+branches around bs = map (branch around) bs
+
+abbrev pub handlers : Around → List Handler → List HandlerPiece
+handlers around hs = map (handler around) hs
+
+-- a `try` without its `finally` block
+abbrev pub tries_at : Around → Stmt-F Stmt Branch FuncDef Handler → Piece
+tries_at around (Stmt-F.Try body hs otherwise last) = tries (run_all around body) (handlers around hs) (run_all around otherwise)
+tries_at around stmt = fails fault.NotInProfile
+
+abbrev pub tries_some : Around → Option Stmt → Piece
+tries_some around None = fails fault.NotInProfile
+tries_some around (Some s) = tries_at around (out-Stmt s)
+
+-- behind the first block of a `try`
+abbrev pub tried_at : Around → Stmt-F Stmt Branch FuncDef Handler → Onward → Onward
+tried_at around (Stmt-F.Try body hs otherwise last) k = tried (handlers around hs) (run_all around otherwise) k
+tried_at around stmt k = k
+
+abbrev pub tried_some : Around → Option Stmt → Onward → Onward
+tried_some around None k = k
+tried_some around (Some s) k = tried_at around (out-Stmt s) k
+
+-- a statement, once its unit is paid
+abbrev pub begun_at : Around → Stmt-F Stmt Branch FuncDef Handler → Piece
+begun_at around (Stmt-F.Import items) = imports_all around items
+begun_at around (Stmt-F.From dots parts names) = fails fault.NotBuilt
+begun_at around (Stmt-F.If bs otherwise) = tests (branches around bs) (run_all around otherwise)
+begun_at around (Stmt-F.Try body hs otherwise last) =
+    guards (map (run around) last) (tries (run_all around body) (handlers around hs) (run_all around otherwise))
+begun_at around (Stmt-F.Def f) = defines (record { number = f.number; name = f.name })
+begun_at around stmt = gathers (map (eval around) (stmt_operands_at stmt)) [] (performs_at stmt)
+
+abbrev pub begun : Around → Option Stmt → Piece
+begun around None = fails fault.NotInProfile
+begun around (Some s) = begun_at around (out-Stmt s)
+
+abbrev pub runs_some : Around → Option Stmt → Piece
+runs_some around None = fails fault.NotInProfile
+runs_some around (Some s) = run around s
+
+-- the handlers from a place on
+abbrev pub catches_from : Around → List Handler → ℕ → Error → Piece
+catches_from around hs at error = catches (handlers around (drop at hs)) error
+
+abbrev pub binds_some : Around → Option Handler → Error → Piece
+binds_some around None error = fails fault.NotInProfile
+binds_some around (Some h) error = binds_error (handler around h) error h.bound
+
+abbrev pub handles_some : Around → Option Handler → Error → Piece
+handles_some around None error = fails fault.NotInProfile
+handles_some around (Some h) error = handles (handler around h) error
+
+abbrev pub chosen_some : Around → Option Handler → Error → Piece → Option Bool → Piece
+chosen_some around None error others taken = fails fault.NotInProfile
+chosen_some around (Some h) error others taken = chosen (handler around h) error others taken
+
+abbrev pub decides_some : Around → Option Branch → Value → Piece → Piece
+decides_some around None v others = fails fault.NotInProfile
+decides_some around (Some b) v others = decides v (run_all around b.body) others
+
+-- ---- procedures, and the depth of calls
+
+abbrev pub fed : World → ℕ → Procedure → In → Piece
+fed w left (Import p) input = means (bodies_at w left) p input
+
+-- a body that is paid for, where one more may be open
+abbrev pub begins_at : World → ℕ → ℕ → ℕ → List ℕ → Piece
+begins_at w zero mid load text = fails fault.TooDeep
+begins_at w (suc left) mid load text = starts (around_at w left) mid load (w text)
+
+-- a function's text came, where one more call may be open
+abbrev pub loaded_at : World → ℕ → ℕ → ℕ → List Value → Reply → Piece
+loaded_at w zero load index vs reply = fails fault.TooDeep
+loaded_at w (suc left) load index vs reply = loaded w (around_at w left) load index vs reply
+
+-- ---- one piece of work, where `next` is the rest
+
+abbrev pub item_piece : World → ℕ → Item → Piece
+item_piece w d (it.Give flow) = λ s k. k flow s
+item_piece w d (it.Eval e) = eval (around_at w d) e
+item_piece w d (it.Atom e) = λ s k. atom_at (out-Expr e) s (sized k)
+item_piece w d (it.Operands form vs) = gathers (map (eval (around_at w d)) (drop (length vs) (operands_of form))) vs (completes (around_at w d) form)
+item_piece w d (it.Apply e vs) = λ s k. applies_at (around_at w d) (out-Expr e) vs s (sized k)
+item_piece w d (it.Perform stmts at vs) = performs (slice_get stmts at) vs
+item_piece w d (it.Choose e v) = chooses (around_at w d) e v
+item_piece w d (it.ReadGlobal x) = reads_global x
+item_piece w d (it.Member object x) = member object x
+item_piece w d (it.Call f vs) = calls_at w d f vs
+item_piece w d (it.Store x v) = stores x v
+item_piece w d (it.Augment x o vs) = augment x o vs
+item_piece w d (it.Block stmts at) = run_all (around_at w d) (drop at stmts)
+item_piece w d (it.Statement stmts at) = runs_some (around_at w d) (slice_get stmts at)
+item_piece w d (it.Begun stmts at) = begun (around_at w d) (slice_get stmts at)
+item_piece w d (it.Imports stmts at place) = imports_all (around_at w d) (drop place (aliases_of (slice_get stmts at)))
+item_piece w d (it.Alias stmts at place) = imports_some (around_at w d) (slice_get (aliases_of (slice_get stmts at)) place)
+item_piece w d (it.Import x) = imports_at w d x
+item_piece w d (it.Feed p input) = fed w d p input
+item_piece w d (it.Start mid load text) = bodies_at w d mid load text
+item_piece w d (it.Begin mid load text) = begins_at w d mid load text
+item_piece w d (it.Branches bs at otherwise) = tests (branches (around_at w d) (drop at bs)) (run_all (around_at w d) otherwise)
+item_piece w d (it.Turn test body n) = turns n (eval (around_at w d) test) (run_all (around_at w d) body)
+item_piece w d (it.Test test body n) = turn (eval (around_at w d) test) (run_all (around_at w d) body) (turns n (eval (around_at w d) test) (run_all (around_at w d) body))
+item_piece w d (it.Try stmts at) = tries_some (around_at w d) (slice_get stmts at)
+item_piece w d (it.Match hs at error) = catches_from (around_at w d) hs at error
+item_piece w d (it.Bind hs at error) = binds_some (around_at w d) (slice_get hs at) error
+item_piece w d (it.Handle hs at error) = handles_some (around_at w d) (slice_get hs at) error
+
+abbrev pub item_does : World → ℕ → Item → Rest → State → Run
+item_does w d item next s = item_piece w d item s (next d)
+
+-- what waits, and then `next`
+abbrev pub frame_does : World → ℕ → Frame → Rest → Onward
+frame_does w d frame.Sized next = sized (next d)
+frame_does w d (frame.Operands form vs) next =
+    on_value (next d) (λ v s.
+    gathers (map (eval (around_at w d)) (drop (suc (length vs)) (operands_of form))) (vs ++ v ∷ []) (completes (around_at w d) form) s (next d))
+frame_does w d (frame.Second e) next = on_value (next d) (λ v s. pay 1 (chooses (around_at w d) e v s (next d)))
+frame_does w d (frame.Block stmts at) next = on_value (next d) (λ _ s. run_all (around_at w d) (drop at stmts) s (next d))
+frame_does w d (frame.Test bs at otherwise) next =
+    on_value (next d) (λ v s.
+    decides_some (around_at w d) (slice_get bs at) v (tests (branches (around_at w d) (drop (suc at) bs)) (run_all (around_at w d) otherwise)) s (next d))
+frame_does w d (frame.Decide test body n) next =
+    on_value (next d) (λ v s.
+    decides v (λ s k. run_all (around_at w d) body s (looped k (turns n (eval (around_at w d) test) (run_all (around_at w d) body)))) passes s (next d))
+frame_does w d (frame.Loop test body n) next = looped (next d) (turns n (eval (around_at w d) test) (run_all (around_at w d) body))
+frame_does w d (frame.Handlers stmts at) next = tried_some (around_at w d) (slice_get stmts at) (next d)
+frame_does w d (frame.Catch hs at error) next =
+    on_value (next d) (λ v s.
+    built (v ∷ []) (chosen_some (around_at w d) (slice_get hs at) error (catches_from (around_at w d) hs (suc at) error) (takes error.kind v)) s (next d))
+frame_does w d (frame.Handle hs at error) next = on_value (next d) (λ _ s. handles_some (around_at w d) (slice_get hs at) error s (next d))
+frame_does w d (frame.EndHandler bound) next = λ flow s. unbinds bound flow (handled s) (next d)
+frame_does w d (frame.Finally block) next = finishes (run_all (around_at w d) block) (next d)
+frame_does w d (frame.Resume flow) next = resumes flow (next d)
+frame_does w d (frame.Store x) next = on_value (next d) (λ v s. stores x v s (next d))
+frame_does w d (frame.Imports stmts at place) next =
+    on_value (next d) (λ _ s. imports_all (around_at w d) (drop place (aliases_of (slice_get stmts at))) s (next d))
+frame_does w d (frame.Imported left) next = next left
+frame_does w d (frame.Open p) next = λ flow s. fed w d p (given.Ended flow) s (next d)
+frame_does w d (frame.Back scope left) next =
+    λ flow s. next left (body_gives flow) (record { scope = scope; kept = s.kept; handling = s.handling })
+frame_does w d frame.HasAttr next = telling (next d)
+frame_does w d (frame.GetAttr v) next = defaulting (next d) v
+
+-- the work that remains
+abbrev pub rest : World → List Frame → Rest
+rest w [] d = ends
+rest w (f ∷ fs) d = frame_does w d f (rest w fs)
+
+-- what goes on by a reply
+abbrev pub reply_piece : World → ℕ → OnReply → Reply → Piece
+reply_piece w d on.Done reply = passes
+reply_piece w d (on.Global x) reply = read_global reply x
+reply_piece w d (on.Member m x) reply = member_read reply m x
+reply_piece w d on.Stored reply = stored reply
+reply_piece w d (on.Deleted x) reply = deleted reply x
+reply_piece w d (on.MemberDeleted x) reply = member_deleted reply x
+reply_piece w d (on.Unbound flow) reply = λ s k. k flow s
+reply_piece w d (on.Sourced load index vs) reply = loaded_at w d load index vs reply
+reply_piece w d (on.Feed p) reply = fed w d p (given.Replied reply)
+
+abbrev pub reply_does : World → ℕ → OnReply → Rest → State → Reply → Run
+reply_does w d o next s reply = reply_piece w d o reply s (next d)
+
+-- ---- what is wanted, where `next` is the rest of the work
+
+abbrev pub want_does : World → ℕ → Want → Rest → State → Run
+want_does w d (want.Go flow) next s = next d flow s
+want_does w d (want.Then item) next s = item_does w d item next s
+want_does w d (want.Both item f) next s = item_does w d item (λ d. frame_does w d f next) s
+want_does w d (want.Pay of_tree units item) next s = Pays of_tree units (item_does w d item next s)
+want_does w d (want.Call event o) next s = calls event (λ reply. reply_does w d o next s reply)
+want_does w d (want.Replied o reply) next s = after_reply reply (reply_does w d o next s reply)
+want_does w d (want.Wait item) next s = Makes e.Wake (λ _. item_does w d item next s)
+want_does w d (want.Stamp path p) next s = Looks (StampOf path) (λ at. fed w d p (given.Stamped at) s (next d))
+want_does w d (want.File path p) next s =
+    Looks (StampOf path) (opens path (fed w d p (given.Opened None) s (next d)) (λ o. fed w d p (given.Opened (Some o)) s (next d)))
+
+-- what is wanted in a thread does what `run` does, over this world
+pub record DoesIn (w : World) (after : Thread) (run : Rest → Run) (want : Want) : Type 0 where
+  pub does : (next : Rest) → want_does w after.left want next after.state ≡ run next
+
+-- the same over every world
+pub record Does (after : Thread) (run : World → Rest → Run) (want : Want) : Type 0 where
+  pub does : (w : World) (next : Rest) → want_does w after.left want next after.state ≡ run w next
+
+-- from a thread on: a piece of work, a piece of the meaning, a frame that a way on comes to, and a reply
+abbrev pub begins : Item → Thread → World → Rest → Run
+begins item th w next = item_does w th.left item next th.state
+
+abbrev pub pieces : (World → ℕ → Piece) → Thread → World → Rest → Run
+pieces piece th w next = piece w th.left th.state (next th.left)
+
+abbrev pub goes_on : Frame → Flow → Thread → World → Rest → Run
+goes_on f flow th w next = frame_does w th.left f next flow th.state
+
+abbrev pub replies : OnReply → Reply → Thread → World → Rest → Run
+replies o reply th w next = reply_does w th.left o next th.state reply

@@ -1,0 +1,289 @@
+//! The work that remains of a script.
+ghost use Rattle.std.specs.Prelude.{◌≡◌, [], ◌∷◌, MatchOption, OnOk, OnErr};
+
+use base_types::{NoMemory, Seq, Text};
+use find_load::{Importer, In};
+use py_state::{Flow, Leave, Scope, Stack};
+use py_syntax::{BinaryOp, Branch, Expr, Handler, Stmt};
+use py_value::{Raised, Value};
+use shared::Shared;
+use std::alloc::Global;
+use std::marker::Model;
+
+/// A procedure that is open.
+#[derive(Drop)]
+pub enum Procedure {
+    Import(Importer),
+}
+
+/// What operands are gathered for: an expression, or the statement at a place of a block.
+#[derive(Drop)]
+pub enum Form {
+    Expression(Shared<Expr>),
+    Statement(Shared<Seq<Stmt>>, usize),
+}
+
+/// A piece of work that comes next.
+#[derive(Drop)]
+pub enum Item {
+    /// Nothing more than the way on.
+    Give(Flow),
+    /// An expression.
+    Eval(Shared<Expr>),
+    /// An atom, once its unit is paid.
+    Atom(Shared<Expr>),
+    /// The operands of a form that have no values yet, and then the form.
+    Operands {
+        form: Form,
+        done: Seq<Value>,
+    },
+    /// An operator on the values of its operands, once its unit is paid.
+    Apply {
+        expr: Shared<Expr>,
+        values: Seq<Value>,
+    },
+    /// A simple statement on the values of its operands.
+    Perform {
+        stmts: Shared<Seq<Stmt>>,
+        at: usize,
+        values: Seq<Value>,
+    },
+    /// `and` or `or`, once its left operand has a value and its unit is paid.
+    Choose {
+        expr: Shared<Expr>,
+        left: Value,
+    },
+    /// A variable of the module.
+    ReadGlobal(Text),
+    /// An attribute.
+    Member {
+        object: Value,
+        name: Text,
+    },
+    /// A call.
+    Call {
+        callee: Value,
+        arguments: Seq<Value>,
+    },
+    /// A name is bound to a value.
+    Store {
+        name: Text,
+        value: Value,
+    },
+    /// An augmented assignment, once its operator's unit is paid.
+    Augment {
+        name: Text,
+        op: BinaryOp,
+        values: Seq<Value>,
+    },
+    /// The statements of a block from a place on.
+    Block {
+        stmts: Shared<Seq<Stmt>>,
+        at: usize,
+    },
+    /// One of them.
+    Statement {
+        stmts: Shared<Seq<Stmt>>,
+        at: usize,
+    },
+    /// One of them, once its unit is paid.
+    Begun {
+        stmts: Shared<Seq<Stmt>>,
+        at: usize,
+    },
+    /// The modules of an `import` from a place on.
+    Imports {
+        stmts: Shared<Seq<Stmt>>,
+        at: usize,
+        place: usize,
+    },
+    /// One of them, with its binding.
+    Alias {
+        stmts: Shared<Seq<Stmt>>,
+        at: usize,
+        place: usize,
+    },
+    /// The import of a name.
+    Import(Text),
+    /// A procedure is fed.
+    Feed(Procedure, In),
+    /// A body of a module or script.
+    Start {
+        mid: u32,
+        load: u32,
+        text: Seq<u8>,
+    },
+    /// A body, once its text is paid for.
+    Begin {
+        mid: u32,
+        load: u32,
+        text: Seq<u8>,
+    },
+    /// The branches of an `if` from a place on.
+    Branches {
+        branches: Shared<Seq<Branch>>,
+        at: usize,
+        otherwise: Shared<Seq<Stmt>>,
+    },
+    /// A loop that can take so many turns.
+    Turn {
+        test: Shared<Expr>,
+        body: Shared<Seq<Stmt>>,
+        turns: u64,
+    },
+    /// A turn, once its unit is paid, and as many more.
+    Test {
+        test: Shared<Expr>,
+        body: Shared<Seq<Stmt>>,
+        turns: u64,
+    },
+    /// A `try` without its `finally` block.
+    Try {
+        stmts: Shared<Seq<Stmt>>,
+        at: usize,
+    },
+    /// The handlers of an error from a place on.
+    Match {
+        handlers: Shared<Seq<Handler>>,
+        at: usize,
+        error: Raised,
+    },
+    /// The handler that takes the error: its name is bound.
+    Bind {
+        handlers: Shared<Seq<Handler>>,
+        at: usize,
+        error: Raised,
+    },
+    /// Its block.
+    Handle {
+        handlers: Shared<Seq<Handler>>,
+        at: usize,
+        error: Raised,
+    },
+}
+
+/// A piece of work that waits for what comes before it.
+#[derive(Drop)]
+pub enum Frame {
+    /// The size of the value is paid.
+    Sized,
+    /// The value of the next operand of a form.
+    Operands {
+        form: Form,
+        done: Seq<Value>,
+    },
+    /// The left operand of `and` or `or`.
+    Second(Shared<Expr>),
+    /// The statements of a block from a place on.
+    Block {
+        stmts: Shared<Seq<Stmt>>,
+        at: usize,
+    },
+    /// The test of a branch.
+    Test {
+        branches: Shared<Seq<Branch>>,
+        at: usize,
+        otherwise: Shared<Seq<Stmt>>,
+    },
+    /// The test of a loop.
+    Decide {
+        test: Shared<Expr>,
+        body: Shared<Seq<Stmt>>,
+        turns: u64,
+    },
+    /// The block of a loop.
+    Loop {
+        test: Shared<Expr>,
+        body: Shared<Seq<Stmt>>,
+        turns: u64,
+    },
+    /// The first block of a `try`.
+    Handlers {
+        stmts: Shared<Seq<Stmt>>,
+        at: usize,
+    },
+    /// The kinds of a handler.
+    Catch {
+        handlers: Shared<Seq<Handler>>,
+        at: usize,
+        error: Raised,
+    },
+    /// The binding of a handler's name.
+    Handle {
+        handlers: Shared<Seq<Handler>>,
+        at: usize,
+        error: Raised,
+    },
+    /// The block of a handler, whose name is unset.
+    EndHandler(Option<Text>),
+    /// What comes before a `finally` block.
+    Finally(Shared<Seq<Stmt>>),
+    /// A `finally` block, behind which this goes on.
+    Resume(Flow),
+    /// A value that the name is bound to.
+    Store(Text),
+    /// An import, behind which the others of a statement come from a place on.
+    Imports {
+        stmts: Shared<Seq<Stmt>>,
+        at: usize,
+        place: usize,
+    },
+    /// An import, within which one fewer may be open.
+    Imported(u32),
+    /// A body that a procedure waits for.
+    Open(Procedure),
+    /// A body: what the caller stands in, and how many may be open there.
+    Back {
+        scope: Scope,
+        left: u32,
+    },
+    /// An attribute, of which it is told whether it is there.
+    HasAttr,
+    /// An attribute, in whose place this comes where it is not there.
+    GetAttr(Value),
+}
+
+/// The work stack of a thread: the list of its frames, the next one first.
+#[derive(Drop)]
+pub struct Work {
+    frames: Stack<Frame>,
+}
+
+impl Model for Work {
+    ghost use Rattle.std.specs.Prelude.{List};
+    ghost use Rattle.std.specs.Coded.{coded_list};
+    ghost use Rattle.py_frames.specs.declared.work.Frame.{Frame as F};
+    ghost use Rattle.py_frames.specs.contracts.work.Frame.{the_row};
+
+    ghost Value = { List F };
+
+    ghost coded = { coded_list the_row.coded };
+
+    ghost view = { λ w. w.frames };
+}
+
+impl Work {
+    /// No work.
+    pub fn new(alloc: Global) -> Work
+        ensures { result ≡ [] }
+    {
+        Work {
+            frames: Stack::new(alloc),
+        }
+    }
+
+    /// Puts a frame first. A refusal changes nothing.
+    pub fn push(&mut self, frame: Frame) -> Result<(), NoMemory>
+        ensures ok { OnOk result (self.new ≡ frame ∷ self.old) }
+        ensures err { OnErr result (self.new ≡ self.old) }
+    {
+        self.frames.push(frame)
+    }
+
+    /// Takes off the first frame. None exactly where there is none.
+    pub fn pop(&mut self) -> Option<Frame>
+        ensures { MatchOption result ((self.old ≡ []) × (self.new ≡ [])) (λ frame. self.old ≡ frame ∷ self.new) }
+    {
+        self.frames.pop()
+    }
+}

@@ -1,0 +1,128 @@
+-- Calls of kinds and of built-in functions.
+use Rattle.std.specs.Prelude.{ℕ, List, [], ◌∷◌, ◌++◌, codes, Option, Some, None, Bool, true, false, nat_lt, length, if◌then◌else◌, Result, Ok, Err, pos}
+use Rattle.std.specs.List.{join_by}
+use Rattle.py_value.specs.Names.{type_of}
+use Rattle.py_value.specs.declared.kind.Kind.{Kind}
+use Rattle.py_value.specs.declared.kind.Kind.TheVariants as kinds
+use Rattle.py_value.specs.declared.kind.Native.{Native}
+use Rattle.py_value.specs.declared.kind.Native.TheVariants as natives
+use Rattle.py_value.specs.declared.operator.Applied.{Applied}
+use Rattle.py_value.specs.declared.operator.Applied.TheVariants as applied
+use Rattle.py_value.specs.declared.value.Raised.{Raised as Error}
+use Rattle.py_value.specs.declared.value.Value.{Value, out-Value}
+use Rattle.py_value.specs.declared.value.Value.TheVariants as values
+use Rattle.py_value.specs.declared.value.Value.TheOpen.{Value-F}
+use Rattle.value_operators.specs.Items.{length_of}
+use Rattle.value_operators.specs.Texts.{str_of, repr_of}
+use Rattle.machine_events.specs.declared.event.Event.TheVariants as e
+use Rattle.py_faults.specs.Faults.{raised}
+use Rattle.py_faults.specs.declared.fault.Fault.TheVariants as fault
+use Rattle.py_state.specs.declared.flow.Leave.TheVariants.{Raised}
+use Rattle.py_state.specs.declared.flow.Flow.TheVariants.{Went, Left}
+use Rattle.py_meaning.specs.Pieces.{Piece, Onward, calls, fails, gives, built, done}
+use Rattle.py_meaning.specs.Names.{member}
+
+abbrev pub text_at : Value-F Value → List ℕ
+text_at (Value-F.Text text) = text
+text_at v = []
+
+-- the text that a value is
+abbrev pub text_of : Value → List ℕ
+text_of v = text_at (out-Value v)
+
+-- A kind is called for an error of it; for a KeyError its text is the repr of the argument.
+
+abbrev pub made_error : Kind → Applied → Applied
+made_error kind (applied.Value v) = applied.Value (values.Error (raised kind (text_of v)))
+made_error kind (applied.Raised error) = applied.Raised error
+
+abbrev pub error_text : Kind → Value → Applied
+error_text kinds.KeyError v = repr_of v
+error_text kind v = str_of v
+
+abbrev pub calls_kind : Kind → List Value → Piece
+calls_kind kind [] = gives (applied.Value (values.Error (raised kind [])))
+calls_kind kind (v ∷ []) = built (v ∷ []) (gives (made_error kind (error_text kind v)))
+calls_kind kind vs = fails fault.NotInProfile
+
+-- `print` joins the strs of its arguments with blanks, and adds a line end.
+
+abbrev pub with_str : Applied → Result (List (List ℕ)) Error → Result (List (List ℕ)) Error
+with_str (applied.Raised error) others = Err error
+with_str (applied.Value v) (Ok texts) = Ok (text_of v ∷ texts)
+with_str (applied.Value v) (Err error) = Err error
+
+-- the strs, or the first error
+abbrev pub strs_of : List Value → Result (List (List ℕ)) Error
+strs_of [] = Ok []
+strs_of (v ∷ vs) = with_str (str_of v) (strs_of vs)
+
+abbrev pub line_of : List (List ℕ) → List ℕ
+line_of texts = join_by (λ text. text) (codes " ") texts ++ 10 ∷ []
+
+abbrev pub writes : List ℕ → Piece
+writes line = if nat_lt 65536 (length line) then fails fault.TextTooLong else (λ s k. calls (e.Print line) (λ _. k done s))
+
+abbrev pub prints : Result (List (List ℕ)) Error → Piece
+prints (Ok texts) = writes (line_of texts)
+prints (Err error) = λ s k. k (Left (Raised error)) s
+
+-- The other built-in functions.
+
+abbrev pub str_call : List Value → Piece
+str_call [] = gives (applied.Value (values.Text []))
+str_call (v ∷ []) = built (v ∷ []) (gives (str_of v))
+str_call vs = fails (fault.ArgumentCount natives.Str)
+
+abbrev pub repr_call : List Value → Piece
+repr_call (v ∷ []) = built (v ∷ []) (gives (repr_of v))
+repr_call vs = fails (fault.ArgumentCount natives.Repr)
+
+abbrev pub length_given : Option ℕ → Value → Piece
+length_given (Some n) v = gives (applied.Value (values.Int (pos n)))
+length_given None v = fails (fault.NoLength (type_of v))
+
+abbrev pub len_call : List Value → Piece
+len_call (v ∷ []) = built (v ∷ []) (length_given (length_of v) v)
+len_call vs = fails (fault.ArgumentCount natives.Len)
+
+-- reads an attribute whose name is a value
+abbrev pub member_named_at : Value → Value-F Value → Piece
+member_named_at v (Value-F.Text x) = member v x
+member_named_at v name = fails fault.NameNotText
+
+abbrev pub member_named : Value → Value → Piece
+member_named v name = member_named_at v (out-Value name)
+
+-- only an AttributeError is met
+abbrev pub missing_at : Onward → Value → Error → Kind → Onward
+missing_at k v error kinds.AttributeError flow s = k (Went v) s
+missing_at k v error kind flow s = k flow s
+
+-- with this value in place of an attribute that is missing
+abbrev pub defaulting : Onward → Value → Onward
+defaulting k d (Left (Raised error)) s = missing_at k d error error.kind (Left (Raised error)) s
+defaulting k d flow s = k flow s
+
+-- whether an attribute was there
+abbrev pub telling : Onward → Onward
+telling k (Went v) s = k (Went (values.Bool true)) s
+telling k (Left leave) s = defaulting k (values.Bool false) (Left leave) s
+
+abbrev pub hasattr_call : List Value → Piece
+hasattr_call (v ∷ x ∷ []) = λ s k. member_named v x s (telling k)
+hasattr_call vs = fails (fault.ArgumentCount natives.HasAttr)
+
+abbrev pub getattr_call : List Value → Piece
+getattr_call (v ∷ x ∷ []) = member_named v x
+getattr_call (v ∷ x ∷ d ∷ []) = λ s k. member_named v x s (defaulting k d)
+getattr_call vs = fails (fault.ArgumentCount natives.GetAttr)
+
+abbrev pub calls_native : Native → List Value → Piece
+calls_native natives.Print vs = built vs (prints (strs_of vs))
+calls_native natives.Str vs = str_call vs
+calls_native natives.Repr vs = repr_call vs
+calls_native natives.Len vs = len_call vs
+calls_native natives.HasAttr vs = hasattr_call vs
+calls_native natives.GetAttr vs = getattr_call vs
+calls_native native vs = fails fault.NotBuilt

@@ -1,0 +1,164 @@
+-- What calls, imports and bodies mean where so many more may be open, and what a script means.
+use Rattle.std.specs.Prelude.{ℕ, zero, suc, List, [], ◌∷◌, Option, Some, None, nat_eq, length, if◌then◌else◌, Bool}
+use Rattle.std.specs.FinMap as maps
+use Rattle.std.specs.FinMap.{FinMap}
+use Rattle.std.specs.Ordering.{nat_cmp}
+use Rattle.std.specs.Cmp.Lexicographic.{slice_cmp}
+use Rattle.py_value.specs.Names.{type_of}
+use Rattle.py_value.specs.declared.value.Value.{Value, out-Value}
+use Rattle.py_value.specs.declared.value.Value.TheVariants as values
+use Rattle.py_value.specs.declared.value.Value.TheOpen.{Value-F}
+use Rattle.spec_core.specs.Identifiers.{is_dotted}
+use Rattle.machine_events.specs.declared.event.Event.TheVariants as e
+use Rattle.machine_events.specs.declared.event.Reply.{Reply}
+use Rattle.machine_events.specs.declared.event.Reply.TheVariants as r
+use Rattle.machine_events.specs.declared.event.Outcome.{Outcome}
+use Rattle.machine_events.specs.declared.event.Outcome.TheVariants as o
+use Rattle.meanings.specs.Runs.{Run, Over, Ended}
+use Rattle.py_syntax.specs.declared.stmt.FuncDef.{FuncDef}
+use Rattle.py_faults.specs.declared.fault.Fault.TheVariants as fault
+use Rattle.py_state.specs.declared.flow.Leave.TheVariants.{Raised, Return, Break, Continue}
+use Rattle.py_state.specs.declared.flow.Flow.{Flow}
+use Rattle.py_state.specs.declared.flow.Flow.TheVariants.{Went, Left}
+use Rattle.py_functions.specs.Functions.{function_of}
+use Rattle.py_state.specs.declared.thread.FunctionScope.{FunctionScope}
+use Rattle.py_state.specs.declared.thread.Parsing.{Parsing}
+use Rattle.py_state.specs.declared.thread.Parsing.TheVariants.{Parsed, Faulty}
+use Rattle.py_state.specs.declared.thread.Source.{Source}
+use Rattle.py_state.specs.declared.thread.State.{State}
+use Rattle.py_meaning.specs.Pieces.{Piece, Onward, pay, calls, text_units, most, done, fails}
+use Rattle.py_meaning.specs.Calls.{calls_kind, calls_native}
+use Rattle.py_meaning.specs.Operators.{Around}
+use Rattle.py_meaning.specs.Statements.{run_all}
+use Rattle.py_meaning.specs.Imports.{asks}
+
+-- what the text of each source comes to
+abbrev pub World : Type 0
+World = List ℕ → Parsing
+
+-- after a body: a `return` gives its value, an error goes on, and every other end is the end of the body
+abbrev pub body_gives : Flow → Flow
+body_gives (Left (Raised error)) = Left (Raised error)
+body_gives (Left (Return v)) = Went v
+body_gives flow = done
+
+-- the state in another place
+abbrev pub placed : State → ℕ → ℕ → Option FunctionScope → State
+placed s mid load function = record {
+  scope = record { mid = mid; load = load; function = function };
+  kept = s.kept;
+  handling = s.handling;
+}
+
+-- the caller goes on where it stood, with what the thread keeps since
+abbrev pub comes_back : State → Onward → Onward
+comes_back s k flow s' = k (body_gives flow) (record { scope = s.scope; kept = s'.kept; handling = s'.handling })
+
+-- the thread has the text of this load from now on
+abbrev pub keeps : State → ℕ → Source → State
+keeps s load source = record { scope = s.scope; kept = maps.insert s.kept load source; handling = s.handling }
+
+-- Calls of functions.
+
+-- the parameters with their arguments
+abbrev pub bound : List (List ℕ) → List Value → FinMap (slice_cmp nat_cmp) Value → FinMap (slice_cmp nat_cmp) Value
+bound (x ∷ xs) (v ∷ vs) locals = bound xs vs (maps.insert locals x v)
+bound xs vs locals = locals
+
+-- the function's body, in the module of its source
+abbrev pub runs_function : Around → Source → ℕ → FuncDef → List Value → Piece
+runs_function around source load f vs s k =
+    run_all around f.body
+    (placed s source.mid load (Some (record { function = f; locals = bound f.parameters vs maps.empty })))
+    (comes_back s k)
+
+abbrev pub enters : Around → Source → ℕ → List Value → Option FuncDef → Piece
+enters around source load vs None = fails fault.NotInProfile
+enters around source load vs (Some f) =
+    if nat_eq (length vs) (length f.parameters)
+    then runs_function around source load f vs
+    else fails (fault.Parameters f.name (length f.parameters) (length vs))
+
+abbrev pub enters_source : Around → Source → ℕ → ℕ → List Value → Piece
+enters_source around source load index vs = enters around source load vs (function_of source.program index)
+
+-- the text of a load whose function is called for the first time
+abbrev pub sourced : Around → ℕ → ℕ → List Value → ℕ → Parsing → Piece
+sourced around load index vs mid (Parsed script) =
+    λ s k. enters_source around (record { mid = mid; program = script }) load index vs (keeps s load (record { mid = mid; program = script })) k
+sourced around load index vs mid (Faulty error) = fails fault.NotInProfile
+
+abbrev pub loaded : World → Around → ℕ → ℕ → List Value → Reply → Piece
+loaded w around load index vs (r.Loaded m text) = sourced around load index vs m.mid (w text)
+loaded w around load index vs reply = fails fault.NotInProfile
+
+abbrev pub with_source : World → Around → ℕ → ℕ → List Value → Option Source → Piece
+with_source w around load index vs (Some source) = enters_source around source load index vs
+with_source w around load index vs None = λ s k. calls (e.Source load) (λ reply. loaded w around load index vs reply s k)
+
+abbrev pub calls_function : World → Around → ℕ → ℕ → List Value → Piece
+calls_function w around load index vs s k = with_source w around load index vs (maps.get s.kept load) s k
+
+-- Bodies of modules and scripts.
+
+abbrev pub starts : Around → ℕ → ℕ → Parsing → Piece
+starts around mid load (Faulty error) = λ s k. k (Left (Raised error)) s
+starts around mid load (Parsed script) =
+    λ s k. run_all around script.body (placed (keeps s load (record { mid = mid; program = script })) mid load None) (comes_back s k)
+
+-- a body pays for its text before it is parsed
+abbrev pub runs_body : World → Around → ℕ → ℕ → List ℕ → Piece
+runs_body w around mid load text s k = pay (text_units text) (starts around mid load (w text) s k)
+
+-- the import of a name
+abbrev pub imports_name : (ℕ → ℕ → List ℕ → Piece) → List ℕ → Piece
+imports_name body n = if is_dotted n then asks body most n else fails fault.NotInProfile
+
+-- a call, by what the callee is
+abbrev pub calls_value : (ℕ → ℕ → List Value → Piece) → Value → Value-F Value → List Value → Piece
+calls_value function f (Value-F.Func load index name) vs = function load index vs
+calls_value function f (Value-F.Kind kind) vs = calls_kind kind vs
+calls_value function f (Value-F.Native native) vs = calls_native native vs
+calls_value function f v vs = fails (fault.NotCallable (type_of f))
+
+abbrev pub calls_with : (ℕ → ℕ → List Value → Piece) → Value → List Value → Piece
+calls_with function f vs = calls_value function f (out-Value f) vs
+
+-- Where so many more bodies, calls and imports may be open.
+
+abbrev mutual
+  pub functions_at : World → ℕ → ℕ → ℕ → List Value → Piece
+  functions_at w zero = λ load index vs. fails fault.TooDeep
+  functions_at w (suc left) = calls_function w (record { called = calls_with (functions_at w left); imported = imports_at w left })
+
+  pub bodies_at : World → ℕ → ℕ → ℕ → List ℕ → Piece
+  bodies_at w zero = λ mid load text. fails fault.TooDeep
+  bodies_at w (suc left) = runs_body w (record { called = calls_with (functions_at w left); imported = imports_at w left })
+
+  pub imports_at : World → ℕ → List ℕ → Piece
+  imports_at w zero = λ n. fails fault.TooDeep
+  imports_at w (suc left) = imports_name (bodies_at w left)
+
+abbrev pub calls_at : World → ℕ → Value → List Value → Piece
+calls_at w left = calls_with (functions_at w left)
+
+abbrev pub around_at : World → ℕ → Around
+around_at w left = record { called = calls_at w left; imported = imports_at w left }
+
+-- Scripts.
+
+abbrev pub outcome_of : Flow → Outcome
+outcome_of (Left (Raised error)) = o.Raised error
+outcome_of flow = o.Normal
+
+-- where no work is left
+abbrev pub ends : Onward
+ends flow s = Over (Ended (outcome_of flow))
+
+-- at first a thread stands in its own module and load, and keeps nothing
+abbrev pub first_state : ℕ → State
+first_state t = record { scope = record { mid = t; load = t; function = None }; kept = maps.empty; handling = [] }
+
+-- what the script of thread t does: its body is the first of at most 200 that are open
+unfoldable pub meaning : World → ℕ → List ℕ → Run
+meaning w t text = bodies_at w 200 t t text (first_state t) ends

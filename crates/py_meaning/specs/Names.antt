@@ -1,0 +1,215 @@
+-- Names and attributes (Language Reference 4.2.2 and 6.3.1).
+use Rattle.std.specs.Prelude.{ℕ, List, [], ◌∷◌, ◌++◌, codes, Option, Some, None, Bool, true, false, ◌&&◌, if◌then◌else◌}
+use Rattle.std.specs.Str.{bytes_eq}
+use Rattle.std.specs.FinMap as maps
+use Rattle.py_value.specs.Names.{kind_name, native_name, type_of}
+use Rattle.py_value.specs.declared.kind.Kind.{Kind}
+use Rattle.py_value.specs.declared.kind.Kind.TheVariants as kinds
+use Rattle.py_value.specs.declared.kind.Native.{Native}
+use Rattle.py_value.specs.declared.kind.Native.TheVariants as natives
+use Rattle.py_value.specs.declared.value.Raised.{Raised as Error}
+use Rattle.py_value.specs.declared.value.Value.{Value, out-Value}
+use Rattle.py_value.specs.declared.value.Value.TheVariants as values
+use Rattle.py_value.specs.declared.value.Value.TheOpen.{Value-F}
+use Rattle.machine_events.specs.declared.event.Event.TheVariants as e
+use Rattle.machine_events.specs.declared.event.Reply.{Reply}
+use Rattle.machine_events.specs.declared.event.Reply.TheVariants as r
+use Rattle.thread_knowledge.specs.Shown.{is_namespace_path}
+use Rattle.py_functions.specs.Binding.{is_local}
+use Rattle.py_faults.specs.declared.fault.Fault.TheVariants as fault
+use Rattle.py_state.specs.declared.flow.Flow.TheVariants.{Went}
+use Rattle.py_state.specs.declared.thread.FunctionScope.{FunctionScope}
+use Rattle.py_state.specs.declared.thread.Scope.{Scope}
+use Rattle.py_state.specs.declared.thread.State.{State}
+use Rattle.py_meaning.specs.Pieces.{Piece, Onward, calls, fails, gives, passes, done}
+
+-- Built-in names.
+
+abbrev pub built_in_natives : List Native
+built_in_natives = natives.Print ∷ natives.Str ∷ natives.Repr ∷ natives.Len ∷ natives.HasAttr ∷ natives.GetAttr ∷ []
+
+-- scripts know the names of all kinds but ProfileError and _DeadlockError
+abbrev pub built_in_kinds : List Kind
+built_in_kinds =
+    kinds.BaseException ∷ kinds.Exception ∷ kinds.ArithmeticError ∷ kinds.ZeroDivisionError ∷ kinds.AttributeError ∷ kinds.ImportError
+    ∷ kinds.ModuleNotFoundError ∷ kinds.LookupError ∷ kinds.IndexError ∷ kinds.KeyError ∷ kinds.NameError ∷ kinds.UnboundLocalError
+    ∷ kinds.RuntimeError ∷ kinds.RecursionError ∷ kinds.SyntaxError ∷ kinds.TypeError ∷ kinds.ValueError ∷ []
+
+-- the first of these with the name
+abbrev pub native_named : List ℕ → List Native → Option Native
+native_named x [] = None
+native_named x (n ∷ ns) = if bytes_eq (native_name n) x then Some n else native_named x ns
+
+abbrev pub kind_named : List ℕ → List Kind → Option Kind
+kind_named x [] = None
+kind_named x (k ∷ ks) = if bytes_eq (kind_name k) x then Some k else kind_named x ks
+
+abbrev pub kind_value : Option Kind → Option Value
+kind_value None = None
+kind_value (Some k) = Some (values.Kind k)
+
+abbrev pub built_in_value : Option Native → Option Kind → Option Value
+built_in_value (Some n) kind = Some (values.Native n)
+built_in_value None kind = kind_value kind
+
+abbrev pub built_in : List ℕ → Option Value
+built_in x = built_in_value (native_named x built_in_natives) (kind_named x built_in_kinds)
+
+-- Local variables.
+
+abbrev pub is_local_in : Option FunctionScope → List ℕ → Bool
+is_local_in None x = false
+is_local_in (Some f) x = is_local f.function x
+
+-- the name is local in the call that the state stands in, if it stands in one
+abbrev pub is_local_name : State → List ℕ → Bool
+is_local_name s x = is_local_in s.scope.function x
+
+abbrev pub value_in : Option FunctionScope → List ℕ → Option Value
+value_in None x = None
+value_in (Some f) x = maps.get f.locals x
+
+-- a local variable's value, None where it is not set
+abbrev pub local_value : State → List ℕ → Option Value
+local_value s x = value_in s.scope.function x
+
+abbrev pub set_in : Option FunctionScope → List ℕ → Value → Option FunctionScope
+set_in None x v = None
+set_in (Some f) x v = Some (record { function = f.function; locals = maps.insert f.locals x v })
+
+abbrev pub unset_in : Option FunctionScope → List ℕ → Option FunctionScope
+unset_in None x = None
+unset_in (Some f) x = Some (record { function = f.function; locals = maps.remove f.locals x })
+
+abbrev pub with_function : State → Option FunctionScope → State
+with_function s function = record {
+  scope = record { mid = s.scope.mid; load = s.scope.load; function = function };
+  kept = s.kept;
+  handling = s.handling;
+}
+
+abbrev pub with_local : State → List ℕ → Value → State
+with_local s x v = with_function s (set_in s.scope.function x v)
+
+abbrev pub without_local : State → List ℕ → State
+without_local s x = with_function s (unset_in s.scope.function x)
+
+-- Reads of names.
+
+-- a variable's value; the path of a namespace is not built yet
+abbrev pub variable : Value → Piece
+variable v = if is_namespace_path v then fails fault.NotBuilt else (λ s k. k (Went v) s)
+
+abbrev pub read_built_in : Option Value → List ℕ → Piece
+read_built_in None x = fails (fault.NotDefined x)
+read_built_in (Some v) x = λ s k. k (Went v) s
+
+abbrev pub read_global : Reply → List ℕ → Piece
+read_global (r.Value v) x = variable v
+read_global (r.Unset init) x = read_built_in (built_in x) x
+read_global reply x = fails fault.NotInProfile
+
+abbrev pub reads_global : List ℕ → Piece
+reads_global x s k = calls (e.GetVar s.scope.mid x true) (λ reply. read_global reply x s k)
+
+abbrev pub reads_local : Option Value → List ℕ → Piece
+reads_local None x = fails (fault.Unbound x)
+reads_local (Some v) x = λ s k. k (Went v) s
+
+-- a name: a local variable, else a variable of the module, else a built-in one
+abbrev pub reads : List ℕ → Piece
+reads x s k = if is_local_name s x then reads_local (local_value s x) x s k else reads_global x s k
+
+-- Writes and deletions of names.
+
+abbrev pub stored : Reply → Piece
+stored r.Done = passes
+stored r.Sleeping = fails fault.NotBuilt
+stored reply = fails fault.NotInProfile
+
+abbrev pub stores_global : List ℕ → Value → Piece
+stores_global x v s k = calls (e.SetVar s.scope.mid x v true) (λ reply. stored reply s k)
+
+-- a name is bound
+abbrev pub stores : List ℕ → Value → Piece
+stores x v s k = if is_local_name s x then k done (with_local s x v) else stores_global x v s k
+
+abbrev pub deleted : Reply → List ℕ → Piece
+deleted r.Done x = passes
+deleted (r.Unset init) x = fails (fault.NotDefined x)
+deleted reply x = fails fault.NotInProfile
+
+abbrev pub deletes_global : List ℕ → Piece
+deletes_global x s k = calls (e.DelVar s.scope.mid x true) (λ reply. deleted reply x s k)
+
+abbrev pub deletes_local : Option Value → List ℕ → Piece
+deletes_local None x = fails (fault.Unbound x)
+deletes_local (Some v) x = λ s k. k done (without_local s x)
+
+abbrev pub deletes : List ℕ → Piece
+deletes x s k = if is_local_name s x then deletes_local (local_value s x) x s k else deletes_global x s k
+
+-- Attributes.
+
+abbrev pub is_import_kind : Kind → Bool
+is_import_kind kinds.ImportError = true
+is_import_kind kinds.ModuleNotFoundError = true
+is_import_kind kind = false
+
+abbrev pub name_value : Option (List ℕ) → Value
+name_value None = values.Nothing
+name_value (Some n) = values.Text n
+
+-- of an error of an import its `name` can be read
+abbrev pub error_member : Error → List ℕ → Piece
+error_member error x =
+    if bytes_eq x (codes "name") && is_import_kind error.kind
+    then (λ s k. k (Went (name_value error.name)) s)
+    else fails fault.NotInProfile
+
+abbrev pub member_read : Reply → List ℕ → List ℕ → Piece
+member_read (r.Value v) m x = variable v
+member_read (r.Unset init) m x = fails (fault.NoAttribute init m x)
+member_read r.Sleeping m x = fails fault.NotBuilt
+member_read reply m x = fails fault.NotInProfile
+
+abbrev pub member_at : Value-F Value → List ℕ → Piece
+member_at (Value-F.Module m) x = λ s k. calls (e.GetVar m.mid x false) (λ reply. member_read reply m.name x s k)
+member_at (Value-F.Error error) x = error_member error x
+member_at Value-F.SysModules x = fails fault.NotBuilt
+member_at Value-F.SysPath x = fails fault.NotBuilt
+member_at v x = fails fault.NotInProfile
+
+-- an attribute is read
+abbrev pub member : Value → List ℕ → Piece
+member v x = member_at (out-Value v) x
+
+abbrev pub sets_member_at : Value-F Value → List ℕ → Value → Piece
+sets_member_at (Value-F.Module m) x v = λ s k. calls (e.SetVar m.mid x v false) (λ reply. stored reply s k)
+sets_member_at object x v = fails fault.NotInProfile
+
+abbrev pub sets_member : Value → List ℕ → Value → Piece
+sets_member object x v = sets_member_at (out-Value object) x v
+
+abbrev pub member_deleted : Reply → List ℕ → Piece
+member_deleted r.Done x = passes
+member_deleted (r.Unset init) x = fails (fault.NotDeleted x)
+member_deleted r.Sleeping x = fails fault.NotBuilt
+member_deleted reply x = fails fault.NotInProfile
+
+abbrev pub deletes_member_at : Value-F Value → List ℕ → Piece
+deletes_member_at (Value-F.Module m) x = λ s k. calls (e.DelVar m.mid x false) (λ reply. member_deleted reply x s k)
+deletes_member_at object x = fails fault.NotInProfile
+
+abbrev pub deletes_member : Value → List ℕ → Piece
+deletes_member object x = deletes_member_at (out-Value object) x
+
+-- an item is set or deleted
+abbrev pub changes_item_at : Value-F Value → Value → Piece
+changes_item_at (Value-F.List items) object = fails fault.NotInProfile
+changes_item_at Value-F.SysModules object = fails fault.NotBuilt
+changes_item_at Value-F.SysPath object = fails fault.NotBuilt
+changes_item_at v object = fails (fault.NoItemAssignment (type_of object))
+
+abbrev pub changes_item : Value → Piece
+changes_item object = changes_item_at (out-Value object) object

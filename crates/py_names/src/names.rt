@@ -1,0 +1,154 @@
+//! Names (Language Reference 4.2.2).
+ghost use Rattle.std.specs.Prelude.{◌≡◌, IfOk, true};
+ghost use Rattle.thread_knowledge.specs.Shown.{is_namespace_path};
+ghost use Rattle.py_meaning.specs.Names as spec;
+ghost use Rattle.py_meaning.specs.Pieces as words;
+ghost use Rattle.py_state.specs.declared.flow.Flow.TheVariants.{Went};
+ghost use Rattle.py_frames.specs.Does.{Does, pieces, begins, replies};
+ghost use Rattle.py_frames.specs.declared.work.Item.TheVariants as items;
+ghost use Rattle.py_frames.specs.declared.want.OnReply.TheVariants as ons;
+
+use crate::built_ins::built_in;
+use crate::locals::{is_local_name, local_value, set_local, unset_local};
+use crate::ways::{fail, went};
+use base_types::{Exact, NoMemory, Text};
+use machine_events::{Event, Reply};
+use py_faults::Fault;
+use py_frames::{Frame, Item, OnReply, Want};
+use py_state::{Flow, Thread};
+use py_value::{Value, size};
+use std::alloc::Global;
+
+/// Whether a value stands for the path of a namespace.
+fn is_namespace_path(value: &Value) -> bool
+    ensures { result ≡ is_namespace_path value.now }
+{
+    match value {
+        Value::NsPath => true,
+        _ => false,
+    }
+}
+
+/// A variable's value.
+pub fn variable(alloc: Global, thread: &Thread, value: Value) -> Result<Want, NoMemory>
+    ensures { IfOk result (Does thread.now (pieces (λ w d. spec.variable value) thread.now)) }
+{
+    if is_namespace_path(&value) {
+        return fail(alloc, thread, Fault::NotBuilt);
+    }
+    Ok(went(thread, value))
+}
+
+/// A variable of the module is to be read.
+pub fn read_global(thread: &Thread, name: Text) -> Result<Want, NoMemory>
+    ensures { IfOk result (Does thread.now (begins (items.ReadGlobal name) thread.now)) }
+{
+    let event = Event::GetVar {
+        mid: thread.state.scope.mid,
+        name: name.copy()?,
+        raw: true,
+    };
+    Ok(Want::Call(event, OnReply::Global(name)))
+}
+
+/// A name that is no variable.
+fn read_built_in(alloc: Global, thread: &Thread, name: Text) -> Result<Want, NoMemory>
+    ensures { IfOk result (Does thread.now (pieces (λ w d. spec.read_built_in (spec.built_in name) name) thread.now)) }
+{
+    match built_in(name.as_str()) {
+        Some(value) => Ok(went(thread, value)),
+        None => fail(alloc, thread, Fault::NotDefined(name)),
+    }
+}
+
+/// The reply to the read of a variable.
+pub fn global(alloc: Global, thread: &Thread, name: Text, reply: Reply) -> Result<Want, NoMemory>
+    ensures { IfOk result (Does thread.now (replies (ons.Global name) reply thread.now)) }
+{
+    match reply {
+        Reply::Value(value) => variable(alloc, thread, value),
+        Reply::Unset(_) => read_built_in(alloc, thread, name),
+        other => {
+            drop(other);
+            fail(alloc, thread, Fault::NotInProfile)
+        }
+    }
+}
+
+/// A name is bound to a value.
+pub fn store(thread: &mut Thread, name: Text, value: Value) -> Result<Want, NoMemory>
+    ensures { IfOk result (Does thread.new (begins (items.Store name value) thread.old)) }
+{
+    if is_local_name(thread, &name) {
+        set_local(thread, name, value)?;
+        return Ok(Want::Go(Flow::Went(Value::Nothing)));
+    }
+    let event = Event::SetVar {
+        mid: thread.state.scope.mid,
+        name,
+        value,
+        raw: true,
+    };
+    Ok(Want::Call(event, OnReply::Stored))
+}
+
+/// A name is deleted.
+pub fn delete_name(alloc: Global, thread: &mut Thread, name: Text) -> Result<Want, NoMemory>
+    ensures { IfOk result (Does thread.new (pieces (λ w d. spec.deletes name) thread.old)) }
+{
+    if is_local_name(thread, &name) {
+        return match local_value(thread, &name)? {
+            None => fail(alloc, thread, Fault::Unbound(name)),
+            Some(_) => {
+                unset_local(thread, &name);
+                Ok(Want::Go(Flow::Went(Value::Nothing)))
+            }
+        };
+    }
+    let event = Event::DelVar {
+        mid: thread.state.scope.mid,
+        name: name.copy()?,
+        raw: true,
+    };
+    Ok(Want::Call(event, OnReply::Deleted(name)))
+}
+
+/// The reply to the deletion of a variable.
+pub fn deleted(alloc: Global, thread: &Thread, name: Text, reply: Reply) -> Result<Want, NoMemory>
+    ensures { IfOk result (Does thread.now (replies (ons.Deleted name) reply thread.now)) }
+{
+    match reply {
+        Reply::Done => Ok(went(thread, Value::Nothing)),
+        Reply::Unset(_) => fail(alloc, thread, Fault::NotDefined(name)),
+        other => {
+            drop(other);
+            fail(alloc, thread, Fault::NotInProfile)
+        }
+    }
+}
+
+/// The size of a value is paid, and then it goes on.
+pub fn sized(thread: &Thread, value: Value) -> Want
+    ensures { Does thread.now (pieces (λ w d s k. words.sized k (Went value) s) thread.now) result }
+{
+    let _ = thread;
+    let units = size(&value);
+    Want::Pay {
+        of_tree: false,
+        units,
+        item: Item::Give(Flow::Went(value)),
+    }
+}
+
+/// A name is read, and its value's size is paid.
+pub fn read_name(alloc: Global, thread: &Thread, name: &Text) -> Result<Want, NoMemory>
+    ensures { IfOk result (Does thread.now (pieces (λ w d s k. spec.reads name.now s (words.sized k)) thread.now)) }
+{
+    if !is_local_name(thread, name) {
+        return Ok(Want::Both(Item::ReadGlobal(name.copy()?), Frame::Sized));
+    }
+    match local_value(thread, name)? {
+        None => fail(alloc, thread, Fault::Unbound(name.copy()?)),
+        Some(value) => Ok(sized(thread, value)),
+    }
+}

@@ -1,0 +1,99 @@
+//! How an expression begins.
+ghost use Rattle.std.specs.Prelude.{◌≡◌, IfOk, [], ◌∷◌, None};
+ghost use Rattle.py_syntax.specs.declared.expr.Expr.{out-Expr};
+ghost use Rattle.py_meaning.specs.Meaning.{around_at};
+ghost use Rattle.py_meaning.specs.Operators.{atom_at};
+ghost use Rattle.py_meaning.specs.Pieces as words;
+ghost use Rattle.py_operations.specs.Forms.{eval_at};
+ghost use Rattle.py_operations.specs.Forms as spec;
+ghost use Rattle.py_frames.specs.Does.{Does, pieces, begins};
+ghost use Rattle.py_frames.specs.declared.work.Item.TheVariants as items;
+
+use crate::gathering::operands;
+use crate::values::given;
+use base_types::{Exact, NoMemory, Seq};
+use py_faults::Fault;
+use py_frames::{Form, Frame, Item, Want};
+use py_names::{fail, read_name};
+use py_state::Thread;
+use py_syntax::Expr;
+use py_value::{Applied, Value};
+use shared::Shared;
+use std::alloc::Global;
+use value_operators::limited;
+
+/// An atom's unit is paid, and then its value is looked for.
+fn pay_atom(thread: &Thread, expr: Shared<Expr>) -> Want
+    ensures { Does thread.now (pieces (λ w d s k. words.pay 1 (atom_at (out-Expr expr) s (words.sized k))) thread.now) result }
+{
+    let _ = thread;
+    Want::Pay {
+        of_tree: false,
+        units: 1,
+        item: Item::Atom(expr),
+    }
+}
+
+/// The left operand of `and` or `or`.
+fn left_of(expr: &Expr) -> Result<Option<Shared<Expr>>, NoMemory>
+    ensures { IfOk result (λ left. left ≡ spec.left_of (out-Expr expr.now)) }
+{
+    match expr {
+        Expr::And(left, _) => Ok(Some(left.share()?)),
+        Expr::Or(left, _) => Ok(Some(left.share()?)),
+        _ => Ok(None),
+    }
+}
+
+fn is_atom(expr: &Expr) -> bool
+    ensures { result ≡ spec.is_atom (out-Expr expr.now) }
+{
+    match expr {
+        Expr::Name(_) | Expr::Number(_) | Expr::Str(_) => true,
+        Expr::Nothing | Expr::True | Expr::False => true,
+        _ => false,
+    }
+}
+
+/// An expression that is no `and` and no `or`.
+fn without_left(alloc: Global, thread: &Thread, expr: Shared<Expr>) -> Result<Want, NoMemory>
+    requires none { spec.left_of (out-Expr expr) ≡ None }
+    ensures { IfOk result (Does thread.now (pieces (λ w d. eval_at (around_at w d) (out-Expr expr)) thread.now)) }
+{
+    if is_atom(expr.get()) {
+        return Ok(pay_atom(thread, expr));
+    }
+    operands(alloc, thread, Form::Expression(expr), Seq::new(alloc))
+}
+
+/// An expression, by its outermost form.
+fn by_form(alloc: Global, thread: &Thread, expr: Shared<Expr>) -> Result<Want, NoMemory>
+    ensures { IfOk result (Does thread.now (pieces (λ w d. eval_at (around_at w d) (out-Expr expr)) thread.now)) }
+{
+    match left_of(expr.get())? {
+        Some(left) => Ok(Want::Both(Item::Eval(left), Frame::Second(expr))),
+        None => without_left(alloc, thread, expr),
+    }
+}
+
+/// An expression begins.
+pub fn evaluate(alloc: Global, thread: &Thread, expr: Shared<Expr>) -> Result<Want, NoMemory>
+    ensures { IfOk result (Does thread.now (begins (items.Eval expr) thread.now)) }
+{
+    by_form(alloc, thread, expr)
+}
+
+/// An atom, once its unit is paid.
+pub fn atom(alloc: Global, thread: &Thread, expr: Shared<Expr>) -> Result<Want, NoMemory>
+    ensures { IfOk result (Does thread.now (begins (items.Atom expr) thread.now)) }
+{
+    match expr.get() {
+        Expr::Name(name) => read_name(alloc, thread, name),
+        Expr::Number(n) => Ok(given(thread, Applied::Value(Value::Int(*n)))),
+        Expr::Str(text) => Ok(given(thread, limited(alloc, Value::Text(text.copy()?))?)),
+        Expr::Nothing => Ok(given(thread, Applied::Value(Value::Nothing))),
+        Expr::True => Ok(given(thread, Applied::Value(Value::Bool(true)))),
+        Expr::False => Ok(given(thread, Applied::Value(Value::Bool(false)))),
+        _ => fail(alloc, thread, Fault::NotInProfile),
+    }
+}

@@ -1,0 +1,51 @@
+//! A whole script.
+ghost use Rattle.std.specs.Prelude.{◌≡◌, ◌≤◌, ◌+◌, [], IfOk, OnErr, Some};
+ghost use Rattle.tree_files.specs.Count.{Rose};
+ghost use Rattle.tree_files.specs.Files.{Files};
+ghost use Rattle.thread_knowledge.specs.Shown.{shown_first};
+ghost use Rattle.machine_book.specs.Sight.{Sight, IsReady, Continues};
+ghost use Rattle.meanings.specs.Runs.{Safe};
+ghost use Rattle.meanings.specs.Follows.{Follows};
+ghost use Rattle.meanings.specs.Lists.{lists_in};
+ghost use Rattle.py_meaning.specs.Meaning.{meaning};
+ghost use Rattle.py_sources.specs.Sources.{sources};
+ghost use Rattle.py_drive.specs.Ending.{Ended, Broken, IsRead, outcome};
+
+use base_types::NoMemory;
+use desk_port::OnDesk;
+use machine_book::Desk;
+use py_drive::{Ending, run_script_on};
+use std::alloc::Global;
+use tree_files::Tree;
+
+/// Runs a script on a desk, over a tree, and makes its End event.
+///
+/// The events are those of the script's meaning with this fuel, each once and in order, on the
+/// replies that come. `Read` comes only where a call of the tree failed.
+pub fn run_script<D: Desk, T: Tree>(
+    alloc: Global,
+    desk: &mut D,
+    tree: &mut T,
+    script: u32,
+    text: &[u8],
+    fuel: u64,
+) -> Result<Ending, NoMemory>
+    requires number { (D.sight desk.old).number ≡ script }
+    requires ready { IsReady (D.sight desk.old) }
+    requires first { (D.sight desk.old).mine ≡ [] }
+    requires safe { Safe (shown_first script) (meaning sources script text.now) }
+    ensures continues { Continues (D.sight desk.old) (D.sight desk.new) }
+    ensures files { T.files tree.new ≡ T.files tree.old }
+    ensures faults_grow { T.faults tree.old ≤ T.faults tree.new }
+    ensures lists { T.lists tree.new ≤ T.lists tree.old + lists_in (D.sight desk.new).mine }
+    ensures ended { IfOk result (λ ending. Ended (D.sight desk.new).mine (outcome ending)) }
+    ensures follows { (files : Files) → T.files tree.old ≡ Some files → IfOk result (λ ending. Follows files script (meaning sources script text.now) fuel (D.sight desk.new).mine (outcome ending)) }
+    ensures part { (files : Files) → T.files tree.old ≡ Some files → OnErr result (Broken files script (meaning sources script text.now) fuel (D.sight desk.new).mine (T.faults tree.old) (T.faults tree.new)) }
+    ensures read { IfOk result (λ ending. IsRead ending → Rose (T.faults tree.old) (T.faults tree.new)) }
+{
+    let mut port = OnDesk { desk };
+    match run_script_on(alloc, &mut port, tree, script, text, fuel) {
+        Ok(ending) => Ok(ending),
+        Err(_) => Err(NoMemory),
+    }
+}

@@ -1,0 +1,115 @@
+-- Calls of kinds and of built-in functions are safe.
+use Rattle.std.proofs.Common.{◌≡◌, ◌≤◌, ℕ, Bool, true, false, if◌then◌else◌, nat_lt, pos, length, List, [], ◌∷◌, Option, Some, None, Result, Ok, Err, refl}
+use Rattle.std.proofs.lemmas.Bool.{ltb-false}
+use Rattle.py_value.specs.Names.{type_of}
+use Rattle.py_value.specs.declared.kind.Kind.{Kind}
+use Rattle.py_value.specs.declared.kind.Kind.TheVariants as kinds
+use Rattle.py_value.specs.declared.kind.Native.{Native}
+use Rattle.py_value.specs.declared.kind.Native.TheVariants as natives
+use Rattle.py_value.specs.declared.operator.Applied.{Applied}
+use Rattle.py_value.specs.declared.operator.Applied.TheVariants as applied
+use Rattle.py_value.specs.declared.value.Raised.{Raised as Error}
+use Rattle.py_value.specs.declared.value.Value.{Value, out-Value}
+use Rattle.py_value.specs.declared.value.Value.TheVariants as values
+use Rattle.py_value.specs.declared.value.Value.TheOpen.{Value-F}
+use Rattle.value_operators.specs.Items.{length_of}
+use Rattle.value_operators.specs.Texts.{str_of, repr_of}
+use Rattle.machine_events.specs.declared.event.Event.TheVariants as e
+use Rattle.thread_knowledge.specs.Shown.{Shown, shown_more}
+use Rattle.meanings.specs.Runs.{Safe}
+use Rattle.value_parts.specs.Laws.{KnowsApplied}
+use Rattle.value_parts.proofs.Parts.{plain}
+use Rattle.value_parts.proofs.Operators.{operators}
+use Rattle.py_faults.specs.Faults.{raised}
+use Rattle.py_faults.specs.declared.fault.Fault.TheVariants as fault
+use Rattle.py_state.specs.declared.flow.Leave.TheVariants.{Raised, Return, Break, Continue}
+use Rattle.py_state.specs.declared.flow.Flow.TheVariants.{Went, Left}
+use Rattle.py_meaning.specs.Pieces.{Onward, calls, fails, gives, done, passes}
+use Rattle.py_meaning.specs.Calls.{text_of, made_error, error_text, calls_kind, strs_of, line_of, writes, prints, str_call, repr_call, length_given, len_call, member_named_at, member_named, missing_at, defaulting, telling, hasattr_call, getattr_call, calls_native}
+use Rattle.py_safety.specs.Known.{KnowsValue}
+use Rattle.py_safety.proofs.Growth.{value_grows}
+use Rattle.py_safety.proofs.Pieces.{SafeOn, SafeAt, Always, SafeOf, goes_safe, fails_safe, passes_safe, steady, built_safe}
+use Rattle.py_safety.proofs.Values.{gives_safe}
+use Rattle.py_safety.proofs.Names.{member_safe}
+
+error_known : (s : Shown) (error : Error) → KnowsValue s (values.Error error)
+error_known s error = ((plain s).error error, refl)
+
+made_known : (s : Shown) (kind : Kind) (a : Applied) → KnowsApplied s (made_error kind a)
+made_known s kind (applied.Value v) = error_known s (raised kind (text_of v))
+made_known s kind (applied.Raised error) = tt
+
+pub calls_kind_safe : (kind : Kind) → SafeOf (calls_kind kind)
+calls_kind_safe kind s [] h = goes_safe s (Went (values.Error (raised kind []))) (error_known s (raised kind []))
+calls_kind_safe kind s (v ∷ []) h = built_safe s (v ∷ []) (gives (made_error kind (error_text kind v))) (gives_safe s (made_error kind (error_text kind v)) (made_known s kind (error_text kind v)))
+calls_kind_safe kind s vs h = fails_safe fault.NotInProfile s
+
+writes_safe : (line : List ℕ) → Always (writes line)
+writes_safe line s = at (nat_lt 65536 (length line)) refl
+  where
+    at : (b : Bool) → nat_lt 65536 (length line) ≡ b → SafeAt s (if b then fails fault.TextTooLong else (λ st k. calls (e.Print line) (λ _. k done st)))
+    at true is = fails_safe fault.TextTooLong s
+    at false is = λ run st knows k safe.
+        let short : length line ≤ 65536 = ltb-false 65536 (length line) is in
+        steady s (e.Print line) (λ _. passes) (run, short) (λ reply. refl) (λ reply. run) (λ reply. passes_safe (shown_more s (e.Print line, reply))) run st knows k safe
+
+prints_safe : (texts : Result (List (List ℕ)) Error) → Always (prints texts)
+prints_safe (Ok texts) s = writes_safe (line_of texts) s
+prints_safe (Err error) s = goes_safe s (Left (Raised error)) tt
+
+str_call_safe : SafeOf str_call
+str_call_safe s [] h = goes_safe s (Went (values.Text [])) ((plain s).text [], refl)
+str_call_safe s (v ∷ []) h = built_safe s (v ∷ []) (gives (str_of v)) (gives_safe s (str_of v) ((operators s).str v))
+str_call_safe s vs h = fails_safe (fault.ArgumentCount natives.Str) s
+
+repr_call_safe : SafeOf repr_call
+repr_call_safe s (v ∷ []) h = built_safe s (v ∷ []) (gives (repr_of v)) (gives_safe s (repr_of v) ((operators s).repr v))
+repr_call_safe s vs h = fails_safe (fault.ArgumentCount natives.Repr) s
+
+length_safe : (n : Option ℕ) (v : Value) → Always (length_given n v)
+length_safe (Some n) v s = goes_safe s (Went (values.Int (pos n))) ((plain s).number (pos n), refl)
+length_safe None v s = fails_safe (fault.NoLength (type_of v)) s
+
+len_call_safe : SafeOf len_call
+len_call_safe s (v ∷ []) h = built_safe s (v ∷ []) (length_given (length_of v) v) (length_safe (length_of v) v s)
+len_call_safe s vs h = fails_safe (fault.ArgumentCount natives.Len) s
+
+member_named_safe : (s : Shown) (v name : Value) → KnowsValue s v → SafeAt s (member_named v name)
+member_named_safe s v name known = at (out-Value name)
+  where
+    at : (layer : Value-F Value) → SafeAt s (member_named_at v layer)
+    at (Value-F.Text x) = member_safe s v x known
+    at layer = fails_safe fault.NameNotText s
+
+defaulting_on : (s : Shown) (k : Onward) (d : Value) → SafeOn s k → KnowsValue s d → SafeOn s (defaulting k d)
+defaulting_on s k d safe h s' f (Left (Raised error)) known st knows = at error.kind
+  where
+    at : (kind : Kind) → Safe s' (missing_at k d error kind (Left (Raised error)) st)
+    at kinds.AttributeError = safe s' f (Went d) (value_grows s s' f.grows d h) st knows
+    at kind = safe s' f (Left (Raised error)) tt st knows
+defaulting_on s k d safe h s' f (Left (Return v)) known st knows = safe s' f (Left (Return v)) known st knows
+defaulting_on s k d safe h s' f (Left Break) known st knows = safe s' f (Left Break) known st knows
+defaulting_on s k d safe h s' f (Left Continue) known st knows = safe s' f (Left Continue) known st knows
+defaulting_on s k d safe h s' f (Went v) known st knows = safe s' f (Went v) known st knows
+
+telling_on : (s : Shown) (k : Onward) → SafeOn s k → SafeOn s (telling k)
+telling_on s k safe s' f (Went v) known st knows = safe s' f (Went (values.Bool true)) ((plain s').bool true, refl) st knows
+telling_on s k safe s' f (Left leave) known st knows = defaulting_on s k (values.Bool false) safe ((plain s).bool false, refl) s' f (Left leave) known st knows
+
+hasattr_safe : SafeOf hasattr_call
+hasattr_safe s (v ∷ x ∷ []) h = λ run st knows k safe. member_named_safe s v x h.0 run st knows (telling k) (telling_on s k safe)
+hasattr_safe s vs h = fails_safe (fault.ArgumentCount natives.HasAttr) s
+
+getattr_safe : SafeOf getattr_call
+getattr_safe s (v ∷ x ∷ []) h = member_named_safe s v x h.0
+getattr_safe s (v ∷ x ∷ d ∷ []) h = λ run st knows k safe. member_named_safe s v x h.0 run st knows (defaulting k d) (defaulting_on s k d safe h.1.1.0)
+getattr_safe s vs h = fails_safe (fault.ArgumentCount natives.GetAttr) s
+
+pub calls_native_safe : (native : Native) → SafeOf (calls_native native)
+calls_native_safe natives.Print s vs h = built_safe s vs (prints (strs_of vs)) (prints_safe (strs_of vs) s)
+calls_native_safe natives.Str s vs h = str_call_safe s vs h
+calls_native_safe natives.Repr s vs h = repr_call_safe s vs h
+calls_native_safe natives.Len s vs h = len_call_safe s vs h
+calls_native_safe natives.HasAttr s vs h = hasattr_safe s vs h
+calls_native_safe natives.GetAttr s vs h = getattr_safe s vs h
+calls_native_safe native s vs h = fails_safe fault.NotBuilt s

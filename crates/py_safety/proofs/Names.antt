@@ -1,0 +1,224 @@
+-- Names, attributes and items are safe.
+use Rattle.std.proofs.Common.{◌≡◌, inl, inr, ℕ, Bool, true, false, if◌then◌else◌, ◌&&◌, List, [], ◌∷◌, ◌++◌, codes, Option, Some, None, refl, sym, ◌∙◌, subst, cond}
+use Rattle.std.specs.FinMap as maps
+use Rattle.std.specs.FinMap.{FinMap, get-insert, get-remove}
+use Rattle.std.specs.Cmp.{IsTotalOrder}
+use Rattle.std.proofs.lemmas.Cmp.{nat_list_cmp_total}
+use Rattle.std.specs.Ordering.{eq_by_cmp}
+use Rattle.std.specs.declared.cmp.Ordering.{Ordering}
+use Rattle.std.specs.Str.{bytes_eq}
+use Rattle.py_value.specs.Names.{type_of}
+use Rattle.py_value.specs.declared.kind.Kind.{Kind}
+use Rattle.py_value.specs.declared.kind.Native.{Native}
+use Rattle.py_value.specs.declared.value.Raised.{Raised as Error}
+use Rattle.py_value.specs.declared.value.Value.{Value, out-Value}
+use Rattle.py_value.specs.declared.value.Value.TheOpen.{Value-F}
+use Rattle.py_value.specs.declared.value.Value.TheVariants as values
+use Rattle.machine_events.specs.declared.event.Event.{Event}
+use Rattle.machine_events.specs.declared.event.Event.TheVariants as e
+use Rattle.machine_events.specs.declared.event.Reply.{Reply}
+use Rattle.machine_events.specs.declared.event.Reply.TheVariants as r
+use Rattle.thread_knowledge.specs.Shown.{Shown, shown_more, is_namespace_path, modules_in, loads_in}
+use Rattle.thread_knowledge.specs.Knowing.{HasAll, KnowsAll}
+use Rattle.meanings.specs.Runs.{Run, Safe}
+use Rattle.value_parts.proofs.Parts.{plain}
+use Rattle.py_faults.specs.declared.fault.Fault.TheVariants as fault
+use Rattle.py_state.specs.declared.flow.Flow.TheVariants.{Went}
+use Rattle.py_state.specs.declared.thread.FunctionScope.{FunctionScope}
+use Rattle.py_state.specs.declared.thread.State.{State}
+use Rattle.py_meaning.specs.Pieces.{fails, done}
+use Rattle.py_meaning.specs.Names as names
+use Rattle.py_safety.specs.Known.{KnowsValue, KnowsLocals, Knows}
+use Rattle.py_safety.proofs.Growth.{fits_refl, all_grows}
+use Rattle.py_safety.proofs.Pieces.{SafeAt, Always, goes_safe, fails_safe, passes_safe, pick_safe, steady}
+use Rattle.py_safety.proofs.Values.{nothing_known, module_in}
+
+pub pick_run : (s : Shown) (b : Bool) (p q : Run) → Safe s p → Safe s q → Safe s (if b then p else q)
+pick_run s true p q good bad = good
+pick_run s false p q good bad = bad
+
+-- ---- what a reply shows of its value
+
+pub all_here : {X : Type 0} (xs ys : List X) → HasAll (xs ++ ys) xs
+all_here [] ys = tt
+all_here (x ∷ xs) ys = (inl refl, all_grows (xs ++ ys) (x ∷ (xs ++ ys)) xs (λ z h. inr h) (all_here xs ys))
+
+pub value_answered : (s : Shown) (event : Event) (v : Value) → KnowsAll (shown_more s (event, r.Value v)) v
+value_answered s event v = (all_here (modules_in v) s.modules, all_here (loads_in v) s.loads)
+
+pub variable_safe : (s : Shown) (v : Value) → KnowsAll s v → SafeAt s (names.variable v)
+variable_safe s v h = at (is_namespace_path v) refl
+  where
+    at : (b : Bool) → is_namespace_path v ≡ b → SafeAt s (if b then fails fault.NotBuilt else (λ st k. k (Went v) st))
+    at true is = fails_safe fault.NotBuilt s
+    at false is = goes_safe s (Went v) (h, is)
+
+-- ---- maps
+
+pub insert_each : {K X : Type 0} {R : K → K → Ordering} → IsTotalOrder R → (P : X → Type 0) (m : FinMap R X) (k : K) (v : X) → P v
+    → ((q : K) (w : X) → maps.get m q ≡ Some w → P w) → (q : K) (w : X) → maps.get (maps.insert m k v) q ≡ Some w → P w
+insert_each {K} {X} {R} o P m k v here each q w is = at (eq_by_cmp R q k) (sym (get-insert o m k v q) ∙ is)
+  where
+    at : (b : Bool) → cond b (Some v) (maps.get m q) ≡ Some w → P w
+    at true same = let it : v ≡ w = cc in subst P it here
+    at false same = each q w same
+
+pub remove_each : {K X : Type 0} {R : K → K → Ordering} → IsTotalOrder R → (P : X → Type 0) (m : FinMap R X) (k : K)
+    → ((q : K) (w : X) → maps.get m q ≡ Some w → P w) → (q : K) (w : X) → maps.get (maps.remove m k) q ≡ Some w → P w
+remove_each {K} {X} {R} o P m k each q w is = at (eq_by_cmp R q k) (sym (get-remove o m k q) ∙ is)
+  where
+    at : (b : Bool) → cond b None (maps.get m q) ≡ Some w → P w
+    at true same = absurd cc
+    at false same = each q w same
+
+-- ---- local variables
+
+local_known : (s : Shown) (f : Option FunctionScope) → KnowsLocals s f → (x : List ℕ) (v : Value) → names.value_in f x ≡ Some v → KnowsValue s v
+local_known s None h x v is = absurd cc
+local_known s (Some f) h x v is = h x v is
+
+set_known : (s : Shown) (f : Option FunctionScope) (x : List ℕ) (v : Value) → KnowsLocals s f → KnowsValue s v → KnowsLocals s (names.set_in f x v)
+set_known s None x v h known = tt
+set_known s (Some f) x v h known = insert_each nat_list_cmp_total (KnowsValue s) f.locals x v known h
+
+unset_known : (s : Shown) (f : Option FunctionScope) (x : List ℕ) → KnowsLocals s f → KnowsLocals s (names.unset_in f x)
+unset_known s None x h = tt
+unset_known s (Some f) x h = remove_each nat_list_cmp_total (KnowsValue s) f.locals x h
+
+in_function : (s : Shown) (st : State) (f : Option FunctionScope) → Knows s st → KnowsLocals s f → Knows s (names.with_function st f)
+in_function s st f knows h = record { mid = knows.mid; load = knows.load; locals = h; kept = knows.kept }
+
+with_local_known : (s : Shown) (st : State) (x : List ℕ) (v : Value) → Knows s st → KnowsValue s v → Knows s (names.with_local st x v)
+with_local_known s st x v knows known = in_function s st (names.set_in st.scope.function x v) knows (set_known s st.scope.function x v knows.locals known)
+
+pub without_local_known : (s : Shown) (st : State) (x : List ℕ) → Knows s st → Knows s (names.without_local st x)
+without_local_known s st x knows = in_function s st (names.unset_in st.scope.function x) knows (unset_known s st.scope.function x knows.locals)
+
+-- ---- reads
+
+built_in_safe : (s : Shown) (x : List ℕ) (native : Option Native) (kind : Option Kind) → SafeAt s (names.read_built_in (names.built_in_value native kind) x)
+built_in_safe s x (Some native) kind = goes_safe s (Went (values.Native native)) ((plain s).native native, refl)
+built_in_safe s x None (Some kind) = goes_safe s (Went (values.Kind kind)) ((plain s).kind kind, refl)
+built_in_safe s x None None = fails_safe (fault.NotDefined x) s
+
+read_global_safe : (s : Shown) (event : Event) (x : List ℕ) (reply : Reply) → SafeAt (shown_more s (event, reply)) (names.read_global reply x)
+read_global_safe s event x (r.Value v) = variable_safe (shown_more s (event, r.Value v)) v (value_answered s event v)
+read_global_safe s event x (r.Unset init) = built_in_safe (shown_more s (event, r.Unset init)) x (names.native_named x names.built_in_natives) (names.kind_named x names.built_in_kinds)
+read_global_safe s event x reply = fails_safe fault.NotInProfile (shown_more s (event, reply))
+
+pub reads_global_safe : (x : List ℕ) → Always (names.reads_global x)
+reads_global_safe x s run st knows k safe =
+    let event : Event = e.GetVar st.scope.mid x true in
+    steady s event (λ reply. names.read_global reply x) (run, knows.mid) (λ reply. refl) (λ reply. run) (read_global_safe s event x) run st knows k safe
+
+reads_local_safe : (s : Shown) (x : List ℕ) (v : Option Value) → ((w : Value) → v ≡ Some w → KnowsValue s w) → SafeAt s (names.reads_local v x)
+reads_local_safe s x None each = fails_safe (fault.Unbound x) s
+reads_local_safe s x (Some v) each = goes_safe s (Went v) (each v refl)
+
+pub reads_safe : (x : List ℕ) → Always (names.reads x)
+reads_safe x s run st knows k safe =
+    pick_run s (names.is_local_name st x) (names.reads_local (names.local_value st x) x st k) (names.reads_global x st k)
+    (reads_local_safe s x (names.local_value st x) (local_known s st.scope.function knows.locals x) run st knows k safe)
+    (reads_global_safe x s run st knows k safe)
+
+-- ---- writes and deletions
+
+stored_safe : (s : Shown) (reply : Reply) → SafeAt s (names.stored reply)
+stored_safe s r.Done = passes_safe s
+stored_safe s r.Sleeping = fails_safe fault.NotBuilt s
+stored_safe s reply = fails_safe fault.NotInProfile s
+
+stores_global_safe : (s : Shown) (x : List ℕ) (v : Value) → KnowsValue s v → SafeAt s (names.stores_global x v)
+stores_global_safe s x v known run st knows k safe =
+    let event : Event = e.SetVar st.scope.mid x v true in
+    steady s event names.stored (run, (knows.mid, known.1, known.0)) (λ reply. refl) (λ reply. run) (λ reply. stored_safe (shown_more s (event, reply)) reply) run st knows k safe
+
+pub stores_safe : (s : Shown) (x : List ℕ) (v : Value) → KnowsValue s v → SafeAt s (names.stores x v)
+stores_safe s x v known run st knows k safe =
+    pick_run s (names.is_local_name st x) (k done (names.with_local st x v)) (names.stores_global x v st k)
+    (safe s (fits_refl s run) done (nothing_known s) (names.with_local st x v) (with_local_known s st x v knows known))
+    (stores_global_safe s x v known run st knows k safe)
+
+deleted_safe : (s : Shown) (x : List ℕ) (reply : Reply) → SafeAt s (names.deleted reply x)
+deleted_safe s x r.Done = passes_safe s
+deleted_safe s x (r.Unset init) = fails_safe (fault.NotDefined x) s
+deleted_safe s x reply = fails_safe fault.NotInProfile s
+
+deletes_global_safe : (x : List ℕ) → Always (names.deletes_global x)
+deletes_global_safe x s run st knows k safe =
+    let event : Event = e.DelVar st.scope.mid x true in
+    steady s event (λ reply. names.deleted reply x) (run, knows.mid) (λ reply. refl) (λ reply. run) (λ reply. deleted_safe (shown_more s (event, reply)) x reply) run st knows k safe
+
+deletes_local_safe : (x : List ℕ) (v : Option Value) → Always (names.deletes_local v x)
+deletes_local_safe x None s = fails_safe (fault.Unbound x) s
+deletes_local_safe x (Some v) s = λ run st knows k safe. safe s (fits_refl s run) done (nothing_known s) (names.without_local st x) (without_local_known s st x knows)
+
+pub deletes_safe : (x : List ℕ) → Always (names.deletes x)
+deletes_safe x s run st knows k safe =
+    pick_run s (names.is_local_name st x) (names.deletes_local (names.local_value st x) x st k) (names.deletes_global x st k)
+    (deletes_local_safe x (names.local_value st x) s run st knows k safe)
+    (deletes_global_safe x s run st knows k safe)
+
+-- ---- attributes
+
+error_member_safe : (error : Error) (x : List ℕ) → Always (names.error_member error x)
+error_member_safe error x s =
+    pick_safe s (bytes_eq x (codes "name") && names.is_import_kind error.kind) (λ st k. k (Went (names.name_value error.name)) st) (fails fault.NotInProfile)
+    (goes_safe s (Went (names.name_value error.name)) (name_known error.name)) (fails_safe fault.NotInProfile s)
+  where
+    name_known : (n : Option (List ℕ)) → KnowsValue s (names.name_value n)
+    name_known None = nothing_known s
+    name_known (Some n) = ((plain s).text n, refl)
+
+member_read_safe : (s : Shown) (event : Event) (m x : List ℕ) (reply : Reply) → SafeAt (shown_more s (event, reply)) (names.member_read reply m x)
+member_read_safe s event m x (r.Value v) = variable_safe (shown_more s (event, r.Value v)) v (value_answered s event v)
+member_read_safe s event m x (r.Unset init) = fails_safe (fault.NoAttribute init m x) (shown_more s (event, r.Unset init))
+member_read_safe s event m x r.Sleeping = fails_safe fault.NotBuilt (shown_more s (event, r.Sleeping))
+member_read_safe s event m x reply = fails_safe fault.NotInProfile (shown_more s (event, reply))
+
+pub member_safe : (s : Shown) (v : Value) (x : List ℕ) → KnowsValue s v → SafeAt s (names.member v x)
+member_safe s v x known = at (out-Value v) refl
+  where
+    at : (layer : Value-F Value) → out-Value v ≡ layer → SafeAt s (names.member_at layer x)
+    at (Value-F.Module m) is = λ run st knows k safe.
+        let event : Event = e.GetVar m.mid x false in
+        steady s event (λ reply. names.member_read reply m.name x) (run, inr (m, module_in s v known.0 m is, refl)) (λ reply. refl) (λ reply. run) (member_read_safe s event m.name x) run st knows k safe
+    at (Value-F.Error error) is = error_member_safe error x s
+    at Value-F.SysModules is = fails_safe fault.NotBuilt s
+    at Value-F.SysPath is = fails_safe fault.NotBuilt s
+    at layer is = fails_safe fault.NotInProfile s
+
+pub sets_member_safe : (s : Shown) (object : Value) (x : List ℕ) (v : Value) → KnowsValue s object → KnowsValue s v → SafeAt s (names.sets_member object x v)
+sets_member_safe s object x v object_known known = at (out-Value object) refl
+  where
+    at : (layer : Value-F Value) → out-Value object ≡ layer → SafeAt s (names.sets_member_at layer x v)
+    at (Value-F.Module m) is = λ run st knows k safe.
+        let event : Event = e.SetVar m.mid x v false in
+        steady s event names.stored (run, (inr (m, module_in s object object_known.0 m is, refl), known.1, known.0)) (λ reply. refl) (λ reply. run)
+        (λ reply. stored_safe (shown_more s (event, reply)) reply) run st knows k safe
+    at layer is = fails_safe fault.NotInProfile s
+
+member_deleted_safe : (s : Shown) (x : List ℕ) (reply : Reply) → SafeAt s (names.member_deleted reply x)
+member_deleted_safe s x r.Done = passes_safe s
+member_deleted_safe s x (r.Unset init) = fails_safe (fault.NotDeleted x) s
+member_deleted_safe s x r.Sleeping = fails_safe fault.NotBuilt s
+member_deleted_safe s x reply = fails_safe fault.NotInProfile s
+
+pub deletes_member_safe : (s : Shown) (object : Value) (x : List ℕ) → KnowsValue s object → SafeAt s (names.deletes_member object x)
+deletes_member_safe s object x known = at (out-Value object) refl
+  where
+    at : (layer : Value-F Value) → out-Value object ≡ layer → SafeAt s (names.deletes_member_at layer x)
+    at (Value-F.Module m) is = λ run st knows k safe.
+        let event : Event = e.DelVar m.mid x false in
+        steady s event (λ reply. names.member_deleted reply x) (run, inr (m, module_in s object known.0 m is, refl)) (λ reply. refl) (λ reply. run)
+        (λ reply. member_deleted_safe (shown_more s (event, reply)) x reply) run st knows k safe
+    at layer is = fails_safe fault.NotInProfile s
+
+pub changes_item_safe : (object : Value) → Always (names.changes_item object)
+changes_item_safe object s = at (out-Value object)
+  where
+    at : (layer : Value-F Value) → SafeAt s (names.changes_item_at layer object)
+    at (Value-F.List items) = fails_safe fault.NotInProfile s
+    at Value-F.SysModules = fails_safe fault.NotBuilt s
+    at Value-F.SysPath = fails_safe fault.NotBuilt s
+    at layer = fails_safe (fault.NoItemAssignment (type_of object)) s

@@ -1,0 +1,145 @@
+-- Which pieces of a script are safe, and how safe pieces are put together.
+use Rattle.std.proofs.Common.{◌≡◌, ℕ, Bool, true, false, if◌then◌else◌, List, [], ◌∷◌, ◌++◌, refl}
+use Rattle.std.specs.List.{list_any}
+use Rattle.py_value.specs.Measures.{is_true}
+use Rattle.py_value.specs.declared.value.Value.{Value}
+use Rattle.py_value.specs.declared.value.Value.TheVariants as values
+use Rattle.value_operators.specs.Outcomes.{is_special}
+use Rattle.machine_events.specs.declared.event.Event.{Event}
+use Rattle.machine_events.specs.declared.event.Reply.{Reply}
+use Rattle.machine_events.specs.declared.event.Reply.TheVariants as r
+use Rattle.thread_knowledge.specs.Shown.{Shown, Running, shown_more, holds, does}
+use Rattle.meanings.specs.Runs.{Run, Safe, MayMake}
+use Rattle.py_faults.specs.declared.fault.Fault.{Fault}
+use Rattle.py_faults.specs.declared.fault.Fault.TheVariants as fault
+use Rattle.py_state.specs.declared.flow.Flow.{Flow}
+use Rattle.py_state.specs.declared.flow.Flow.TheVariants.{Went, Left}
+use Rattle.py_state.specs.declared.thread.State.{State}
+use Rattle.py_meaning.specs.Pieces.{Piece, Onward, pay, after_reply, calls, on_value, passes, fails, raise, sized, atom, gathers, operates, in_order, built, decides, with_one, with_two, with_three}
+use Rattle.value_parts.proofs.Parts.{plain}
+use Rattle.py_safety.specs.Known.{KnowsValue, Knows, KnowsFlow}
+use Rattle.py_safety.proofs.Growth.{Grows, Fits, fits_refl, fits_then, fits_more, value_grows, state_grows}
+
+-- what comes after is safe from every state that fits
+abbrev pub SafeOn : Shown → Onward → Type 0
+SafeOn s k = (s' : Shown) → Fits s s' → (flow : Flow) → KnowsFlow s' flow → (st : State) → Knows s' st → Safe s' (k flow st)
+
+-- a piece is safe where so much is shown
+abbrev pub SafeAt : Shown → Piece → Type 0
+SafeAt s p = s.doing ≡ Running → (st : State) → Knows s st → (k : Onward) → SafeOn s k → Safe s (p st k)
+
+abbrev pub Always : Piece → Type 0
+Always p = (s : Shown) → SafeAt s p
+
+pub on_later : (a b : Shown) (k : Onward) → Fits a b → SafeOn a k → SafeOn b k
+on_later a b k f safe = λ s g flow known st knows. safe s (fits_then a b s f g) flow known st knows
+
+pub goes_safe : (s : Shown) (flow : Flow) → KnowsFlow s flow → SafeAt s (λ st k. k flow st)
+goes_safe s flow known run st knows k safe = safe s (fits_refl s run) flow known st knows
+
+pub fails_safe : (f : Fault) → Always (fails f)
+fails_safe f s run st knows k safe = safe s (fits_refl s run) (raise f) tt st knows
+
+pub passes_safe : Always passes
+passes_safe s run st knows k safe = safe s (fits_refl s run) (Went values.Nothing) ((plain s).nothing, refl) st knows
+
+pub pick_safe : (s : Shown) (b : Bool) (p q : Piece) → SafeAt s p → SafeAt s q → SafeAt s (if b then p else q)
+pick_safe s true p q good bad = good
+pick_safe s false p q good bad = bad
+
+-- ---- payments and events
+
+pub pay_safe : (s : Shown) (units : ℕ) (p : Piece) → SafeAt s p → SafeAt s (λ st k. pay units (p st k))
+pay_safe s units p h run st knows k safe = (run, h run st knows k safe)
+
+reply_safe : (s : Shown) (reply : Reply) (next : Run) → s.doing ≡ Running → Safe s next → Safe s (after_reply reply next)
+reply_safe s (r.Wait l) next run safe = safe
+reply_safe s reply next run safe = (run, safe)
+
+pub calls_safe : (s : Shown) (event : Event) (next : Reply → Run) → s.doing ≡ Running → MayMake s event → ((r : Reply) → does event r s.doing ≡ Running) → ((r : Reply) → Safe (shown_more s (event, r)) (next r)) → Safe s (calls event next)
+calls_safe s event next run may runs safe = (run, (may, λ r. reply_safe (shown_more s (event, r)) r (next r) (runs r) (safe r)))
+
+-- an event that changes nothing of what is held
+pub steady : (s : Shown) (event : Event) (p : Reply → Piece) → MayMake s event → ((r : Reply) → holds event r s.held ≡ s.held) → ((r : Reply) → does event r s.doing ≡ Running)
+    → ((r : Reply) → SafeAt (shown_more s (event, r)) (p r)) → SafeAt s (λ st k. calls event (λ r. p r st k))
+steady s event p may same runs each run st knows k safe =
+    calls_safe s event (λ r. p r st k) run may runs
+    (λ r. let f : Fits s (shown_more s (event, r)) = fits_more s event r run (same r) (runs r) in
+    each r (runs r) st (state_grows s (shown_more s (event, r)) f.grows st knows) k (on_later s (shown_more s (event, r)) k f safe))
+
+-- ---- one piece after another
+
+pub on_value_safe : (s : Shown) (k : Onward) (go : Value → State → Run) → SafeOn s k → ((s' : Shown) → Fits s s' → (v : Value) → KnowsValue s' v → (st : State) → Knows s' st → Safe s' (go v st)) → SafeOn s (on_value k go)
+on_value_safe s k go safe each s' f (Went v) known st knows = each s' f v known st knows
+on_value_safe s k go safe each s' f (Left leave) known st knows = safe s' f (Left leave) known st knows
+
+pub behind : (s : Shown) (p : Piece) (q : Value → Piece) → SafeAt s p → ((s' : Shown) → Grows s s' → (v : Value) → KnowsValue s' v → SafeAt s' (q v)) → SafeAt s (λ st k. p st (on_value k (λ v st'. q v st' k)))
+behind s p q h each run st knows k safe =
+    h run st knows (on_value k (λ v st'. q v st' k))
+    (on_value_safe s k (λ v st'. q v st' k) safe (λ s' f v known st' knows'. each s' f.grows v known f.runs st' knows' k (on_later s s' k f safe)))
+
+pub sized_on : (s : Shown) (k : Onward) → SafeOn s k → SafeOn s (sized k)
+sized_on s k safe s' f (Went v) known st knows = (f.runs, safe s' f (Went v) known st knows)
+sized_on s k safe s' f (Left leave) known st knows = safe s' f (Left leave) known st knows
+
+pub sized_safe : (s : Shown) (p : Piece) → SafeAt s p → SafeAt s (λ st k. p st (sized k))
+sized_safe s p h run st knows k safe = h run st knows (sized k) (sized_on s k safe)
+
+pub sized_goes : (s : Shown) (v : Value) → KnowsValue s v → SafeAt s (λ st k. sized k (Went v) st)
+sized_goes s v known run st knows k safe = (run, safe s (fits_refl s run) (Went v) known st knows)
+
+pub atom_safe : (s : Shown) (p : Piece) → SafeAt s p → SafeAt s (atom p)
+atom_safe s p h = pay_safe s 1 (λ st k. p st (sized k)) (sized_safe s p h)
+
+-- ---- lists of pieces and values
+
+abbrev pub Each : Shown → List Value → Type 0
+Each s [] = Unit {0}
+Each s (v ∷ vs) = KnowsValue s v × Each s vs
+
+pub each_grows : (s s' : Shown) → Grows s s' → (vs : List Value) → Each s vs → Each s' vs
+each_grows s s' g [] h = tt
+each_grows s s' g (v ∷ vs) h = (value_grows s s' g v h.0, each_grows s s' g vs h.1)
+
+each_more : (s : Shown) (vs : List Value) (v : Value) → Each s vs → KnowsValue s v → Each s (vs ++ v ∷ [])
+each_more s [] v h known = (known, tt)
+each_more s (x ∷ vs) v h known = (h.0, each_more s vs v h.1 known)
+
+abbrev pub AllSafe : List Piece → Type 0
+AllSafe [] = Unit {0}
+AllSafe (p ∷ ps) = Always p × AllSafe ps
+
+-- safe on all values that are known
+abbrev pub SafeOf : (List Value → Piece) → Type 0
+SafeOf go = (s : Shown) (vs : List Value) → Each s vs → SafeAt s (go vs)
+
+pub gathers_safe : (ps : List Piece) → AllSafe ps → (go : List Value → Piece) → SafeOf go → (s : Shown) (vs : List Value) → Each s vs → SafeAt s (gathers ps vs go)
+gathers_safe [] all go each s vs h run st knows k safe = each s vs h run st knows k safe
+gathers_safe (p ∷ ps) all go each s vs h run st knows k safe =
+    behind s p (λ v. gathers ps (vs ++ v ∷ []) go) (all.0 s) (λ s' g v known. gathers_safe ps all.1 go each s' (vs ++ v ∷ []) (each_more s' vs v (each_grows s s' g vs h) known)) run st knows k safe
+
+pub operates_safe : (ps : List Piece) → AllSafe ps → (apply : List Value → Piece) → SafeOf apply → Always (operates ps apply)
+operates_safe ps all apply each s =
+    gathers_safe ps all (λ vs st k. pay 1 (apply vs st (sized k))) (λ s' vs h. pay_safe s' 1 (λ st k. apply vs st (sized k)) (sized_safe s' (apply vs) (each s' vs h))) s [] tt
+
+pub in_order_safe : (ps : List Piece) → AllSafe ps → Always (in_order ps)
+in_order_safe [] all s = passes_safe s
+in_order_safe (p ∷ ps) all s = behind s p (λ _. in_order ps) (all.0 s) (λ s' g v known. in_order_safe ps all.1 s')
+
+pub built_safe : (s : Shown) (vs : List Value) (p : Piece) → SafeAt s p → SafeAt s (built vs p)
+built_safe s vs p h = pick_safe s (list_any is_special vs) (fails fault.NotBuilt) p (fails_safe fault.NotBuilt s) h
+
+pub decides_safe : (s : Shown) (v : Value) (good bad : Piece) → SafeAt s good → SafeAt s bad → SafeAt s (decides v good bad)
+decides_safe s v good bad h l = built_safe s (v ∷ []) (if is_true v then good else bad) (pick_safe s (is_true v) good bad h l)
+
+pub with_one_safe : (s : Shown) (vs : List Value) → Each s vs → (go : Value → Piece) → ((a : Value) → KnowsValue s a → SafeAt s (go a)) → SafeAt s (with_one vs go)
+with_one_safe s (a ∷ []) h go each = each a h.0
+with_one_safe s vs h go each = fails_safe fault.NotInProfile s
+
+pub with_two_safe : (s : Shown) (vs : List Value) → Each s vs → (go : Value → Value → Piece) → ((a b : Value) → KnowsValue s a → KnowsValue s b → SafeAt s (go a b)) → SafeAt s (with_two vs go)
+with_two_safe s (a ∷ b ∷ []) h go each = each a b h.0 h.1.0
+with_two_safe s vs h go each = fails_safe fault.NotInProfile s
+
+pub with_three_safe : (s : Shown) (vs : List Value) → Each s vs → (go : Value → Value → Value → Piece) → ((a b c : Value) → KnowsValue s a → KnowsValue s b → KnowsValue s c → SafeAt s (go a b c)) → SafeAt s (with_three vs go)
+with_three_safe s (a ∷ b ∷ c ∷ []) h go each = each a b c h.0 h.1.0 h.1.1.0
+with_three_safe s vs h go each = fails_safe fault.NotInProfile s

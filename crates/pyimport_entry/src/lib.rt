@@ -1,0 +1,56 @@
+//! The program `pyimport`, over the files of the current folder.
+#![tactic(auto)]
+
+ghost use Rattle.std.specs.Prelude.{◌≡◌};
+ghost use Rattle.std.specs.Process.{exit_status};
+ghost use Rattle.pyimport_entry.specs.Status.{status_of};
+
+use base_types::{NoMemory, Text};
+use pyimport::{Report, pyimport};
+use std::env;
+use std::io::ErrorKind;
+use std::process::ExitCode;
+use tree_files::{RealTree, StdSink};
+
+/// The words after the program's name. Words that are not UTF-8 are refused, as no words are.
+fn words_of(rt: &HostRuntime) -> Result<Vec<String>, NoMemory> {
+    let mut words = Vec::new(rt.alloc());
+    match env::args(rt) {
+        Ok(all) => {
+            for word in all.skip(1) {
+                words.push(word)?;
+            }
+            Ok(words)
+        }
+        Err(error) if error.kind() == ErrorKind::OutOfMemory => Err(NoMemory),
+        Err(_) => Ok(words),
+    }
+}
+
+/// What the words of the command line ask for is done over the current folder. There is no report
+/// where memory was wanted for the words.
+fn report(rt: HostRuntime) -> Option<Report> {
+    let alloc = rt.alloc();
+    let Ok(words) = words_of(&rt) else {
+        return None;
+    };
+    let mut tree = RealTree::at(rt, Text::new(alloc));
+    let mut out = StdSink::out(rt);
+    let mut err = StdSink::err(rt);
+    Some(pyimport(alloc, words.as_slice(), &mut tree, &mut out, &mut err))
+}
+
+/// How the program ends: with the status of its report, and with 6 where it has none.
+fn exit_of(report: Option<Report>) -> ExitCode
+    ensures { exit_status result ≡ status_of report }
+{
+    match report {
+        Some(report) => ExitCode::from(report.status),
+        None => ExitCode::from(6),
+    }
+}
+
+/// Runs the program, and gives its exit status.
+pub fn run(rt: HostRuntime) -> ExitCode {
+    exit_of(report(rt))
+}

@@ -1,0 +1,3 @@
+print("main")
+import missing
+print("after")
