@@ -1,4 +1,0 @@
-pub mod Lines
-pub mod Bound
-pub mod Depth
-pub mod Asking

@@ -1,6 +1,0 @@
-mod Paying
-mod Looked
-mod Holding
-mod Framing
-mod Turning
-mod Whole

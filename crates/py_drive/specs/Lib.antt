@@ -1,3 +1,0 @@
-pub mod At
-pub mod Turns
-pub mod Overs
