@@ -1,6 +1,5 @@
 //! The work that remains of a script.
 ghost use Rattle.std.specs.Prelude.{◌≡◌, [], ◌∷◌, MatchOption, OnOk, OnErr};
-ghost use Rattle.py_frames.specs.Unwind.{stops, unwound};
 
 use base_types::{NoMemory, Seq, Text};
 use find_load::{Importer, In};

@@ -1,14 +1,15 @@
-//! The functions of a source, with their numbers, names, parameters and global names.
+//! The functions of a source by their numbers, with their names, parameters and global names, or whether a name is local.
 
 use crate::trees::refusal;
-use base_types::{Seq, Text, Texts};
+use base_types::{Text, Texts};
+use py_functions::{Function, Program};
 use py_parser::parse;
-use py_syntax::{Branch, FuncDef, Handler, Script, Stmt};
+use py_syntax::FuncDef;
 use row_words::RowError;
 use std::alloc::Global;
 
-/// The most statements that a row may have.
-const MOST_STATEMENTS: u32 = 10_000;
+/// The most functions that a row may have.
+const MOST_FUNCTIONS: u32 = 10_000;
 
 /// The text with these names behind it.
 fn put_names(mut text: Text, names: &Texts) -> Result<Text, RowError> {
@@ -29,80 +30,54 @@ fn put_globals(mut text: Text, function: &FuncDef) -> Result<Text, RowError> {
     put_names(text, &function.globals)
 }
 
-fn put(mut text: Text, function: &FuncDef) -> Result<Text, RowError> {
+/// The text with the number and the name of a function behind it.
+fn put_name(mut text: Text, function: &FuncDef) -> Result<Text, RowError> {
     let number = function.number;
     let name = function.name.as_str();
     let between = if text.len() > 0 { "; " } else { "" };
-    text.push_str(format!(in text.alloc(); "{between}{number} {name}(")?.as_str())?;
+    text.push_str(format!(in text.alloc(); "{between}{number} {name}")?.as_str())?;
+    Ok(text)
+}
+
+fn put(text: Text, function: &FuncDef) -> Result<Text, RowError> {
+    let mut text = put_name(text, function)?;
+    text.push_str("(")?;
     text = put_names(text, &function.parameters)?;
     text.push_str(")")?;
     put_globals(text, function)
 }
 
-/// Puts the blocks of a `try` in front.
-fn put_try<'a>(
-    todo: &mut Vec<&'a [Stmt]>,
-    body: &'a Seq<Stmt>,
-    handlers: &'a Seq<Handler>,
-    orelse: &'a Seq<Stmt>,
-    last: &'a Seq<Stmt>,
-) -> Result<(), RowError> {
-    todo.push(last.as_slice())?;
-    todo.push(orelse.as_slice())?;
-    for handler in handlers.as_slice().iter().rev() {
-        todo.push(handler.body.get().as_slice())?;
-    }
-    Ok(todo.push(body.as_slice())?)
+/// The text with a function behind it, and whether the name is local there.
+fn put_local(text: Text, function: &Function, name: &Text) -> Result<Text, RowError> {
+    let mut text = put_name(text, function.def())?;
+    let told = if function.is_local(name) {
+        " yes"
+    } else {
+        " no"
+    };
+    text.push_str(told)?;
+    Ok(text)
 }
 
-/// Puts the blocks of an `if` in front.
-fn put_if<'a>(
-    todo: &mut Vec<&'a [Stmt]>,
-    branches: &'a Seq<Branch>,
-    orelse: &'a Seq<Stmt>,
-) -> Result<(), RowError> {
-    todo.push(orelse.as_slice())?;
-    for branch in branches.as_slice().iter().rev() {
-        todo.push(branch.body.get().as_slice())?;
-    }
-    Ok(())
-}
-
-/// Puts the blocks of a statement in front of what is to be looked at.
-fn put_blocks<'a>(todo: &mut Vec<&'a [Stmt]>, stmt: &'a Stmt) -> Result<(), RowError> {
-    match stmt {
-        Stmt::If(branches, orelse) => put_if(todo, branches.get(), orelse.get()),
-        Stmt::While(_, body) => Ok(todo.push(body.get().as_slice())?),
-        Stmt::Try(body, handlers, orelse, last) => {
-            put_try(todo, body.get(), handlers.get(), orelse.get(), last.get())
-        }
-        _ => Ok(()),
-    }
-}
-
-fn functions(alloc: Global, script: &Script) -> Result<Text, RowError> {
+/// The functions by their numbers; where a name is given, whether it is local in each.
+fn functions(alloc: Global, program: &Program, name: Option<&Text>) -> Result<Text, RowError> {
     let mut text = Text::new(alloc);
-    let mut todo = Vec::new(alloc);
-    todo.push(script.body.get().as_slice())?;
-    for _ in 0..MOST_STATEMENTS {
-        let Some(stmts) = todo.pop() else {
+    for number in 0..MOST_FUNCTIONS {
+        let Some(function) = program.function_at(number) else {
             return Ok(text);
         };
-        if let Some((first, rest)) = stmts.split_first() {
-            todo.push(rest)?;
-            if let Stmt::Def(function) = first {
-                text = put(text, function.get())?;
-            }
-            put_blocks(&mut todo, first)?;
-        }
+        text = match name {
+            Some(name) => put_local(text, function.get(), name)?,
+            None => put(text, function.get().def())?,
+        };
     }
     Err(RowError::Unknown)
 }
 
-/// The functions of a source, in its order.
-pub fn answer(alloc: Global, source: &[u8]) -> Result<Text, RowError> {
+/// The functions of a source; where a name is given, whether it is local in each.
+pub fn answer(alloc: Global, name: Option<&Text>, source: &[u8]) -> Result<Text, RowError> {
     match parse(alloc, source) {
-        Ok(script) => functions(alloc, &script),
+        Ok(script) => functions(alloc, &Program::of(script)?, name),
         Err(error) => refusal(alloc, &error),
     }
 }

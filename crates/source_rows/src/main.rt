@@ -58,7 +58,7 @@ fn whole(alloc: Global, call: &str, source: &[u8]) -> Result<Text, RowError> {
     match call {
         "tokens" => tokens::answer(alloc, source),
         "tree" => trees::answer(alloc, source),
-        "functions" => functions::answer(alloc, source),
+        "functions" => functions::answer(alloc, None, source),
         "stage" => stages::answer(alloc, source),
         _ => Err(RowError::Unknown),
     }
@@ -72,9 +72,20 @@ fn part(alloc: Global, call: &str, row: &mut Row<'_>) -> Result<Text, RowError> 
     parts::answer(alloc, call, room, source.as_slice())
 }
 
+/// Whether a name is local in each function of a source.
+fn local(alloc: Global, row: &mut Row<'_>) -> Result<Text, RowError> {
+    let name = row.text(alloc)?;
+    row.must("in ")?;
+    let source = source(alloc, row)?;
+    functions::answer(alloc, Some(&name), source.as_slice())
+}
+
 impl Table for Sources {
     fn answer(&mut self, alloc: Global, row: &mut Row<'_>) -> Result<Option<Text>, RowError> {
         let call = row.word()?;
+        if call == "local" {
+            return Ok(Some(local(alloc, row)?));
+        }
         if parts::is_call(call) {
             return Ok(Some(part(alloc, call, row)?));
         }

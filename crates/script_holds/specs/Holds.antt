@@ -1,0 +1,18 @@
+-- What a script holds, in the words of what a thread knows.
+use Rattle.std.specs.Prelude.{List, map}
+use Rattle.thread_knowledge.specs.Holdings.{Holding, Taken, Loading, Reloading}
+use Rattle.script_holds.specs.declared.held.Hold.{Hold}
+use Rattle.script_holds.specs.declared.held.Hold.TheVariants as hold
+use Rattle.script_holds.specs.declared.held.Held.{Held}
+
+abbrev pub holding_of : Hold → Holding
+holding_of (hold.Taken n) = Taken n
+holding_of (hold.Loading load) = Loading load
+holding_of (hold.Reloading mid load) = Reloading mid load
+
+abbrev pub holdings : List Hold → List Holding
+holdings hs = map holding_of hs
+
+-- all that is held, the innermost first
+abbrev pub held_in : Held → List Holding
+held_in held = holdings held.holds
