@@ -231,46 +231,95 @@ def search_rows():
 
 # Whole calls.
 
+OWN_TEXTS = "# Texts of this project's own"
+OF_ITS_KIND = {"IndentationError": "SyntaxError", "TabError": "SyntaxError"}
+CALL = re.compile(
+    r"(?:#.*\n)*row (?P<name>.*)\n(?P<files>(?:(?:file|pieces) .*\n|[|/].*\n)*)words run main.py\nrun\n"
+    r"out\n(?P<out>(?:[|/] .*\n)*)(?:err\n(?P<err>(?:[|/] .*\n)*))?status (?P<status>\d)\n*"
+)
 
-def calls():
-    """The calls of the table that begin with files alone: name, files, output, last line of the errors, status."""
-    text = (CRATES / "run_rows" / "stdout").read_text()
-    for block in re.split(r"^row ", text, flags=re.M)[1:]:
-        name, body = block.split("\n", 1)
-        parts = re.fullmatch(r"((?:file .*\n|\| .*\n|\|\n)*)words run main.py\nrun\nout\n((?:\| .*\n)*)(?:err\n\| (.*)\n)?status (\d)\n(?:\n|#.*\n)*", body)
-        if parts:
-            yield name, parts[1], parts[2], parts[3], parts[4]
+
+def calls(table):
+    """The calls of a table that begin with files alone, each with the notes of its section."""
+    notes = ""
+    for block in (CRATES / table / "stdout").read_text().split("\n\n"):
+        if re.fullmatch(r"(?:#.*\n?)*", block):
+            notes = block
+        elif parts := CALL.fullmatch(block + "\n"):
+            yield notes, parts
 
 
 def lines_of(text):
-    return "".join(line[2:] + "\n" for line in text.splitlines() if line.startswith("|"))
+    """The text that stands in lines with their signs: `|` before a line with its end, `/` before one without."""
+    return "".join(line[2:] + ("\n" if line[0] == "|" else "") for line in text.splitlines())
+
+
+def bytes_of(pieces):
+    spelled = re.sub(
+        r'hex\((\w*)\)|("(?:[^"\\]|\\.)*")',
+        lambda found: f"bytes.fromhex('{found[1]}')" if found[1] is not None else f"{found[2]}.encode()",
+        pieces,
+    )
+    return eval(spelled)
+
+
+def contents(lines):
+    return b"".join(
+        bytes_of(line.removeprefix("pieces ")) if line.startswith("pieces ") else lines_of(line).encode()
+        for line in lines.splitlines()
+    )
+
+
+def last_error(told):
+    """The lines of an error that ended a script, behind those that say where it was."""
+    lines = told.rstrip("\n").split("\n")
+    places = [n for n, line in enumerate(lines) if line.startswith((" ", "Traceback"))]
+    return "\n".join(lines[max(places, default=-1) + 1 :])
 
 
 def run(folder, files):
     for one in re.split(r"^file ", files, flags=re.M)[1:]:
         path, lines = one.split("\n", 1)
         (folder / path).parent.mkdir(parents=True, exist_ok=True)
-        (folder / path).write_text(lines_of(lines))
-    done = subprocess.run([sys.executable, "main.py"], cwd=folder, capture_output=True, text=True)
-    told = done.stderr.strip().split("\n")[-1]
-    return done.stdout, told, str(done.returncode)
+        (folder / path).write_bytes(contents(lines))
+    words = [sys.executable, "-X", "utf8", "main.py"]
+    done = subprocess.run(words, cwd=folder, capture_output=True, encoding="utf-8")
+    return done.stdout, last_error(done.stderr) if done.returncode else "", str(done.returncode)
+
+
+def kind_alone(answer):
+    """An answer whose error is given by its kind alone."""
+    out, err, status = answer
+    kind = err.split(":")[0]
+    return out, OF_ITS_KIND.get(kind, kind), status
+
+
+def call_rows(table):
+    for notes, parts in calls(table):
+        err = lines_of(parts["err"] or "").removesuffix("\n").removeprefix("main.py: ")
+        own = parts["status"] not in "01" or any(word in err for word in ("ProfileError", "source is longer"))
+        if own or notes.startswith(OWN_RULES):
+            continue
+        with tempfile.TemporaryDirectory() as folder:
+            wanted, answered = (lines_of(parts["out"]), err, parts["status"]), run(pathlib.Path(folder), parts["files"])
+        if notes.startswith(OWN_TEXTS):
+            wanted, answered = kind_alone(wanted), kind_alone(answered)
+        yield parts["name"], wanted, answered
 
 
 def run_rows():
-    for name, files, out, err, status in calls():
-        own = err and any(word in err for word in ("ProfileError", "source is longer"))
-        if own:
-            continue
-        with tempfile.TemporaryDirectory() as folder:
-            wanted = (lines_of(out), err.removeprefix("main.py: ") if err else "", status)
-            yield name, wanted, run(pathlib.Path(folder), files)
+    return call_rows("run_rows")
+
+
+def language_rows():
+    return call_rows("language_rows")
 
 
 def main():
     if sys.version_info[:2] != (3, 12):
         sys.exit("this needs CPython 3.12")
     others = 0
-    for rows in (value_rows, source_rows, search_rows, run_rows):
+    for rows in (value_rows, source_rows, search_rows, run_rows, language_rows):
         count = 0
         for row, answer, answered in rows():
             if answered is None:

@@ -24,6 +24,21 @@ def with_those_below(lines, names):
     return sorted(found)
 
 
+def build(folder, name):
+    """The program of this repository of that name, built in a scratch repository. Ends the whole script where it is refused."""
+    lines = crate_lines()
+    names = with_those_below(lines, [name])
+    for below in names:
+        shutil.copytree(ROOT / "crates" / below, folder / "crates" / below, ignore=shutil.ignore_patterns("out"))
+    (folder / "crates.txt").write_text("\n".join(line for below, line in lines.items() if below in names) + "\n")
+    crate = folder / "crates" / name
+    done = subprocess.run(["rt", "run"], cwd=crate, capture_output=True, text=True)
+    program = crate / "out" / name
+    if not program.exists():
+        sys.exit(done.stdout + done.stderr)
+    return program
+
+
 def run(folder, name, program, uses, proofs=None):
     """The program's crate and what the program wrote. `uses` are the crates that it calls, and `proofs` maps the paths of
     its proof files in its crate to their texts. Ends the whole script where the program is refused.

@@ -1,15 +1,7 @@
-//! Runs scripts: the events that a script's meaning makes, each on a desk, until its End.
+//! Runs scripts: the events that the meaning of a script makes, each on a desk, until its End.
 #![tactic(auto)]
 
-mod dispatch;
-mod flow;
-mod parts;
-mod paying;
-mod run;
 mod script;
-mod steps;
-mod why;
-mod work;
 
-pub use flow::Flow;
-pub use script::{Ending, run_script};
+pub use py_drive::Ending;
+pub use script::run_script;

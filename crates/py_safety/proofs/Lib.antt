@@ -8,4 +8,4 @@ mod Blocks
 mod Tries
 mod Statements
 mod Imports
-mod Meaning
+pub mod Meaning

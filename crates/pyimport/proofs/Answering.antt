@@ -1,5 +1,5 @@
 -- From what the parts of a call leave to how the call ends.
-use Rattle.std.proofs.Common.{◌≡◌, ◌≤◌, ℕ, List, [], ◌∷◌, ◌++◌, codes, Option, Some, None, Result, Ok, Err, IfOk, IfSome, refl, sym, subst, ◌∙◌, ap, arith}
+use Rattle.std.proofs.Common.{◌≡◌, ◌≤◌, ℕ, List, [], ◌∷◌, Option, Some, None, Result, Ok, Err, IfOk, IfSome, refl, sym, subst, ◌∙◌, ap, arith}
 use Rattle.tree_files.specs.Files.{Files, node_at}
 use Rattle.tree_files.specs.declared.tree.TreeFault.{TreeFault}
 use Rattle.base_types.specs.Path.{Path, Spells}
@@ -13,13 +13,14 @@ use Rattle.import_words.specs.Plans.{plan_of}
 use Rattle.import_words.specs.declared.plan.Plan.{Plan}
 use Rattle.import_words.specs.declared.plan.Plan.TheVariants as plans
 use Rattle.import_words.specs.declared.plan.RunPlan.{RunPlan}
-use Rattle.py_run.specs.Meaning.{meaning}
+use Rattle.py_meaning.specs.Meaning.{meaning}
+use Rattle.py_sources.specs.Sources.{sources}
 use Rattle.pyimport.specs.Prints.{out_text}
 use Rattle.pyimport.specs.Ends.{err_text, status_of}
 use Rattle.pyimport.specs.Sinks.{At, Leaves}
 use Rattle.pyimport.specs.Scripts.{IsScript, Opens, by_node, first_of}
 use Rattle.pyimport.specs.Alone.{opening_of, HasCause, IsRun}
-use Rattle.pyimport.specs.Answers.{Answers, Runs, ReadsBy, built, refusal_of}
+use Rattle.pyimport.specs.Answers.{Answers, Runs, ReadsBy, built}
 use Rattle.pyimport.specs.declared.open.Opened.{Opened}
 use Rattle.pyimport.specs.declared.open.Opened.TheVariants as opened
 use Rattle.pyimport.specs.declared.alone.Report.{Report}
@@ -53,12 +54,12 @@ cause_since (Some k) first old new h c = rose_since first old new h c
 
 run_since : (files : Files) (opened : State) (run : Run) (fuel first old new status : ℕ) (h : List Entry) → first ≤ old → IsRun files opened run fuel old new h status → IsRun files opened run fuel first new h status
 run_since files opened run fuel first old new status h f (IsRun.whole stop solo cause) = IsRun.whole stop solo (cause_since stop first old new f cause)
-run_since files opened run fuel first old new status h f (IsRun.part stop is broken cause) = IsRun.part stop is broken (cause_since stop first old new f cause)
+run_since files opened run fuel first old new status h f (IsRun.part stop rest is whole cause) = IsRun.part stop rest is whole (cause_since stop first old new f cause)
 
 runs_by : (tree : Option Files) (run : RunPlan) (text : List ℕ) (first old new status : ℕ) (h : List Entry) → first ≤ old
-    → IfSome tree (λ files. IsRun files (opening_of run (text ∷ [])) (meaning 0 text) run.fuel old new h status) → Runs tree run text first new h status
+    → IfSome tree (λ files. IsRun files (opening_of run (text ∷ [])) (meaning sources 0 text) run.fuel old new h status) → Runs tree run text first new h status
 runs_by None run text first old new status h f r = tt
-runs_by (Some files) run text first old new status h f r = run_since files (opening_of run (text ∷ [])) (meaning 0 text) run.fuel first old new status h f r
+runs_by (Some files) run text first old new status h f r = run_since files (opening_of run (text ∷ [])) (meaning sources 0 text) run.fuel first old new status h f r
 
 abbrev at_of : Option (List ℕ) → ℕ → At
 at_of written faults = record { written = written; faults = faults }
@@ -71,7 +72,7 @@ module _ (words : List Word) (tree : Option Files) (first old new : ℕ) (out_ol
   played : (status : ℕ) (history : Option (List Entry))
       → (history ≡ None → (status ≡ 6) × (out_new.written ≡ out_old.written) × (out_new.faults ≡ out_old.faults) × (err_new.written ≡ err_old.written) × (err_new.faults ≡ err_old.faults))
       → IfSome history (IsLegal (opening_of run (text ∷ [])))
-      → IfSome tree (λ files. IfSome history (λ h. IsRun files (opening_of run (text ∷ [])) (meaning 0 text) run.fuel old new h status))
+      → IfSome tree (λ files. IfSome history (λ h. IsRun files (opening_of run (text ∷ [])) (meaning sources 0 text) run.fuel old new h status))
       → IfSome history (λ h. ReadsBy old new h status)
       → IfSome history (λ h. Leaves (status_of 1 h) 5 (out_text run.trace h) (err_text run.scripts h) out_old out_new err_old err_new status)
       → Answers words tree first new out_old out_new err_old err_new status (Some (plans.Run run)) history
@@ -87,7 +88,7 @@ module _ (words : List Word) (tree : Option Files) (first old new : ℕ) (out_ol
   pub played_by : (texts : List (List ℕ)) → texts ≡ text ∷ [] → (ran : Ran) (r : Report) → r ≡ record { status = ran.status; plan = Some (plans.Run run); history = ran.history }
       → (ran.history ≡ None → (ran.status ≡ 6) × (out_new.written ≡ out_old.written) × (out_new.faults ≡ out_old.faults) × (err_new.written ≡ err_old.written) × (err_new.faults ≡ err_old.faults))
       → IfSome ran.history (IsLegal (opening_of run texts))
-      → IfSome tree (λ files. IfSome ran.history (λ h. IsRun files (opening_of run texts) (meaning 0 (first_of texts)) run.fuel old new h ran.status))
+      → IfSome tree (λ files. IfSome ran.history (λ h. IsRun files (opening_of run texts) (meaning sources 0 (first_of texts)) run.fuel old new h ran.status))
       → IfSome ran.history (λ h. ReadsBy old new h ran.status)
       → IfSome ran.history (λ h. Leaves (status_of 1 h) 5 (out_text run.trace h) (err_text run.scripts h) out_old out_new err_old err_new ran.status)
       → Answers words tree first new out_old out_new err_old err_new r.status r.plan r.history
@@ -95,7 +96,7 @@ module _ (words : List Word) (tree : Option Files) (first old new : ℕ) (out_ol
       subst (λ (x : Report). Answers words tree first new out_old out_new err_old err_new x.status x.plan x.history) (sym e)
       (played ran.status ran.history short
       (subst (λ (xs : List (List ℕ)). IfSome ran.history (IsLegal (opening_of run xs))) one legal)
-      (subst (λ (xs : List (List ℕ)). IfSome tree (λ files. IfSome ran.history (λ h. IsRun files (opening_of run xs) (meaning 0 (first_of xs)) run.fuel old new h ran.status))) one run') read leaves)
+      (subst (λ (xs : List (List ℕ)). IfSome tree (λ files. IfSome ran.history (λ h. IsRun files (opening_of run xs) (meaning sources 0 (first_of xs)) run.fuel old new h ran.status))) one run') read leaves)
 
 -- what stands at the path that the word spells
 pub script_at : (tree : Option Files) (word : List ℕ) (path : Path) (r : Result Opened TreeFault) → Spells word path → IfSome tree (λ f. IfOk r (λ it. it ≡ by_node (node_at f path))) → IfSome tree (λ f. IfOk r (IsScript f word))

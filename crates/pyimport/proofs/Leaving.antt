@@ -1,5 +1,5 @@
 -- What is left in the sinks.
-use Rattle.std.proofs.Common.{◌≡◌, ◌≤◌, ℕ, Bool, List, [], ◌∷◌, ◌++◌, Option, Some, None, Result, Ok, Err, IfOk, refl, sym, subst, ◌∙◌, ap, arith, take, drop, length}
+use Rattle.std.proofs.Common.{◌≡◌, ℕ, Bool, List, [], ◌∷◌, ◌++◌, Option, Some, None, Result, Ok, Err, IfOk, refl, sym, subst, ◌∙◌, take, drop}
 use Rattle.std.proofs.lemmas.List.{append-nil, take-append-drop}
 use Rattle.base_types.specs.declared.no_memory.NoMemory.{NoMemory}
 use Rattle.tree_files.specs.Count.{Rose}
@@ -10,11 +10,11 @@ use Rattle.machine_book.specs.declared.outlet.Flow.TheVariants.{Open, Failed, Sh
 use Rattle.machine_book.proofs.Keeping.{appends_then, part_then, part_still}
 use Rattle.machine_book.specs.Outgo.{Outgo, Kept, Flows, FlowsFrom, Appends, AppendsPart, text_of}
 use Rattle.thread_knowledge.specs.Own.{own}
-use Rattle.py_run.specs.declared.script.Ending.{Ending}
-use Rattle.py_run.specs.Ending.{Ended, outcome}
+use Rattle.script_end.specs.declared.end.Ending.{Ending}
+use Rattle.script_end.specs.Ending.{Ended, outcome}
 use Rattle.pyimport.specs.Prints.{piece, opening_text, out_text}
 use Rattle.pyimport.specs.Ends.{line_of, err_text, number_of, status_of}
-use Rattle.pyimport.specs.Sinks.{At, Gets, Leaves, status_by}
+use Rattle.pyimport.specs.Sinks.{At, Gets}
 use Rattle.pyimport.proofs.Endings.{line_is, number_is}
 
 -- nothing was to be written

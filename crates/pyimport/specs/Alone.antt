@@ -1,14 +1,17 @@
 -- What the run of one script leaves as its history.
-use Rattle.std.specs.Prelude.{◌≡◌, ℕ, ◌+◌, List, [], ◌∷◌, Option, Some, None}
+use Rattle.std.specs.Prelude.{◌≡◌, ℕ, ◌+◌, List, [], ◌∷◌, ◌++◌, Option, Some, None}
 use Rattle.tree_files.specs.Files.{Files}
 use Rattle.tree_files.specs.Count.{Rose}
 use Rattle.machine_events.specs.declared.event.Entry.{Entry}
 use Rattle.machine_state.specs.declared.state.State.{State}
 use Rattle.machine_state.specs.Opening.{opening}
+use Rattle.thread_knowledge.specs.Own.{own}
 use Rattle.meanings.specs.Runs.{Run}
-use Rattle.py_run.specs.Meaning.{meaning}
+use Rattle.meanings.specs.Lists.{lists_in}
+use Rattle.py_meaning.specs.Meaning.{meaning}
+use Rattle.py_sources.specs.Sources.{sources}
 use Rattle.solo_history.specs.Made.{Turn}
-use Rattle.solo_history.specs.Solo.{IsSolo, IsBroken}
+use Rattle.solo_history.specs.Solo.{IsSolo}
 use Rattle.import_words.specs.declared.plan.RunPlan.{RunPlan}
 
 -- the state before the first event, from the plan and the texts: all scripts are of one round
@@ -25,12 +28,19 @@ abbrev pub turn_of : Files → Run → Option ℕ → Turn
 turn_of files run stop = record { files = files; run = run; stop = stop }
 
 -- the history of one script over these files: the one that it has alone, with a stop only where a call of the tree failed;
--- where memory was wanted, at status 6, one that such a history begins with
+-- where memory was wanted, at status 6, a beginning of such a one
 pub data IsRun (files : Files) (opened : State) (run : Run) (fuel : ℕ) (old new : ℕ) (history : List Entry) (status : ℕ) : Type 0 where
-  whole : (stop : Option ℕ) → IsSolo opened (turn_of files run stop ∷ []) fuel history → HasCause stop old new → IsRun files opened run fuel old new history status
-  part : (stop : Option ℕ) → status ≡ 6 → IsBroken opened (turn_of files run stop ∷ []) fuel history → HasCause stop old new → IsRun files opened run fuel old new history status
+  whole : (stop : Option ℕ) → IsSolo opened (turn_of files run stop ∷ []) fuel history → HasCause stop old new
+      → IsRun files opened run fuel old new history status
+  part : (stop : Option ℕ) (rest : List Entry) → status ≡ 6 → IsSolo opened (turn_of files run stop ∷ []) fuel (history ++ rest)
+      → HasCause stop old new → IsRun files opened run fuel old new history status
+
+-- how often a call may list a directory: once for each listing that its history keeps
+abbrev pub lists_by : Option (List Entry) → ℕ
+lists_by None = 0
+lists_by (Some history) = lists_in (own 0 history)
 
 -- the turns of scripts, of which the first has the number t, by their files and texts, where no call of the tree fails
 abbrev pub turns_of : ℕ → List (Files × List ℕ) → List Turn
 turns_of t [] = []
-turns_of t (script ∷ scripts) = turn_of script.0 (meaning t script.1) None ∷ turns_of (t + 1) scripts
+turns_of t (script ∷ scripts) = turn_of script.0 (meaning sources t script.1) None ∷ turns_of (t + 1) scripts

@@ -4,14 +4,14 @@ use Rattle.tree_files.specs.Files.{Files}
 use Rattle.tree_files.specs.Count.{Rose}
 use Rattle.machine_events.specs.declared.event.Entry.{Entry}
 use Rattle.machine_state.specs.Legal.{IsLegal}
-use Rattle.meanings.specs.Runs.{Run}
 use Rattle.import_words.specs.Words.{Word}
 use Rattle.import_words.specs.Plans.{plan_of}
 use Rattle.import_words.specs.Usage.{usage_of}
 use Rattle.import_words.specs.declared.plan.Plan.{Plan}
 use Rattle.import_words.specs.declared.plan.Plan.TheVariants as plans
 use Rattle.import_words.specs.declared.plan.RunPlan.{RunPlan}
-use Rattle.py_run.specs.Meaning.{meaning}
+use Rattle.py_meaning.specs.Meaning.{meaning}
+use Rattle.py_sources.specs.Sources.{sources}
 use Rattle.pyimport.specs.Prints.{out_text}
 use Rattle.machine_events.specs.declared.event.Outcome.TheVariants as o
 use Rattle.thread_knowledge.specs.Own.{own}
@@ -53,7 +53,7 @@ refusal_of script (opened.Text text) = None
 -- the history of the script over the files, where the tree tells them
 abbrev pub Runs : Option Files → RunPlan → List ℕ → ℕ → ℕ → List Entry → ℕ → Type 0
 Runs None run text old new history status = Unit {0}
-Runs (Some files) run text old new history status = IsRun files (opening_of run (text ∷ [])) (meaning 0 text) run.fuel old new history status
+Runs (Some files) run text old new history status = IsRun files (opening_of run (text ∷ [])) (meaning sources 0 text) run.fuel old new history status
 
 -- also where the tree tells nothing, a script ends by a failed call of the tree only where the tree's count of faults rose
 abbrev pub ReadsBy : ℕ → ℕ → List Entry → ℕ → Type 0

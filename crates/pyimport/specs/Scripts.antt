@@ -1,5 +1,5 @@
 -- What a script's word names in a tree.
-use Rattle.std.specs.Prelude.{◌≡◌, ℕ, nat_le, length, List, [], ◌∷◌, Option, Some, None, if◌then◌else◌}
+use Rattle.std.specs.Prelude.{ℕ, nat_le, length, List, [], ◌∷◌, Option, Some, None, if◌then◌else◌}
 use Rattle.base_types.specs.Path.{Path, Spells}
 use Rattle.tree_files.specs.declared.tree.Node.{Node}
 use Rattle.tree_files.specs.declared.tree.Node.TheVariants.{File, Dir}

@@ -1,5 +1,5 @@
 -- What a call leaves in its two sinks, and its status.
-use Rattle.std.specs.Prelude.{◌≡◌, ◌≤◌, ℕ, List, Option}
+use Rattle.std.specs.Prelude.{◌≡◌, ℕ, List, Option}
 use Rattle.tree_files.specs.Count.{Rose}
 use Rattle.machine_book.specs.Outgo.{Appends, AppendsPart}
 use Rattle.machine_book.specs.declared.outlet.Flow.{Flow}

@@ -1,5 +1,5 @@
 //! One script that runs alone.
-ghost use Rattle.std.specs.Prelude.{◌≡◌, ◌≤◌, ◌∷◌, [], ℕ, List, Option, None, Some, IfOk, IfSome, OnErr, length};
+ghost use Rattle.std.specs.Prelude.{◌≡◌, ◌≤◌, ◌+◌, ◌∷◌, [], ℕ, List, Option, None, Some, IfOk, IfSome, OnErr, length};
 ghost use Rattle.tree_files.specs.Count.{Rose};
 ghost use Rattle.tree_files.specs.Files.{Files};
 ghost use Rattle.machine_events.specs.declared.event.Outcome.TheVariants as o;
@@ -8,9 +8,11 @@ ghost use Rattle.machine_book.specs.Bound.{opened, CanOpen};
 ghost use Rattle.thread_knowledge.specs.Own.{own};
 ghost use Rattle.machine_book.specs.Outgo.{Kept};
 ghost use Rattle.meanings.specs.Follows.{Follows};
-ghost use Rattle.py_run.specs.Ending.{Ended, Broken, IsRead, outcome};
-ghost use Rattle.py_run.specs.Meaning.{meaning};
-ghost use Rattle.pyimport.specs.Alone.{opening_of, IsRun};
+ghost use Rattle.meanings.specs.Lists.{lists_in};
+ghost use Rattle.script_end.specs.Ending.{Ended, Broken, IsRead, outcome};
+ghost use Rattle.py_meaning.specs.Meaning.{meaning};
+ghost use Rattle.py_sources.specs.Sources.{sources};
+ghost use Rattle.pyimport.specs.Alone.{opening_of, lists_by, IsRun};
 ghost use Rattle.pyimport.specs.Ends.{line_of, number_of, end_of, err_text, status_of};
 ghost use Rattle.pyimport.specs.Prints.{out_text};
 ghost use Rattle.pyimport.specs.Scripts.{first_of};
@@ -69,11 +71,12 @@ fn run_alone<T: Tree, O: Outlet>(
     requires one { it.opening.rounds ≡ 1 ∷ [] }
     ensures files { T.files tree.new ≡ T.files tree.old }
     ensures faults_grow { T.faults tree.old ≤ T.faults tree.new }
+    ensures lists { T.lists tree.new ≤ T.lists tree.old + lists_in (own 0 result.history) }
     ensures legal { IsLegal (opened it.opening) result.history }
     ensures kept { Kept O.piece (O.out outlet) (O.out result.outlet) result.history }
     ensures ended { IfOk result.ran (λ ending. Ended (own 0 result.history) (outcome ending)) }
-    ensures follows { (files : Files) → T.files tree.old ≡ Some files → IfOk result.ran (λ ending. Follows files 0 (meaning 0 it.text) fuel (own 0 result.history) (outcome ending)) }
-    ensures part { (files : Files) → T.files tree.old ≡ Some files → OnErr result.ran (Broken files 0 (meaning 0 it.text) fuel (own 0 result.history) (T.faults tree.old) (T.faults tree.new)) }
+    ensures follows { (files : Files) → T.files tree.old ≡ Some files → IfOk result.ran (λ ending. Follows files 0 (meaning sources 0 it.text) fuel (own 0 result.history) (outcome ending)) }
+    ensures part { (files : Files) → T.files tree.old ≡ Some files → OnErr result.ran (Broken files 0 (meaning sources 0 it.text) fuel (own 0 result.history) (T.faults tree.old) (T.faults tree.new)) }
     ensures read { IfOk result.ran (λ ending. IsRead ending → Rose (T.faults tree.old) (T.faults tree.new)) }
 {
     let Begun {
@@ -191,11 +194,12 @@ pub fn run_one<T: Tree, K: Sink>(
     requires text { length texts ≡ 1 }
     ensures files { T.files tree.new ≡ T.files tree.old }
     ensures faults_grow { T.faults tree.old ≤ T.faults tree.new }
+    ensures lists { T.lists tree.new ≤ T.lists tree.old + lists_by result.history }
     ensures out_faults { K.faults out.old ≤ K.faults out.new }
     ensures err_faults { K.faults err.old ≤ K.faults err.new }
     ensures short { result.history ≡ None → (result.status ≡ 6) × (K.written out.new ≡ K.written out.old) × (K.faults out.new ≡ K.faults out.old) × (K.written err.new ≡ K.written err.old) × (K.faults err.new ≡ K.faults err.old) }
     ensures legal { IfSome result.history (IsLegal (opening_of plan.now texts)) }
-    ensures run { IfSome (T.files tree.old) (λ files. IfSome result.history (λ history. IsRun files (opening_of plan.now texts) (meaning 0 (first_of texts)) plan.now.fuel (T.faults tree.old) (T.faults tree.new) history result.status)) }
+    ensures run { IfSome (T.files tree.old) (λ files. IfSome result.history (λ history. IsRun files (opening_of plan.now texts) (meaning sources 0 (first_of texts)) plan.now.fuel (T.faults tree.old) (T.faults tree.new) history result.status)) }
     ensures leaves { IfSome result.history (λ history. Leaves (status_of 1 history) 5 (out_text plan.now.trace history) (err_text plan.now.scripts history) (record { written = K.written out.old; faults = K.faults out.old }) (record { written = K.written out.new; faults = K.faults out.new }) (record { written = K.written err.old; faults = K.faults err.old }) (record { written = K.written err.new; faults = K.faults err.new }) result.status) }
     ensures read { IfSome result.history (λ history. (result.status ≡ 6 → ⊥) → end_of (own 0 history) ≡ Some o.Read → Rose (T.faults tree.old) (T.faults tree.new)) }
 {
@@ -232,11 +236,12 @@ pub fn solo<T: Tree, K: Sink>(
     ensures plan { result.plan ≡ None }
     ensures files { T.files tree.new ≡ T.files tree.old }
     ensures faults_grow { T.faults tree.old ≤ T.faults tree.new }
+    ensures lists { T.lists tree.new ≤ T.lists tree.old + lists_by result.history }
     ensures out_faults { K.faults out.old ≤ K.faults out.new }
     ensures err_faults { K.faults err.old ≤ K.faults err.new }
     ensures short { result.history ≡ None → (result.status ≡ 6) × (K.written out.new ≡ K.written out.old) × (K.faults out.new ≡ K.faults out.old) × (K.written err.new ≡ K.written err.old) × (K.faults err.new ≡ K.faults err.old) }
     ensures legal { IfSome result.history (IsLegal (opening_of plan.now texts)) }
-    ensures run { IfSome (T.files tree.old) (λ files. IfSome result.history (λ history. IsRun files (opening_of plan.now texts) (meaning 0 (first_of texts)) plan.now.fuel (T.faults tree.old) (T.faults tree.new) history result.status)) }
+    ensures run { IfSome (T.files tree.old) (λ files. IfSome result.history (λ history. IsRun files (opening_of plan.now texts) (meaning sources 0 (first_of texts)) plan.now.fuel (T.faults tree.old) (T.faults tree.new) history result.status)) }
     ensures leaves { IfSome result.history (λ history. Leaves (status_of 1 history) 5 (out_text plan.now.trace history) (err_text plan.now.scripts history) (record { written = K.written out.old; faults = K.faults out.old }) (record { written = K.written out.new; faults = K.faults out.new }) (record { written = K.written err.old; faults = K.faults err.old }) (record { written = K.written err.new; faults = K.faults err.new }) result.status) }
     ensures read { IfSome result.history (λ history. (result.status ≡ 6 → ⊥) → end_of (own 0 history) ≡ Some o.Read → Rose (T.faults tree.old) (T.faults tree.new)) }
 {

@@ -1,10 +1,11 @@
 //! A call of the program.
-ghost use Rattle.std.specs.Prelude.{◌≡◌, ◌≤◌, ◌∷◌, ◌++◌, [], ℕ, List, Option, None, Some, IfOk, length, map, codes};
+ghost use Rattle.std.specs.Prelude.{◌≡◌, ◌≤◌, ◌+◌, ◌∷◌, ◌++◌, [], ℕ, List, Option, None, Some, IfOk, length, map, codes};
 ghost use Rattle.std.specs.String.{string_bytes};
 ghost use Rattle.import_words.specs.Plans.{plan_of};
 ghost use Rattle.import_words.specs.declared.plan.Plan.TheVariants as plans;
 ghost use Rattle.import_words.specs.Words.{Word};
 ghost use Rattle.import_words.specs.Usage.{usage_of};
+ghost use Rattle.pyimport.specs.Alone.{lists_by};
 ghost use Rattle.pyimport.specs.Answers.{Answers, is_built, is_one, is_root, run_if, built};
 ghost use Rattle.pyimport.specs.Scripts.{Opens, first_of};
 ghost use Rattle.pyimport.specs.Sinks.{At, Leaves};
@@ -90,6 +91,7 @@ fn play<T: Tree, K: Sink>(
     ensures answers { (words : List Word) (first : ℕ) → built (plan_of words) ≡ Some run → Opens (T.files tree.old) (first_of run.scripts) (opened.Text text) → first ≤ T.faults tree.old → Answers words (T.files tree.old) first (T.faults tree.new) (record { written = K.written out.old; faults = K.faults out.old }) (record { written = K.written out.new; faults = K.faults out.new }) (record { written = K.written err.old; faults = K.faults err.old }) (record { written = K.written err.new; faults = K.faults err.new }) result.status result.plan result.history }
     ensures files { T.files tree.new ≡ T.files tree.old }
     ensures faults_grow { T.faults tree.old ≤ T.faults tree.new }
+    ensures lists { T.lists tree.new ≤ T.lists tree.old + lists_by result.history }
     ensures out_faults { K.faults out.old ≤ K.faults out.new }
     ensures err_faults { K.faults err.old ≤ K.faults err.new }
 {
@@ -159,6 +161,7 @@ fn run_plan<T: Tree, K: Sink>(
     ensures answers { (words : List Word) → built (plan_of words) ≡ Some run → Answers words (T.files tree.old) (T.faults tree.old) (T.faults tree.new) (record { written = K.written out.old; faults = K.faults out.old }) (record { written = K.written out.new; faults = K.faults out.new }) (record { written = K.written err.old; faults = K.faults err.old }) (record { written = K.written err.new; faults = K.faults err.new }) result.status result.plan result.history }
     ensures files { T.files tree.new ≡ T.files tree.old }
     ensures faults_grow { T.faults tree.old ≤ T.faults tree.new }
+    ensures lists { T.lists tree.new ≤ T.lists tree.old + lists_by result.history }
     ensures out_faults { K.faults out.old ≤ K.faults out.new }
     ensures err_faults { K.faults err.old ≤ K.faults err.new }
 {
@@ -230,6 +233,7 @@ pub fn pyimport<T: Tree, K: Sink>(
     ensures answers { Answers (map string_bytes words.now) (T.files tree.old) (T.faults tree.old) (T.faults tree.new) (record { written = K.written out.old; faults = K.faults out.old }) (record { written = K.written out.new; faults = K.faults out.new }) (record { written = K.written err.old; faults = K.faults err.old }) (record { written = K.written err.new; faults = K.faults err.new }) result.status result.plan result.history }
     ensures files { T.files tree.new ≡ T.files tree.old }
     ensures faults_grow { T.faults tree.old ≤ T.faults tree.new }
+    ensures lists { T.lists tree.new ≤ T.lists tree.old + lists_by result.history }
     ensures out_faults { K.faults out.old ≤ K.faults out.new }
     ensures err_faults { K.faults err.old ≤ K.faults err.new }
 {

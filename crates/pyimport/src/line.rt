@@ -2,7 +2,7 @@
 ghost use Rattle.std.specs.Prelude.{◌≡◌, ◌++◌, ◌∷◌, [], codes, IfOk};
 ghost use Rattle.py_value.specs.Names.{kind_name};
 ghost use Rattle.pyimport.specs.Ends.{line_of, behind_colon};
-ghost use Rattle.py_run.specs.Ending.{outcome};
+ghost use Rattle.script_end.specs.Ending.{outcome};
 
 use base_types::NoMemory;
 use py_run::Ending;

@@ -25,6 +25,7 @@ fn open_path<T: Tree>(alloc: Global, tree: &mut T, path: &TreePath) -> Result<Op
     ensures failed { IsErrOf result TreeFault.Failed → Rose (T.faults tree.old) (T.faults tree.new) }
     ensures files_stay { T.files tree.new ≡ T.files tree.old }
     ensures faults_grow { T.faults tree.old ≤ T.faults tree.new }
+    ensures lists_stay { T.lists tree.new ≡ T.lists tree.old }
 {
     match tree.stamp(path)? {
         Stamp::File(_) => match load_text(alloc, tree, path) {
@@ -42,6 +43,7 @@ pub fn open_script<T: Tree>(alloc: Global, tree: &mut T, word: &Text) -> Result<
     ensures failed { IsErrOf result TreeFault.Failed → Rose (T.faults tree.old) (T.faults tree.new) }
     ensures files_stay { T.files tree.new ≡ T.files tree.old }
     ensures faults_grow { T.faults tree.old ≤ T.faults tree.new }
+    ensures lists_stay { T.lists tree.new ≡ T.lists tree.old }
 {
     match TreePath::read(word)? {
         Some(path) => open_path(alloc, tree, &path),

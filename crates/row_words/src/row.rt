@@ -117,6 +117,20 @@ impl<'a> Row<'a> {
         self.cut(self.rest.len())
     }
 
+    /// All that stands behind this sign and one blank, with the blanks at its front; `None` where the sign does not stand
+    /// at the front.
+    pub fn line_behind(&mut self, sign: &str) -> Option<&'a [u8]> {
+        if !self.rest.starts_with(sign.as_bytes()) {
+            return None;
+        }
+        let all = self.all();
+        let (_, line) = all.split_at(sign.len().min(all.len()));
+        match line.split_first() {
+            Some((b' ', kept)) => Some(kept),
+            _ => Some(line),
+        }
+    }
+
     /// All that is left, as a text.
     pub fn all_text(&mut self) -> Result<&'a str, RowError> {
         text_of(self.all())

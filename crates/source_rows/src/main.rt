@@ -3,7 +3,6 @@
 
 mod functions;
 mod parts;
-mod stages;
 mod tokens;
 mod trees;
 
@@ -59,7 +58,6 @@ fn whole(alloc: Global, call: &str, source: &[u8]) -> Result<Text, RowError> {
         "tokens" => tokens::answer(alloc, source),
         "tree" => trees::answer(alloc, source),
         "functions" => functions::answer(alloc, None, source),
-        "stage" => stages::answer(alloc, source),
         _ => Err(RowError::Unknown),
     }
 }

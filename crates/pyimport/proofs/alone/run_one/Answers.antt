@@ -1,25 +1,29 @@
-use Rattle.std.proofs.Common.{◌≡◌, ◌∷◌, [], ◌∙◌, sym, ap, refl, List, ℕ, Some}
+use Rattle.std.proofs.Common.{◌≡◌, ◌∷◌, [], ◌∙◌, sym, ap, List, ℕ, Some}
 use Rattle.machine_events.specs.declared.event.Outcome.TheVariants as o
 use Rattle.tree_files.specs.Count.{Rose}
 use Rattle.thread_knowledge.specs.Own.{own}
-use Rattle.py_run.specs.Meaning.{meaning}
+use Rattle.py_meaning.specs.Meaning.{meaning}
+use Rattle.py_sources.specs.Sources.{sources}
 use Rattle.pyimport.specs.Alone.{opening_of, IsRun}
 use Rattle.pyimport.specs.Ends.{end_of, err_text, status_of}
 use Rattle.pyimport.specs.Prints.{out_text}
 use Rattle.pyimport.specs.Scripts.{first_of}
 use Rattle.pyimport.specs.Sinks.{Leaves}
-use Rattle.pyimport.proofs.Endings.{ran_has, run_told, told_by, one_of, read_is}
+use Rattle.pyimport.proofs.Endings.{ran_has, lists_of_run, run_told, told_by, one_of, read_is}
 use Rattle.pyimport.proofs.Leaving.{gets_back, line_for, number_for}
 use Rattle.pyimport.proofs.alone.run_one.Goals as goal
 
 pub returns-clause-run : goal.returns-clause-run
 returns-clause-run g c =
     let opened = opening_of c.args.plan.now c.args.texts in
-    let run = meaning 0 (first_of c.args.texts) in
+    let run = meaning sources 0 (first_of c.args.texts) in
     let old = g.T.Tree.faults c.args.tree.now in
     let new = g.T.Tree.faults c.run_alone-alone.new.tree in
     told_by _ _ (λ files e. ran_has c.of_run.result _ _ (λ h status. IsRun files opened run c.args.plan.now.fuel old new h status) c.of_run.ensures
-    (run_told files _ opened _ (first_of c.args.texts) c.args.plan.now.fuel old new _ _ c.run_alone-alone.result.ran refl c.in-Ok.ensures.opening c.in-Ok.ensures.text c.run_alone-alone.ensures.legal (c.run_alone-alone.ensures.follows files e) (c.run_alone-alone.ensures.part files e) c.run_alone-alone.ensures.read c.finish-status.ensures.short))
+    (run_told files c.in-Ok.it.opening opened _ (first_of c.args.texts) c.args.plan.now.fuel old new _ _ c.run_alone-alone.result.ran c.in-Ok.ensures.can_open c.in-Ok.ensures.one c.in-Ok.ensures.opening c.in-Ok.ensures.text c.run_alone-alone.ensures.legal (c.run_alone-alone.ensures.follows files e) (c.run_alone-alone.ensures.part files e) c.run_alone-alone.ensures.read c.finish-status.ensures.short))
+
+pub returns-clause-lists : goal.returns-clause-lists
+returns-clause-lists g c = lists_of_run c.of_run.result _ _ _ _ c.of_run.ensures c.run_alone-alone.ensures.lists
 
 pub returns-clause-leaves : goal.returns-clause-leaves
 returns-clause-leaves g c =

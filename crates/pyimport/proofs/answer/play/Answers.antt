@@ -1,5 +1,4 @@
-use Rattle.std.proofs.Common.{◌≡◌, ◌∷◌, [], Some, None, refl, sym, subst, List, ℕ}
-use Rattle.import_words.specs.declared.plan.Plan.TheVariants as plans
+use Rattle.std.proofs.Common.{refl}
 use Rattle.pyimport.proofs.Answering.{played_by, short_by}
 use Rattle.pyimport.proofs.answer.play.Goals as goal
 

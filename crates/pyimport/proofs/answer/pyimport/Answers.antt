@@ -1,4 +1,4 @@
-use Rattle.std.proofs.Common.{◌≡◌, ◌∙◌, [], None, refl, sym}
+use Rattle.std.proofs.Common.{◌∙◌, refl, sym}
 use Rattle.pyimport.specs.Answers.{Answers}
 use Rattle.pyimport.proofs.Answering.{answers_with, wordless_by}
 use Rattle.pyimport.proofs.answer.pyimport.Goals as goal

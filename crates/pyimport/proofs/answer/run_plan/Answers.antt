@@ -1,7 +1,5 @@
-use Rattle.std.proofs.Common.{◌≡◌, ◌∷◌, [], ◌++◌, codes, Some, None, Err, ap, refl}
-use Rattle.import_words.specs.declared.plan.Plan.TheVariants as plans
+use Rattle.std.proofs.Common.{Err, ap, refl}
 use Rattle.pyimport.specs.Answers.{Answers}
-use Rattle.pyimport.specs.Scripts.{first_of}
 use Rattle.pyimport.specs.declared.open.Opened.TheVariants as opened
 use Rattle.pyimport.proofs.Answering.{answers_with, opens_by, short_by}
 use Rattle.pyimport.proofs.answer.run_plan.Goals as goal

@@ -2,7 +2,8 @@ use Rattle.std.proofs.Common.{◌≡◌, ℕ, suc, ◌+◌, List, [], ◌∷◌,
 use Rattle.tree_files.specs.Files.{Files}
 use Rattle.solo_history.specs.Made.{HaveNoStops}
 use Rattle.solo_history.specs.Solo.{AllSafe}
-use Rattle.py_run.proofs.Safety.{safe_meaning}
+use Rattle.py_safety.proofs.Meaning.{meaning_safe}
+use Rattle.py_sources.specs.Sources.{sources}
 use Rattle.pyimport.specs.Alone.{turns_of}
 use Rattle.pyimport.proofs.laws.each_script_has_a_history.Goals as goal
 
@@ -12,7 +13,7 @@ as_many t (script ∷ scripts) = ap suc (as_many (t + 1) scripts)
 
 all_safe : (t : ℕ) (scripts : List (Files × List ℕ)) → AllSafe (turns_of t scripts) t
 all_safe t [] = tt
-all_safe t (script ∷ scripts) = (safe_meaning t script.1, all_safe (t + 1) scripts)
+all_safe t (script ∷ scripts) = (meaning_safe sources t script.1, all_safe (t + 1) scripts)
 
 no_stops : (t : ℕ) (scripts : List (Files × List ℕ)) → HaveNoStops (turns_of t scripts)
 no_stops t [] = tt

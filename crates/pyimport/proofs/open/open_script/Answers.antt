@@ -1,6 +1,4 @@
-use Rattle.std.proofs.Common.{rules, ◌≡◌, Option, Some, None, Result, Ok, Err, IfOk, IfSome, List, ℕ}
-use Rattle.tree_files.specs.Files.{Files, node_at}
-use Rattle.pyimport.specs.Scripts.{by_node, IsScript}
+use Rattle.std.proofs.Common.{rules}
 use Rattle.pyimport.proofs.Answering.{script_at, script_not}
 use Rattle.pyimport.proofs.open.open_script.Goals as goal
 

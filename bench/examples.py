@@ -1,0 +1,42 @@
+"""Whether the stored traces and pictures of examples/ are what the program and tools/draw_trace.py make.
+
+    python3 bench/examples.py          draws each stored trace again, and compares the picture
+    python3 bench/examples.py --run    runs each main.py again first, and compares its trace
+
+Prints each file that differs, and ends with status 1 where there is one. With --run and no built program each example
+takes the time of a trial run. Needs Python 3 alone.
+"""
+import pathlib
+import subprocess
+import sys
+
+ROOT = pathlib.Path(__file__).resolve().parent.parent
+
+
+def made(words, folder):
+    """What a command writes to standard output."""
+    return subprocess.run(words, cwd=folder, stdout=subprocess.PIPE, check=True).stdout
+
+
+def differing(folder, is_run):
+    """The stored files of an example that are not what is made now."""
+    trace, picture = folder / "trace.txt", folder / "trace.svg"
+    if is_run and made([ROOT / "pyimport", "run", "--trace", "main.py"], folder) != trace.read_bytes():
+        yield trace
+    if made([sys.executable, ROOT / "tools" / "draw_trace.py", trace], folder) != picture.read_bytes():
+        yield picture
+
+
+def main():
+    is_run = sys.argv[1:] == ["--run"]
+    if sys.argv[1:] and not is_run:
+        sys.exit(__doc__)
+    folders = sorted(it.parent for it in (ROOT / "examples").glob("*/main.py"))
+    found = [path for folder in folders for path in differing(folder, is_run)]
+    for path in found:
+        print(f"{path.relative_to(ROOT)} differs")
+    sys.exit(1 if found else 0)
+
+
+if __name__ == "__main__":
+    main()

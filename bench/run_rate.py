@@ -1,0 +1,138 @@
+#!/usr/bin/env python3.12
+"""How long scripts take, beside the Python that runs this file (CPython 3.12) and beside the import machine alone.
+
+Builds the program and the one of `machine_rate.py` in a scratch repository with `rt run` (which proves the crates, an hour
+on a new machine). Each script does one kind of work, once and twice as often; its time is that of its process without
+that of an empty script. CPython is timed inside its process, without its start. Ends with status 1 where a bound of the
+table below is passed, where twice the work takes more than 2.4 times the time, or where an event takes too much memory.
+"""
+import os
+import pathlib
+import subprocess
+import sys
+import tempfile
+import time
+
+import machine_rate
+import scratch
+
+TURNS = 20_000
+ROUNDS = 7
+FUEL = "--fuel=2000000"
+MOST_BYTES_OF_AN_EVENT = 300
+LEAST_PART_OF_THE_MACHINE = 0.5
+MOST_OF_AN_EMPTY_SCRIPT = 0.25
+
+COUNTING = "i = 0\nwhile i < TURNS:\n    i = i + 1\n"
+
+
+def in_function(before, turn):
+    """A script whose function takes so many turns, each with this work."""
+    body = ["i = 0", "while i < TURNS:", "    i = i + 1"] + ["    " + line for line in turn]
+    return before + "def work():\n" + "".join(f"    {line}\n" for line in body) + "work()\n"
+
+
+# what is done in each turn, with how many times CPython's time it may take
+SCRIPTS = {
+    "counting at module level": (COUNTING, 5),
+    "counting in a function": (in_function("", []), 2.5),
+    "calls of a small function": (in_function("def same(x):\n    return x\n", ["same(i)"]), 2.5),
+    "attribute reads": (in_function("import shelf\n", ["shelf.book"]), 2.5),
+    "texts and lists": (in_function("", ["[i, 'a' + 'b'] == [i, 'ab']"]), 2.5),
+    "tries that raise": (in_function("", ["try:", "    raise ValueError", "except ValueError:", "    pass"]), 2.5),
+}
+
+TIMED = """import sys, time
+source = compile(open(sys.argv[1]).read(), sys.argv[1], "exec")
+began = time.perf_counter()
+exec(source, {"__name__": "__main__"})
+print(time.perf_counter() - began)
+"""
+
+
+def measure(words, folder):
+    """The seconds and the peak memory in KiB of one process, and what it wrote."""
+    reader, writer = os.pipe()
+    began = time.perf_counter()
+    child = subprocess.Popen(words, cwd=folder, stdout=writer)
+    os.close(writer)
+    with os.fdopen(reader) as pipe:
+        written = pipe.read()
+    _, status, usage = os.wait4(child.pid, 0)
+    spent = time.perf_counter() - began
+    child.returncode = os.waitstatus_to_exitcode(status)
+    if child.returncode != 0:
+        sys.exit(f"{words} ended with status {child.returncode}")
+    return spent, usage.ru_maxrss, written
+
+
+def best(words, folder):
+    """The least time of several runs, and the most memory."""
+    runs = [measure(words, folder) for _ in range(ROUNDS)]
+    return min(run[0] for run in runs), max(run[1] for run in runs), runs[0][2]
+
+
+def in_cpython(script, folder):
+    """The least time that CPython takes for a script, in seconds."""
+    return min(float(measure([sys.executable, "-c", TIMED, script], folder)[2]) for _ in range(ROUNDS))
+
+
+def write_scripts(folder):
+    (folder / "shelf.py").write_text("book = 1\n")
+    (folder / "empty.py").write_text("")
+    for number, (script, _) in enumerate(SCRIPTS.values()):
+        for times in (1, 2):
+            (folder / f"s{number}_{times}.py").write_text(script.replace("TURNS", str(times * TURNS)))
+
+
+def events_a_second(program):
+    """The rate of the machine alone."""
+    runs = [machine_rate.measure(program, 10_000) for _ in range(ROUNDS)]
+    return max(events / (spent / 1e9) for events, spent, _ in runs)
+
+
+def compare(program, folder, empty):
+    """Runs each script in both, and says which bounds are passed."""
+    passed = []
+    for number, (name, (_, bound)) in enumerate(SCRIPTS.items()):
+        times = []
+        for twice in (1, 2):
+            spent, _, _ = best([program, "run", FUEL, f"s{number}_{twice}.py"], folder)
+            times.append(spent - empty)
+        other = in_cpython(f"s{number}_1.py", folder)
+        print(f"{name}: {times[0] * 1e3:.1f} ms, CPython {other * 1e3:.1f} ms ({times[0] / other:.2f} times), twice {times[1] / times[0]:.2f}")
+        if times[0] > bound * other or times[1] > 2.4 * times[0]:
+            passed.append(name)
+    return passed
+
+
+def main():
+    with tempfile.TemporaryDirectory() as top:
+        top = pathlib.Path(top)
+        for part in ("machine", "program", "scripts"):
+            (top / part).mkdir()
+        crate, _ = scratch.run(top / "machine", "machine_rate", machine_rate.PROGRAM, ["import_machine"])
+        machine = crate / "out" / "machine_rate"
+        program = scratch.build(top / "program", "pyimport_main")
+        folder = top / "scripts"
+        write_scripts(folder)
+        empty, least, _ = best([program, "run", "empty.py"], folder)
+        python, _, _ = best([sys.executable, "empty.py"], folder)
+        print(f"an empty script: {empty * 1e3:.1f} ms, CPython {python * 1e3:.1f} ms")
+        passed = [] if empty <= MOST_OF_AN_EMPTY_SCRIPT * python else ["an empty script"]
+        passed += compare(program, folder, empty)
+        spent, most, _ = best([program, "run", FUEL, "s0_2.py"], folder)
+        events = 2 * TURNS * 3
+        rate, alone = events / (spent - empty), events_a_second(machine)
+        size = (most - least) * 1024 / events
+        print(f"{rate:.0f} events a second, the machine alone {alone:.0f}; {size:.0f} bytes an event")
+        if rate < LEAST_PART_OF_THE_MACHINE * alone:
+            passed.append("events a second")
+        if size > MOST_BYTES_OF_AN_EVENT:
+            passed.append("memory")
+    if passed:
+        sys.exit("bounds passed: " + ", ".join(passed))
+
+
+if __name__ == "__main__":
+    main()

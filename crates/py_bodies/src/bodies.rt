@@ -1,0 +1,100 @@
+//! Bodies of modules and scripts.
+ghost use Rattle.std.specs.Prelude.{◌≡◌, ◌<◌, ◌-◌, IfOk};
+ghost use Rattle.py_state.specs.declared.thread.Parsing.TheVariants as parsings;
+ghost use Rattle.py_meaning.specs.Meaning as spec;
+ghost use Rattle.py_sources.specs.Sources.{sources};
+ghost use Rattle.py_bodies.specs.Depth as depth;
+ghost use Rattle.py_frames.specs.Does.{Does, DoesIn, pieces, begins};
+ghost use Rattle.py_frames.specs.declared.work.Item.TheVariants as items;
+
+use crate::parsing::parsing_of;
+use base_types::{NoMemory, Seq};
+use py_faults::Fault;
+use py_frames::{Frame, Item, Want};
+use py_functions::Program;
+use py_names::fail;
+use py_state::{Flow, Leave, Parsing, Scope, Source, Thread};
+use std::alloc::Global;
+use std::mem;
+
+/// A text costs a unit for each whole 64 bytes.
+const BYTES_OF_A_UNIT: usize = 64;
+
+/// A body comes: its text is paid for.
+#[tactic(auto, using(crate::proofs::Depth::bodies_more))]
+pub fn start(
+    alloc: Global,
+    thread: &Thread,
+    mid: u32,
+    load: u32,
+    text: Seq<u8>,
+) -> Result<Want, NoMemory>
+    ensures { IfOk result (Does thread.now (begins (items.Start mid load text) thread.now)) }
+{
+    if thread.left == 0 {
+        return fail(alloc, thread, Fault::TooDeep);
+    }
+    let units = text.len() / BYTES_OF_A_UNIT;
+    Ok(Want::Pay {
+        of_tree: false,
+        units: units as u64,
+        item: Item::Begin { mid, load, text },
+    })
+}
+
+/// The statements of a script come next, in their own place.
+fn run(thread: &mut Thread, mid: u32, load: u32, program: Program) -> Result<Want, NoMemory>
+    requires { 0 < thread.old.left }
+    ensures { IfOk result (Does thread.new (pieces (λ w d. spec.starts (spec.around_at w (d - 1)) mid load (parsings.Parsed program)) thread.old)) }
+{
+    let body = program.body()?;
+    thread.state.kept.insert(load, Source { mid, program })?;
+    let place = Scope {
+        mid,
+        load,
+        function: None,
+    };
+    let scope = mem::replace(&mut thread.state.scope, place);
+    let left = thread.left;
+    thread.left = left - 1;
+    Ok(Want::Both(
+        Item::Block { stmts: body, at: 0 },
+        Frame::Back { scope, left },
+    ))
+}
+
+/// A body begins whose text came to this.
+#[tactic(auto, using(crate::proofs::Depth::starts_more))]
+fn begin_parsed(
+    alloc: Global,
+    thread: &mut Thread,
+    mid: u32,
+    load: u32,
+    parsing: Parsing,
+) -> Result<Want, NoMemory>
+    ensures { IfOk result (Does thread.new (pieces (λ w d. depth.starts_at w d mid load parsing) thread.old)) }
+{
+    if thread.left == 0 {
+        drop(parsing);
+        return fail(alloc, thread, Fault::TooDeep);
+    }
+    match parsing {
+        Parsing::Faulty(error) => Ok(Want::Go(Flow::Left(Leave::Raised(error)))),
+        Parsing::Parsed(program) => run(thread, mid, load, program),
+    }
+}
+
+/// A body begins, once its text is paid for.
+pub fn begin(
+    alloc: Global,
+    thread: &mut Thread,
+    mid: u32,
+    load: u32,
+    text: Seq<u8>,
+) -> Result<Want, NoMemory>
+    ensures { IfOk result (DoesIn sources thread.new (begins (items.Begin mid load text) thread.old sources)) }
+{
+    let parsing = parsing_of(alloc, text.as_slice())?;
+    let want = begin_parsed(alloc, thread, mid, load, parsing)?;
+    Ok(want)
+}

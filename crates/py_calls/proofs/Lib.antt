@@ -1,0 +1,7 @@
+pub mod Lines
+pub mod Bound
+pub mod Depth
+pub mod Alone
+pub mod Asking
+pub mod Missing
+pub mod Lifts

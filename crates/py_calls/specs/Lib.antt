@@ -1,0 +1,4 @@
+pub mod Lines
+pub mod Depth
+pub mod Few
+pub mod Asking

@@ -1,0 +1,75 @@
+//! Lists of few values, and values that are no operands.
+ghost use Rattle.std.specs.Prelude.{◌≡◌, ℕ, length};
+ghost use Rattle.std.specs.List.{list_any};
+ghost use Rattle.value_operators.specs.Outcomes.{is_special};
+ghost use Rattle.py_meaning.specs.Calls as spec;
+ghost use Rattle.py_meaning.specs.Pieces as words;
+ghost use Rattle.py_calls.specs.Few.{only, pair};
+ghost use Rattle.py_frames.specs.Does.{Does, pieces};
+
+use base_types::Seq;
+use py_frames::Want;
+use py_state::{Flow, Leave, Thread};
+use py_value::{Applied, Value};
+
+/// Whether a value stands for something in the machine.
+pub fn is_special(value: &Value) -> bool
+    ensures { result ≡ is_special value.now }
+{
+    match value {
+        Value::SysModules | Value::SysPath | Value::NsPath => true,
+        _ => false,
+    }
+}
+
+/// Whether one of the values stands for something in the machine.
+pub fn has_special(values: &Seq<Value>) -> bool
+    ensures { result ≡ list_any is_special values.now }
+{
+    values.as_slice().iter().any(|value| is_special(value))
+}
+
+/// The value of a list of one.
+pub fn only(values: Seq<Value>) -> Option<Value>
+    ensures { result ≡ only values }
+{
+    if values.len() != 1 {
+        return None;
+    }
+    let mut values = values;
+    values.pop()
+}
+
+/// The values of a list of two.
+pub fn pair(values: Seq<Value>) -> Option<(Value, Value)>
+    ensures { result ≡ pair values }
+{
+    if values.len() != 2 {
+        return None;
+    }
+    let mut values = values;
+    let second = values.pop()?;
+    let first = values.pop()?;
+    Some((first, second))
+}
+
+/// The text that a value is. Empty where it is none.
+pub fn text_of(value: &Value) -> &str
+    ensures { result.now ≡ spec.text_of value.now }
+{
+    match value {
+        Value::Text(text) => text.as_str(),
+        _ => "",
+    }
+}
+
+/// What an operator gives.
+pub fn give(thread: &Thread, applied: Applied) -> Want
+    ensures { Does thread.now (pieces (λ w d. words.gives applied) thread.now) result }
+{
+    let _ = thread;
+    match applied {
+        Applied::Value(value) => Want::Go(Flow::Went(value)),
+        Applied::Raised(error) => Want::Go(Flow::Left(Leave::Raised(error))),
+    }
+}

@@ -1,0 +1,14 @@
+//! Steps of calls: functions, kinds of errors and built-in functions (Language Reference 6.3.4).
+#![tactic(auto)]
+
+mod attributes;
+mod callees;
+mod few;
+mod functions;
+mod kinds;
+mod natives;
+mod print;
+
+pub use attributes::{give_default, tell};
+pub use callees::call;
+pub use functions::{come_back, sourced};

@@ -1,0 +1,6 @@
+//! What the replies to a script's events cost.
+#![tactic(auto)]
+
+mod costs;
+
+pub use costs::reply_units;

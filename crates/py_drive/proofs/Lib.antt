@@ -1,0 +1,9 @@
+mod Results
+mod Paying
+mod Looked
+mod Holding
+mod Framing
+mod Stepping
+mod Making
+mod Turning
+mod Whole

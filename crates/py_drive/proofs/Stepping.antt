@@ -1,0 +1,58 @@
+-- From what a step wants to where a turn leads.
+use Rattle.std.proofs.Common.{◌≡◌, ℕ, List, ◌∷◌, Option, refl, subst}
+use Rattle.tree_files.specs.Files.{Files}
+use Rattle.machine_events.specs.declared.event.Event.{Event}
+use Rattle.machine_events.specs.declared.event.Reply.{Reply}
+use Rattle.meanings.specs.Runs.{Run, IsSpent}
+use Rattle.py_state.specs.declared.flow.Flow.{Flow}
+use Rattle.py_state.specs.declared.thread.State.{State}
+use Rattle.py_meaning.specs.Meaning.{ends}
+use Rattle.py_sources.specs.Sources.{sources}
+use Rattle.py_frames.specs.Does.{rest}
+use Rattle.py_frames.specs.declared.work.Frame.{Frame}
+use Rattle.py_frames.specs.declared.work.Item.{Item}
+use Rattle.py_frames.specs.declared.want.Want.{Want}
+use Rattle.py_frames.specs.declared.want.Want.TheVariants as want
+use Rattle.py_drive.specs.At.{At}
+use Rattle.py_drive.specs.Turns.{Stepped, remains}
+use Rattle.py_drive.specs.declared.course.Course.{Course}
+use Rattle.py_drive.specs.declared.course.Turn.TheVariants as turn
+use Rattle.py_drive.specs.declared.purse.Purse.{Purse}
+
+-- a step leads on, where what it wants means what was to be done
+pub stepped : (purse : Purse) (after : Course) (run : Run) (w : Want) → after.purse ≡ purse → remains after w ≡ run → Stepped purse after run (turn.On w)
+stepped purse after run w same is files faults faults' mine = record {
+  moves = λ whole fuel a. rw (same, is) a;
+  counts = tt;
+}
+
+-- the same after a payment
+pub stepped_paid : (purse : Purse) (after : Course) (run next : Run) (w : Want) → remains after w ≡ next
+    → ((files : Option Files) (whole : Run) (fuel : ℕ) (mine : List (Event × Reply)) → At files whole fuel mine purse run → At files whole fuel mine after.purse next)
+    → Stepped purse after run (turn.On w)
+stepped_paid purse after run next w is paid files faults faults' mine = record {
+  moves = λ whole fuel a. rw is (paid files whole fuel mine a);
+  counts = tt;
+}
+
+-- a payment could not be made
+pub stepped_out : (purse : Purse) (after : Course) (run : Run)
+    → ((files : Option Files) (whole : Run) (fuel : ℕ) (mine : List (Event × Reply)) → At files whole fuel mine purse run → IsSpent files whole fuel mine after.purse.budget)
+    → Stepped purse after run turn.Out
+stepped_out purse after run spent files faults faults' mine = record {
+  moves = λ whole fuel a. spent files whole fuel mine a;
+  counts = tt;
+}
+
+-- no work is left
+pub stepped_came : (purse : Purse) (c after : Course) (flow : Flow) → after.purse ≡ purse → ((d : ℕ) (s : State) → rest sources c.work d flow s ≡ ends flow s)
+    → Stepped purse after (remains c (want.Go flow)) (turn.Came flow)
+stepped_came purse c after flow same comes files faults faults' mine = record {
+  moves = λ whole fuel a. rw same (subst (λ (run : Run). At files whole fuel mine purse run) (comes c.thread.left c.thread.state) a);
+  counts = tt;
+}
+
+-- a frame that was put first waits for the item
+pub pushed : (c : Course) (frames : List Frame) (item : Item) (frame : Frame) → frames ≡ frame ∷ c.work
+    → remains (record { purse = c.purse; held = c.held; thread = c.thread; work = frames }) (want.Then item) ≡ remains c (want.Both item frame)
+pushed c frames item frame is = rw is refl

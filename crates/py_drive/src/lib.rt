@@ -1,0 +1,18 @@
+//! The driver of the evaluator: it alone sees a port, a tree and a budget, and gives the steps what
+//! they want.
+#![tactic(auto)]
+
+mod course;
+mod drive;
+mod looks;
+mod makes;
+mod purse;
+mod script;
+mod steps;
+mod turn;
+
+pub use course::{Course, Turn};
+pub use drive::{Over, run};
+pub use purse::Purse;
+pub use script::run_script_on;
+pub use script_end::Ending;

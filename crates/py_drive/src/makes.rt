@@ -1,0 +1,75 @@
+//! Turns that make an event.
+ghost use Rattle.std.specs.Prelude.{◌≡◌, ℕ, List, IfOk, OnOk, OnErr, IsErrOf, Option};
+ghost use Rattle.tree_files.specs.Files.{Files};
+ghost use Rattle.py_frames.specs.declared.want.Want.TheVariants as wants;
+ghost use Rattle.script_port.specs.View.{View, Stays};
+ghost use Rattle.script_end.specs.Ending.{Holds};
+ghost use Rattle.py_drive.specs.Turns.{Stood, Made, Parted, Refused, remains};
+
+use crate::course::{Course, Turn};
+use machine_events::Event;
+use py_frames::{Item, OnReply, Want};
+use script_holds::change_of;
+use script_port::{Halt, Port};
+
+/// An event is made, for a unit.
+pub fn call<P: Port>(
+    port: &mut P,
+    course: &mut Course,
+    event: Event,
+    on: OnReply,
+) -> Result<Turn, Halt>
+    requires stood { Stood (P.view port.old) course.old.held (remains course.old (wants.Call event on)) }
+    ensures stays { Stays (P.view port.old) (P.view port.new) }
+    ensures turned { IfOk result (Made (P.view port.old).mine (P.view port.new).mine course.old.purse course.new (remains course.old (wants.Call event on))) }
+    ensures holds { OnOk result (Holds (P.view port.new) course.new.held) }
+    ensures part { OnErr result ((files : Option Files) → Parted files (P.view port.old).mine (P.view port.new).mine course.old.purse (remains course.old (wants.Call event on))) }
+    ensures refused { IsErrOf result Halt.Refused → (files : Option Files) → Refused (P.view port.new) files (P.view port.old).mine course.old.purse (remains course.old (wants.Call event on)) }
+{
+    let change = match change_of(&event) {
+        Ok(change) => change,
+        Err(_) => {
+            drop(event);
+            drop(on);
+            return Err(Halt::NoMemory);
+        }
+    };
+    if !course.purse.pay(false, 1) {
+        drop(event);
+        drop(on);
+        return Ok(Turn::Out);
+    }
+    course.purse.read = None;
+    match port.call(event) {
+        Ok(reply) => match course.held.change(change, &reply) {
+            Ok(()) => Ok(Turn::On(Want::Replied(on, reply))),
+            Err(_) => Err(Halt::NoMemory),
+        },
+        Err(halt) => {
+            drop(on);
+            Err(halt)
+        }
+    }
+}
+
+/// The script waits for a lock.
+pub fn wait<P: Port>(port: &mut P, course: &mut Course, item: Item) -> Result<Turn, Halt>
+    requires stood { Stood (P.view port.old) course.old.held (remains course.old (wants.Wait item)) }
+    ensures stays { Stays (P.view port.old) (P.view port.new) }
+    ensures turned { IfOk result (Made (P.view port.old).mine (P.view port.new).mine course.old.purse course.new (remains course.old (wants.Wait item))) }
+    ensures holds { OnOk result (Holds (P.view port.new) course.new.held) }
+    ensures part { OnErr result ((files : Option Files) → Parted files (P.view port.old).mine (P.view port.new).mine course.old.purse (remains course.old (wants.Wait item))) }
+    ensures refused { IsErrOf result Halt.Refused → (files : Option Files) → Refused (P.view port.new) files (P.view port.old).mine course.old.purse (remains course.old (wants.Wait item)) }
+{
+    course.purse.read = None;
+    match port.wait() {
+        Ok(reply) => {
+            drop(reply);
+            Ok(Turn::On(Want::Then(item)))
+        }
+        Err(halt) => {
+            drop(item);
+            Err(halt)
+        }
+    }
+}

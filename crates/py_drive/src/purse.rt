@@ -1,0 +1,41 @@
+//! The budget of a script.
+ghost use Rattle.std.specs.Prelude.{◌≤◌, ◌<◌, ℕ, List, Option, Bool};
+ghost use Rattle.tree_files.specs.Files.{Files};
+ghost use Rattle.machine_events.specs.declared.event.Event.{Event};
+ghost use Rattle.machine_events.specs.declared.event.Reply.{Reply};
+ghost use Rattle.meanings.specs.Runs.{Run, Pays, Stands};
+ghost use Rattle.py_drive.specs.At.{At, AfterPay, MayBeUnread};
+
+/// The budget that is left, and what was left before the last payment for a call of the tree, if no
+/// event and no payment came after it.
+#[derive(Drop)]
+pub struct Purse {
+    pub budget: u64,
+    pub read: Option<u64>,
+}
+
+/// What is left before a payment for a call of the tree.
+fn read_of(budget: u64, of_tree: bool, units: u64) -> Option<u64>
+    requires { units ≤ budget }
+    ensures { (files : Option Files) (whole : Run) (fuel : ℕ) (mine : List (Event × Reply)) (next : Run) → Stands files whole fuel mine budget (Pays of_tree units next) → MayBeUnread files whole fuel mine result }
+{
+    if of_tree && units > 0 {
+        Some(budget)
+    } else {
+        None
+    }
+}
+
+impl Purse {
+    /// Pays units, for a call of the tree or not, if they are there.
+    pub fn pay(&mut self, of_tree: bool, units: u64) -> bool
+        ensures { (files : Option Files) (whole : Run) (fuel : ℕ) (mine : List (Event × Reply)) (next : Run) → At files whole fuel mine self.old (Pays of_tree units next) → AfterPay result files whole fuel mine self.new next }
+    {
+        if self.budget < units {
+            return false;
+        }
+        self.read = read_of(self.budget, of_tree, units);
+        self.budget -= units;
+        true
+    }
+}

@@ -1,0 +1,57 @@
+//! A whole script, on a port.
+ghost use Rattle.std.specs.Prelude.{◌≡◌, Some, IfOk, OnErr};
+ghost use Rattle.tree_files.specs.Count.{Rose};
+ghost use Rattle.tree_files.specs.Files.{Files};
+ghost use Rattle.thread_knowledge.specs.Shown.{shown_first};
+ghost use Rattle.meanings.specs.Runs.{Safe};
+ghost use Rattle.meanings.specs.Follows.{Follows};
+ghost use Rattle.script_port.specs.View.{View, Stays};
+ghost use Rattle.script_end.specs.Ending.{outcome, IsRead, Ended, Broken};
+ghost use Rattle.py_meaning.specs.Meaning.{meaning};
+ghost use Rattle.py_sources.specs.Sources.{sources};
+ghost use Rattle.py_drive.specs.Turns.{Asked};
+ghost use Rattle.py_drive.specs.Overs.{Begun};
+
+use crate::course::Course;
+use crate::drive::{Over, run};
+use base_types::Seq;
+use script_end::{Ending, came, spent, unread};
+use script_port::{Halt, Port};
+use std::alloc::Global;
+use tree_files::Tree;
+
+/// Runs a script on a port, over a tree, and makes its End event.
+///
+/// The events are those of the script's meaning with this fuel, each once and in order, on the
+/// replies that come. `Read` comes only where a call of the tree failed.
+pub fn run_script_on<P: Port, T: Tree>(
+    alloc: Global,
+    port: &mut P,
+    tree: &mut T,
+    script: u32,
+    text: Seq<u8>,
+    fuel: u64,
+) -> Result<Ending, Halt>
+    requires begun { Begun (P.view port.old) script }
+    requires safe { Safe (shown_first script) (meaning sources script text) }
+    ensures stays { Stays (P.view port.old) (P.view port.new) }
+    ensures asked { Asked (T.files tree.old) (T.files tree.new) (T.faults tree.old) (T.faults tree.new) (T.lists tree.old) (T.lists tree.new) }
+    ensures ended { IfOk result (λ ending. Ended (P.view port.new).mine (outcome ending)) }
+    ensures follows { (files : Files) → T.files tree.old ≡ Some files → IfOk result (λ ending. Follows files script (meaning sources script text) fuel (P.view port.new).mine (outcome ending)) }
+    ensures part { (files : Files) → T.files tree.old ≡ Some files → OnErr result (Broken files script (meaning sources script text) fuel (P.view port.new).mine (T.faults tree.old) (T.faults tree.new)) }
+    ensures read { IfOk result (λ ending. IsRead ending → Rose (T.faults tree.old) (T.faults tree.new)) }
+{
+    let mut course = Course::first(alloc, script, fuel);
+    let over = match run(alloc, port, tree, &mut course, script, text, fuel) {
+        Ok(over) => over,
+        Err(halt) => return Err(halt),
+    };
+    match over {
+        Over::Came(flow) => came(port, flow, fuel),
+        Over::Out => spent(port, &mut course.held, fuel),
+        Over::Unread(left) => {
+            let paid = fuel - left;
+            unread(port, &mut course.held, paid)
+        }
+    }
+}

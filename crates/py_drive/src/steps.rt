@@ -1,0 +1,140 @@
+//! Turns that see neither a port nor a tree.
+ghost use Rattle.std.specs.Prelude.{◌≡◌, ℕ, List, IfOk, MatchOption, Option};
+ghost use Rattle.machine_events.specs.declared.event.Event.{Event};
+ghost use Rattle.machine_events.specs.declared.event.Reply.{Reply};
+ghost use Rattle.tree_files.specs.Files.{Files};
+ghost use Rattle.py_meaning.specs.Meaning.{ends};
+ghost use Rattle.py_sources.specs.Sources.{sources};
+ghost use Rattle.py_state.specs.declared.thread.State.{State};
+ghost use Rattle.py_frames.specs.Does.{rest, frame_does};
+ghost use Rattle.py_frames.specs.declared.want.Want.TheVariants as wants;
+ghost use Rattle.meanings.specs.Runs.{Run};
+ghost use Rattle.py_meaning.specs.Pieces.{after_reply};
+ghost use Rattle.py_drive.specs.At.{At, AfterPay};
+ghost use Rattle.py_drive.specs.Turns.{Stepped, remains, feeds};
+
+use crate::course::{Course, Turn};
+use crate::purse::Purse;
+use base_types::NoMemory;
+use find_load::In;
+use machine_events::Reply;
+use py_costs::reply_units;
+use py_frames::{Frame, Item, OnReply, Procedure, Want, Work};
+use py_state::Flow;
+use py_steps::{begin, fed, go_on, replied};
+use std::alloc::Global;
+
+/// Units are paid.
+pub fn pay(course: &mut Course, of_tree: bool, units: u64, item: Item) -> Turn
+    ensures turned { Stepped course.old.purse course.new (remains course.old (wants.Pay of_tree units item)) result }
+    ensures held { course.new.held ≡ course.old.held }
+{
+    if course.purse.pay(of_tree, units) {
+        Turn::On(Want::Then(item))
+    } else {
+        drop(item);
+        Turn::Out
+    }
+}
+
+/// What waits for a way on: no frame, or the first one that it does not pass.
+fn next_frame(work: &mut Work, flow: &Flow) -> Option<Frame>
+    ensures { MatchOption result ((d : ℕ) (s : State) → rest sources work.old d flow.now s ≡ ends flow.now s) (λ frame. (d : ℕ) (s : State) → rest sources work.old d flow.now s ≡ frame_does sources d frame (rest sources work.new) flow.now s) }
+{
+    match flow {
+        Flow::Left(leave) => work.unwind(leave),
+        Flow::Went(_) => work.pop(),
+    }
+}
+
+/// A way on comes to what waits for it.
+pub fn pass(alloc: Global, course: &mut Course, flow: Flow) -> Result<Turn, NoMemory>
+    ensures turned { IfOk result (Stepped course.old.purse course.new (remains course.old (wants.Go flow))) }
+    ensures held { course.new.held ≡ course.old.held }
+{
+    match next_frame(&mut course.work, &flow) {
+        None => Ok(Turn::Came(flow)),
+        Some(frame) => match go_on(alloc, frame, flow, &mut course.thread) {
+            Ok(want) => Ok(Turn::On(want)),
+            Err(_) => Err(NoMemory),
+        },
+    }
+}
+
+/// A piece of work begins.
+pub fn start(alloc: Global, course: &mut Course, item: Item) -> Result<Turn, NoMemory>
+    ensures turned { IfOk result (Stepped course.old.purse course.new (remains course.old (wants.Then item))) }
+    ensures held { course.new.held ≡ course.old.held }
+{
+    match begin(alloc, item, &mut course.thread) {
+        Ok(want) => Ok(Turn::On(want)),
+        Err(_) => Err(NoMemory),
+    }
+}
+
+/// A piece of work begins, and a frame waits for it.
+pub fn start_under(
+    alloc: Global,
+    course: &mut Course,
+    item: Item,
+    frame: Frame,
+) -> Result<Turn, NoMemory>
+    ensures turned { IfOk result (Stepped course.old.purse course.new (remains course.old (wants.Both item frame))) }
+    ensures held { course.new.held ≡ course.old.held }
+{
+    match course.work.push(frame) {
+        Ok(()) => start(alloc, course, item),
+        Err(_) => {
+            drop(item);
+            Err(NoMemory)
+        }
+    }
+}
+
+/// What the reply to an event costs is paid. Who is to wait for a lock pays nothing before that.
+#[tactic(auto, using(crate::proofs::Paying::paid_reply))]
+fn pay_reply(purse: &mut Purse, reply: &Reply) -> bool
+    ensures { (files : Option Files) (whole : Run) (fuel : ℕ) (mine : List (Event × Reply)) (next : Run) → At files whole fuel mine purse.old (after_reply reply.now next) → AfterPay result files whole fuel mine purse.new next }
+{
+    match reply {
+        Reply::Wait(_) => true,
+        _ => purse.pay(false, reply_units(reply)),
+    }
+}
+
+/// The reply to an event is paid for, and comes to what waits for it.
+pub fn reply_to(
+    alloc: Global,
+    course: &mut Course,
+    on: OnReply,
+    reply: Reply,
+) -> Result<Turn, NoMemory>
+    ensures turned { IfOk result (Stepped course.old.purse course.new (remains course.old (wants.Replied on reply))) }
+    ensures held { course.new.held ≡ course.old.held }
+{
+    if !pay_reply(&mut course.purse, &reply) {
+        drop(on);
+        drop(reply);
+        return Ok(Turn::Out);
+    }
+    match replied(alloc, on, reply, &mut course.thread) {
+        Ok(want) => Ok(Turn::On(want)),
+        Err(_) => Err(NoMemory),
+    }
+}
+
+/// A procedure is fed.
+pub fn feed(
+    alloc: Global,
+    course: &mut Course,
+    procedure: Procedure,
+    input: In,
+) -> Result<Turn, NoMemory>
+    ensures turned { IfOk result (Stepped course.old.purse course.new (feeds course.old procedure input)) }
+    ensures held { course.new.held ≡ course.old.held }
+{
+    match fed(alloc, procedure, input, &mut course.thread) {
+        Ok(want) => Ok(Turn::On(want)),
+        Err(_) => Err(NoMemory),
+    }
+}

@@ -1,0 +1,65 @@
+//! One turn: what is wanted is given.
+ghost use Rattle.std.specs.Prelude.{IfOk, OnOk, OnErr, IsErrOf};
+ghost use Rattle.script_port.specs.View.{View, Stays};
+ghost use Rattle.script_end.specs.Ending.{Holds};
+ghost use Rattle.py_drive.specs.Turns.{Stood, Turned, Parted, Refused, Asked, remains};
+
+use crate::course::{Course, Turn};
+use crate::looks::{file, stamp};
+use crate::makes::{call, wait};
+use crate::steps::{pass, pay, reply_to, start, start_under};
+use py_frames::Want;
+use script_port::{Halt, Port};
+use std::alloc::Global;
+use tree_files::Tree;
+
+/// Gives what is wanted.
+pub fn give<P: Port, T: Tree>(
+    alloc: Global,
+    port: &mut P,
+    tree: &mut T,
+    course: &mut Course,
+    want: Want,
+) -> Result<Turn, Halt>
+    requires stood { Stood (P.view port.old) course.old.held (remains course.old want) }
+    ensures stays { Stays (P.view port.old) (P.view port.new) }
+    ensures turned { IfOk result (Turned (T.files tree.old) (T.faults tree.old) (T.faults tree.new) (P.view port.old).mine (P.view port.new).mine course.old.purse course.new (remains course.old want)) }
+    ensures holds { OnOk result (Holds (P.view port.new) course.new.held) }
+    ensures part { OnErr result (Parted (T.files tree.old) (P.view port.old).mine (P.view port.new).mine course.old.purse (remains course.old want)) }
+    ensures refused { IsErrOf result Halt.Refused → Refused (P.view port.new) (T.files tree.old) (P.view port.old).mine course.old.purse (remains course.old want) }
+    ensures asked { Asked (T.files tree.old) (T.files tree.new) (T.faults tree.old) (T.faults tree.new) (T.lists tree.old) (T.lists tree.new) }
+{
+    match want {
+        Want::Go(flow) => match pass(alloc, course, flow) {
+            Ok(turn) => Ok(turn),
+            Err(_) => Err(Halt::NoMemory),
+        },
+        Want::Then(item) => match start(alloc, course, item) {
+            Ok(turn) => Ok(turn),
+            Err(_) => Err(Halt::NoMemory),
+        },
+        Want::Both(item, frame) => match start_under(alloc, course, item, frame) {
+            Ok(turn) => Ok(turn),
+            Err(_) => Err(Halt::NoMemory),
+        },
+        Want::Pay {
+            of_tree,
+            units,
+            item,
+        } => Ok(pay(course, of_tree, units, item)),
+        Want::Call(event, on) => call(port, course, event, on),
+        Want::Replied(on, reply) => match reply_to(alloc, course, on, reply) {
+            Ok(turn) => Ok(turn),
+            Err(_) => Err(Halt::NoMemory),
+        },
+        Want::Wait(item) => wait(port, course, item),
+        Want::Stamp(path, procedure) => match stamp(alloc, tree, course, &path, procedure) {
+            Ok(turn) => Ok(turn),
+            Err(_) => Err(Halt::NoMemory),
+        },
+        Want::File(path, procedure) => match file(alloc, tree, course, &path, procedure) {
+            Ok(turn) => Ok(turn),
+            Err(_) => Err(Halt::NoMemory),
+        },
+    }
+}

@@ -1,0 +1,6 @@
+//! The steps of a script's work: each says what it wants first.
+#![tactic(auto)]
+
+mod steps;
+
+pub use steps::{begin, fed, go_on, replied};

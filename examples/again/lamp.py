@@ -1,0 +1,6 @@
+import switch
+
+print("lamp begins")
+if not switch.on:
+    raise ValueError("no current")
+lit = True

@@ -1,0 +1,5 @@
+print("hen begins")
+import egg
+
+lays = "an egg"
+print("hen ends")

@@ -1,0 +1,4 @@
+# hen imports egg, and egg imports hen.
+import hen
+
+print(hen.lays)
