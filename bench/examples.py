@@ -4,13 +4,16 @@
     python3 bench/examples.py --run    runs each main.py again first, and compares its trace
 
 Prints each file that differs, and ends with status 1 where there is one. With --run and no built program each example
-takes the time of a trial run. Needs Python 3 alone.
+takes the time of a trial run. A stored trace has no times of folders, which are those of a clone, and lists of a folder
+what the example itself is. Needs Python 3 alone.
 """
 import pathlib
+import re
 import subprocess
 import sys
 
 ROOT = pathlib.Path(__file__).resolve().parent.parent
+BESIDE = ('"trace.svg"', '"trace.txt"', '"__pycache__"')
 
 
 def made(words, folder):
@@ -18,10 +21,22 @@ def made(words, folder):
     return subprocess.run(words, cwd=folder, stdout=subprocess.PIPE, check=True).stdout
 
 
+def listed(found):
+    """The line that tells what is in a folder, without its time and without what stands beside an example."""
+    names = [name for name in found[2].split(",") if name not in BESIDE]
+    return f"{found[1]} 0 [{','.join(names)}] -> done"
+
+
+def stored(trace):
+    """A trace as it is stored."""
+    trace = re.sub(r"^(\d+ dirget .* -> listing) \d+ ", r"\1 0 ", trace, flags=re.M)
+    return re.sub(r"^(\d+ dirset \S+) \d+ \[(.*)\] -> done$", listed, trace, flags=re.M)
+
+
 def differing(folder, is_run):
     """The stored files of an example that are not what is made now."""
     trace, picture = folder / "trace.txt", folder / "trace.svg"
-    if is_run and made([ROOT / "pyimport", "run", "--trace", "main.py"], folder) != trace.read_bytes():
+    if is_run and stored(made([ROOT / "pyimport", "run", "--trace", "main.py"], folder).decode()) != trace.read_text():
         yield trace
     if made([sys.executable, ROOT / "tools" / "draw_trace.py", trace], folder) != picture.read_bytes():
         yield picture

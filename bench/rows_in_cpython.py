@@ -2,7 +2,8 @@
 """Compares the rows of the tables that CPython can answer with the answers of the CPython that runs this script, 3.12.
 
 Values and names are evaluated; sources are tokenized and parsed, and what is printed of them must have the same tree;
-searches are made by importlib's PathFinder in folders that are made for them; whole calls are run as scripts. Prints how
+searches are made by importlib's PathFinder in folders that are made for them; whole calls are run as scripts, on the search
+path of their rows. Prints how
 many rows of each table were compared, and each row that is answered otherwise. Exit status 1 where there is one.
 """
 import ast
@@ -232,9 +233,25 @@ def search_rows():
 # Whole calls.
 
 OWN_TEXTS = "# Texts of this project's own"
+# Runs a script as CPython runs one that it is given, with these entries alone as search path. (`unicodedata` gives names
+# their normal form, and would be looked for on the search path.)
+RUNNER = """import sys, unicodedata
+entries, script = sys.argv[1:]
+sys.argv[1:] = []
+sys.path[:] = entries.split(":")
+sys.path_importer_cache.clear()
+names = vars(sys.modules["__main__"])
+with open(script, "rb") as source:
+    code = compile(source.read(), script, "exec")
+names["__file__"] = script
+for name in ("sys", "unicodedata", "entries", "script", "source", "name"):
+    names.pop(name, None)
+exec(code, names)
+"""
 OF_ITS_KIND = {"IndentationError": "SyntaxError", "TabError": "SyntaxError"}
 CALL = re.compile(
-    r"(?:#.*\n)*row (?P<name>.*)\n(?P<files>(?:(?:file|pieces) .*\n|[|/].*\n)*)words run main.py\nrun\n"
+    r"(?:#.*\n)*row (?P<name>.*)\n(?P<files>(?:(?:file|dir|pieces) .*\n|[|/].*\n)*)"
+    r"words run (?:--path (?P<path>\S+) )?(?P<script>[^-\s]\S*)\nrun\n"
     r"out\n(?P<out>(?:[|/] .*\n)*)(?:err\n(?P<err>(?:[|/] .*\n)*))?status (?P<status>\d)\n*"
 )
 
@@ -277,14 +294,27 @@ def last_error(told):
     return "\n".join(lines[max(places, default=-1) + 1 :])
 
 
-def run(folder, files):
-    for one in re.split(r"^file ", files, flags=re.M)[1:]:
+def plant(folder, files):
+    """Makes the folders and files of a row."""
+    for kind, one in re.findall(r"^(file|dir) ((?:.*\n)(?:[|/].*\n|pieces .*\n)*)", files, flags=re.M):
         path, lines = one.split("\n", 1)
-        (folder / path).parent.mkdir(parents=True, exist_ok=True)
-        (folder / path).write_bytes(contents(lines))
-    words = [sys.executable, "-X", "utf8", "main.py"]
+        if kind == "dir":
+            (folder / path.split()[0]).mkdir(parents=True, exist_ok=True)
+        else:
+            (folder / path).parent.mkdir(parents=True, exist_ok=True)
+            (folder / path).write_bytes(contents(lines))
+
+
+def run(folder, parts):
+    """What CPython prints for a call, the line of its error, and its status. Paths are told from the folder on."""
+    plant(folder, parts["files"])
+    script = parts["script"]
+    entries = os.path.dirname(script) if parts["path"] is None else parts["path"]
+    words = [sys.executable, *"-I -S -B -X utf8 -W ignore -c".split(), RUNNER, entries, script]
     done = subprocess.run(words, cwd=folder, capture_output=True, encoding="utf-8")
-    return done.stdout, last_error(done.stderr) if done.returncode else "", str(done.returncode)
+    told = last_error(done.stderr) if done.returncode else ""
+    out, err = (text.replace(f"{folder}/", "") for text in (done.stdout, told))
+    return out, err, str(done.returncode)
 
 
 def kind_alone(answer):
@@ -296,12 +326,13 @@ def kind_alone(answer):
 
 def call_rows(table):
     for notes, parts in calls(table):
-        err = lines_of(parts["err"] or "").removesuffix("\n").removeprefix("main.py: ")
+        err = lines_of(parts["err"] or "").removesuffix("\n").removeprefix(f"{parts['script']}: ")
         own = parts["status"] not in "01" or any(word in err for word in ("ProfileError", "source is longer"))
         if own or notes.startswith(OWN_RULES):
             continue
         with tempfile.TemporaryDirectory() as folder:
-            wanted, answered = (lines_of(parts["out"]), err, parts["status"]), run(pathlib.Path(folder), parts["files"])
+            wanted = lines_of(parts["out"]), err, parts["status"]
+            answered = run(pathlib.Path(folder).resolve(), parts)
         if notes.startswith(OWN_TEXTS):
             wanted, answered = kind_alone(wanted), kind_alone(answered)
         yield parts["name"], wanted, answered
@@ -315,11 +346,15 @@ def language_rows():
     return call_rows("language_rows")
 
 
+def tree_rows():
+    return call_rows("tree_rows")
+
+
 def main():
     if sys.version_info[:2] != (3, 12):
         sys.exit("this needs CPython 3.12")
     others = 0
-    for rows in (value_rows, source_rows, search_rows, run_rows, language_rows):
+    for rows in (value_rows, source_rows, search_rows, run_rows, language_rows, tree_rows):
         count = 0
         for row, answer, answered in rows():
             if answered is None:

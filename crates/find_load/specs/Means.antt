@@ -1,11 +1,15 @@
 -- What an import does from each stage on.
-use Rattle.std.specs.Prelude.{◌≡◌, ℕ, List, Some, None}
+use Rattle.std.specs.Prelude.{◌≡◌, ℕ, List, [], Some, None, false}
 use Rattle.machine_events.specs.declared.event.Event.TheVariants as e
 use Rattle.meanings.specs.Runs.{Pays, Looks, Makes, StampOf}
+use Rattle.path_finder.specs.Steps.{searches}
+use Rattle.search_meaning.specs.Searches.{searches_in}
 use Rattle.py_faults.specs.declared.fault.Fault.TheVariants as fault
+use Rattle.py_state.specs.declared.flow.Flow.TheVariants.{Went, Left}
 use Rattle.py_state.specs.declared.thread.State.{State}
 use Rattle.py_meaning.specs.Pieces.{Piece, Onward, calls, fails}
-use Rattle.py_meaning.specs.Imports.{Body, asks, asked, takes, taken, finds, searches, searched, by_folder, opens, has_text, added, gives_back, finishes, finished}
+use Rattle.py_meaning.specs.Paths.{paths}
+use Rattle.py_meaning.specs.Imports.{Inside, asks, asked, misses, takes, taken, has_lock, finds, on_search_path, on_entry, on_parent_path, discovers, opens, has_text, added, namespace_added, namespace_made, gives_back, finishes, finished}
 use Rattle.find_load.specs.declared.words.In.{In}
 use Rattle.find_load.specs.declared.words.In.TheVariants as given
 use Rattle.find_load.specs.declared.words.Want.{Want}
@@ -14,38 +18,51 @@ use Rattle.find_load.specs.declared.import.Stage.{Stage}
 use Rattle.find_load.specs.declared.import.Stage.TheVariants as stage
 use Rattle.find_load.specs.declared.import.Importer.{Importer}
 
--- from a stage on, by what is fed
-abbrev pub does : Body → ℕ → List ℕ → Stage → In → Piece
-does body turns n stage.Begins given.Start = asks body turns n
-does body turns n stage.Asked (given.Replied r) = asked (asks body turns n) (takes body (asks body turns n) n) n r
-does body turns n stage.Taken (given.Replied r) = taken (asks body turns n) (finds body (asks body turns n) n) n r
-does body turns n stage.Waits given.Woken = asks body turns n
-does body turns n stage.PathRead (given.Replied r) = searches body (asks body turns n) n
-does body turns n stage.Searched given.Paid = searched body (asks body turns n) n
-does body turns n (stage.Folder file) (given.Stamped at) = by_folder file body (asks body turns n) n at
-does body turns n stage.File (given.Opened None) = gives_back n (fault.NotFound n)
-does body turns n stage.File (given.Opened (Some text)) = has_text body (asks body turns n) n text
-does body turns n (stage.Added text) (given.Replied r) = added body (asks body turns n) n text r
-does body turns n (stage.Running load) (given.Ended flow) = finishes load (asks body turns n) n flow
-does body turns n stage.Finished (given.Replied r) = finished (asks body turns n) n r
-does body turns n (stage.Released f) (given.Replied r) = fails f
-does body turns n (stage.Left flow) (given.Replied r) = λ s k. k flow s
-does body turns n other input = fails fault.NotInProfile
+-- from a stage on, by what is fed, where `again` is the next turn
+abbrev pub goes : Inside → Piece → List ℕ → Stage → In → Piece
+goes inside again n (stage.Asked is_parent) (given.Replied r) = asked again (misses inside again n) is_parent n r
+goes inside again n stage.Parent (given.Ended (Went v)) = takes inside again n
+goes inside again n stage.Parent (given.Ended (Left leave)) = λ s k. k (Left leave) s
+goes inside again n stage.Taken (given.Replied r) = taken again (has_lock inside again n) n r
+goes inside again n stage.Waits given.Woken = again
+goes inside again n (stage.SearchPath epoch) (given.Replied r) = on_search_path (finds inside again n epoch) n r
+goes inside again n (stage.ParentEntry epoch p) (given.Replied r) = on_entry (finds inside again n epoch) n p r
+goes inside again n (stage.ParentPath epoch p) (given.Ended flow) = on_parent_path (finds inside again n epoch) n p flow
+goes inside again n (stage.Searched epoch path) (given.Found answer) = discovers inside again n epoch path answer
+goes inside again n (stage.File spec) (given.Opened None) = gives_back n (fault.NotFound n)
+goes inside again n (stage.File spec) (given.Opened (Some text)) = has_text inside again n spec text
+goes inside again n (stage.Added text) (given.Replied r) = added inside again n text r
+goes inside again n (stage.Running load) (given.Ended flow) = finishes load again n flow
+goes inside again n (stage.NamespaceAdded epoch path portions) (given.Replied r) = namespace_added again n epoch path portions r
+goes inside again n (stage.NamespaceKept load) (given.Replied r) = namespace_made again n load
+goes inside again n stage.Finished (given.Replied r) = finished again n r
+goes inside again n (stage.Released f) (given.Replied r) = fails f
+goes inside again n (stage.Left flow) (given.Replied r) = λ s k. k flow s
+goes inside again n other input = fails fault.NotInProfile
 
-abbrev pub means : Body → Importer → In → Piece
-means body p = does body p.turns p.name p.stage
+abbrev pub does : Inside → ℕ → List ℕ → Stage → In → Piece
+does inside turns n (stage.Begins is_parent) given.Start = asks inside turns is_parent n
+does inside turns n other input = goes inside (asks inside turns false n) n other input
+
+abbrev pub means : Inside → Importer → In → Piece
+means inside p = does inside p.turns p.name p.stage
 
 -- what is wanted, where `go` goes on by what is fed then
-abbrev pub wants : Body → Want → (In → Piece) → Piece
-wants body (want.Call event) go = λ s k. calls event (λ r. go (given.Replied r) s k)
-wants body want.Wait go = λ s k. Makes e.Wake (λ _. go given.Woken s k)
-wants body (want.Pay of_tree units) go = λ s k. Pays of_tree units (go given.Paid s k)
-wants body (want.Stamp path) go = λ s k. Looks (StampOf path) (λ at. go (given.Stamped at) s k)
-wants body (want.File path) go =
+abbrev pub wants : Inside → Want → (In → Piece) → Piece
+wants inside (want.Call event) go = λ s k. calls event (λ r. go (given.Replied r) s k)
+wants inside want.Wait go = λ s k. Makes e.Wake (λ _. go given.Woken s k)
+wants inside (want.Pay of_tree units) go = λ s k. Pays of_tree units (go given.Paid s k)
+wants inside (want.Find n path) go = λ s k. searches_in (searches n path []) (λ answer. go (given.Found answer) s k)
+wants inside (want.File path) go =
     λ s k. Looks (StampOf path) (opens path (go (given.Opened None) s k) (λ o. go (given.Opened (Some o)) s k))
-wants body (want.Body mid load text) go = λ s k. body mid load text s (λ flow s. go (given.Ended flow) s k)
-wants body (want.End flow) go = λ s k. k flow s
+wants inside (want.Body mid load text) go = λ s k. inside.body mid load text s (λ flow s. go (given.Ended flow) s k)
+wants inside (want.Import n) go = λ s k. inside.parent n s (λ flow s. go (given.Ended flow) s k)
+wants inside (want.Path m turns) go = λ s k. paths turns m s (λ flow s. go (given.Ended flow) s k)
+wants inside (want.End flow) go = λ s k. k flow s
 
--- the run goes on by what is wanted, from the stage after
-pub record Goes (run : Body → Piece) (after : Importer) (w : Want) : Type 0 where
-  pub goes : (body : Body) (s : State) (k : Onward) → wants body w (means body after) s k ≡ run body s k
+-- the run goes on by what is wanted, from what the procedure means after it
+abbrev pub GoesOn : (Inside → Piece) → (Inside → In → Piece) → Want → Type 0
+GoesOn run after w = (inside : Inside) (s : State) (k : Onward) → wants inside w (after inside) s k ≡ run inside s k
+
+pub record Goes (run : Inside → Piece) (after : Importer) (w : Want) : Type 0 where
+  pub goes : GoesOn run (λ inside. means inside after) w

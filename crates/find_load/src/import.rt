@@ -3,31 +3,61 @@ ghost use Rattle.std.specs.Prelude.{◌≡◌};
 ghost use Rattle.py_meaning.specs.Pieces as pieces;
 ghost use Rattle.find_load.specs.declared.import.Stage.TheVariants as stages;
 
-use base_types::{Seq, TreePath};
+use base_types::{Seq, Texts};
 use py_faults::Fault;
 use py_state::Flow;
-use spec_core::Dotted;
+use py_value::Items;
+use spec_core::{Dotted, Spec};
 
 /// What an import waits for.
 #[derive(Drop)]
 pub enum Stage {
-    Begins,
-    Asked,
+    /// Its start; whether it is the import of another one's parent.
+    Begins(bool),
+    /// The reply to a look into the cache; whether that is the first of a parent.
+    Asked(bool),
+    /// The end of its parent's import.
+    Parent,
+    /// The reply to a look into the cache with the lock.
     Taken,
+    /// The lock.
     Waits,
-    PathRead,
-    Searched,
-    /// A folder of the name, with the path of the file that comes next.
-    Folder(TreePath),
-    File,
-    /// The module is made, with this text.
+    /// The search path, with the epoch of its lock, as in the next ones.
+    SearchPath(u64),
+    /// The entry of its parent, which has this name.
+    ParentEntry {
+        epoch: u64,
+        parent: Dotted,
+    },
+    /// The path of the module that stands there.
+    ParentPath {
+        epoch: u64,
+        parent: Dotted,
+    },
+    /// What is found on this path.
+    Searched {
+        epoch: u64,
+        path: Items,
+    },
+    /// The text of the file that was found.
+    File(Spec),
+    /// The module, whose body has this text.
     Added(Seq<u8>),
-    /// The body of this load runs.
+    /// The end of the body of this load.
     Running(u32),
+    /// The namespace that these portions make, found on this path.
+    NamespaceAdded {
+        epoch: u64,
+        path: Items,
+        portions: Texts,
+    },
+    /// That its state is kept, which ends its load.
+    NamespaceKept(u32),
+    /// The end of the load.
     Finished,
-    /// The lock is given back, and then the error is raised.
+    /// That the lock is given back, and then the error is raised.
     Released(Fault),
-    /// A body was ended, and then the leave goes on.
+    /// That the lock or the load is given back, and then the leave goes on.
     Left(Flow),
 }
 
@@ -47,14 +77,15 @@ pub fn most() -> u64
 }
 
 impl Importer {
-    /// The import of a name, before its first look into the cache.
-    pub fn start(name: Dotted) -> Importer
-        ensures { result ≡ record { name = name; turns = pieces.most; stage = stages.Begins } }
+    /// The import of a name, before its first look into the cache; whether the name is the parent of
+    /// one that is imported.
+    pub fn start(name: Dotted, is_parent: bool) -> Importer
+        ensures { result ≡ record { name = name; turns = pieces.most; stage = stages.Begins is_parent } }
     {
         Importer {
             name,
             turns: most(),
-            stage: Stage::Begins,
+            stage: Stage::Begins(is_parent),
         }
     }
 }

@@ -1,11 +1,16 @@
-//! The import of one name, as a procedure that is fed and that wants.
+//! The import of one name (`importlib._bootstrap._find_and_load`), as a procedure that is fed and that
+//! wants.
 #![tactic(auto)]
 
+mod files;
 mod import;
-mod parts;
+mod loads;
+mod locates;
+mod looks;
+mod raises;
 mod steps;
 mod words;
 
-pub use import::{Importer, Stage};
+pub use import::{Importer, Stage, most};
 pub use steps::next;
 pub use words::{In, Want};

@@ -1,8 +1,10 @@
 //! What a procedure is fed, and what it wants.
 use base_types::{Seq, TreePath};
 use machine_events::{Event, Reply};
+use path_finder::Found;
 use py_state::Flow;
-use tree_files::Stamp;
+use py_value::{Items, ModRef};
+use spec_core::Dotted;
 
 /// What a procedure is fed.
 #[derive(Drop)]
@@ -14,11 +16,11 @@ pub enum In {
     Woken,
     /// The reply to its event.
     Replied(Reply),
-    /// What stands at a path.
-    Stamped(Stamp),
+    /// What a search found, if it found anything.
+    Found(Option<Found>),
     /// None where no file stands at the path, else its text, if that is not too long for a source.
     Opened(Option<Option<Seq<u8>>>),
-    /// How a body ended.
+    /// How a body, an import or the reading of a path ended.
     Ended(Flow),
 }
 
@@ -31,12 +33,16 @@ pub enum Want {
     Wait,
     /// Units, for a call of the tree or not.
     Pay { of_tree: bool, units: u64 },
-    /// What stands at a path.
-    Stamp(TreePath),
+    /// A search for a name on a path.
+    Find { name: Dotted, path: Items },
     /// The text of a file, if one stands there: a unit is paid for that.
     File(TreePath),
     /// The body of a module.
     Body { mid: u32, load: u32, text: Seq<u8> },
+    /// The import of a parent.
+    Import(Dotted),
+    /// The path of a module, at most so many modules one above the other.
+    Path { module: ModRef, turns: u64 },
     /// Nothing more: it ended in this way.
     End(Flow),
 }

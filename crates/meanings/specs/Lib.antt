@@ -1,3 +1,4 @@
 pub mod Runs
+pub mod Costs
 pub mod Lists
 pub mod Follows

@@ -2,6 +2,14 @@
 //! changed.
 #![tactic(auto)]
 
+ghost use Rattle.namespace_path.specs.Fresh.{SameIsExact};
+
 mod recompute;
 
 pub use recompute::{fresh, recomputed};
+
+/// The test that compares values holds of a value and itself, and of no other two.
+#[tactic(auto, using(crate::proofs::Same::same_is_exact))]
+pub fn same_is_exact()
+    ensures { SameIsExact }
+{}

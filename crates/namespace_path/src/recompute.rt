@@ -1,5 +1,6 @@
 //! When a kept path is fresh, and what a search makes of it.
 ghost use Rattle.std.specs.Prelude.{◌≡◌, ◌↔◌, IfOk, IsTrue};
+ghost use Rattle.namespace_path.specs.Fresh.{is_fresh};
 ghost use Rattle.namespace_path.specs.Recompute.{portions_after, recomputed};
 
 use base_types::{Exact, NoMemory, Same, Texts};
@@ -9,7 +10,8 @@ use py_value::{Items, NsState};
 /// Whether the portions that are kept may be used: they were computed from this parent path, in
 /// this epoch (PEP 420, "Dynamic path computation"). It takes no memory.
 pub fn fresh(state: &NsState, parent_path: &Items, epoch: u64) -> bool
-    ensures { IsTrue result ↔ ((state.now.parent_path ≡ parent_path.now) × (state.now.epoch ≡ epoch)) }
+    ensures test { result ≡ is_fresh state.now parent_path.now epoch }
+    ensures exact { IsTrue result ↔ ((state.now.parent_path ≡ parent_path.now) × (state.now.epoch ≡ epoch)) }
 {
     state.parent_path.is_same(parent_path) && state.epoch == epoch
 }

@@ -109,7 +109,10 @@ fn begun_form(
     ensures { IfOk result (Does thread.now (pieces (λ w d. begun_at (around_at w d) (out-Stmt stmt.now)) thread.now)) }
 {
     match stmt {
-        Stmt::From(_, _, _) => fail(alloc, thread, Fault::NotBuilt),
+        Stmt::From(_, _, _) => Ok(Want::Then(Item::From {
+            stmts: stmts.share()?,
+            at,
+        })),
         Stmt::Import(_) => Ok(Want::Then(Item::Imports {
             stmts: stmts.share()?,
             at,

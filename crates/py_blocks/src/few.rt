@@ -1,11 +1,10 @@
 //! Lists of exactly so many values, and values that are no operands.
 ghost use Rattle.std.specs.Prelude.{◌≡◌, ◌∷◌, [], Some};
 ghost use Rattle.std.specs.List.{list_any};
-ghost use Rattle.std.specs.Option.{option_copied};
 ghost use Rattle.value_operators.specs.Outcomes.{is_special};
 ghost use Rattle.py_blocks.specs.Few.{only, pair, triple};
 
-use base_types::{Seq, Text, Texts};
+use base_types::Seq;
 use py_value::Value;
 
 /// The value of a list of one.
@@ -42,16 +41,6 @@ pub fn triple(values: Seq<Value>) -> Option<(Value, Value)>
     let mut values = values;
     drop(values.pop());
     pair(values)
-}
-
-/// The text of a list of one.
-pub fn only_text(texts: &Texts) -> Option<&Text>
-    ensures { option_copied result ≡ only texts.now }
-{
-    if texts.len() != 1 {
-        return None;
-    }
-    texts.get(0)
 }
 
 /// Whether a value stands for something in the machine, which is no operand so far.

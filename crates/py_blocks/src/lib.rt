@@ -13,6 +13,6 @@ mod targets;
 
 pub use block::{begin_block, begin_statement, begun, go_on_block};
 pub use branches::{begin_branches, go_on_test};
-pub use imports::{begin_alias, begin_imports, go_on_imports, go_on_store};
+pub use imports::{begin_imports, go_on_imports, go_on_store};
 pub use loops::{begin_test, begin_turn, go_on_decide, go_on_loop};
 pub use simple::perform;

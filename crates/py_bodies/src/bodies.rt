@@ -9,6 +9,7 @@ ghost use Rattle.py_frames.specs.declared.work.Item.TheVariants as items;
 
 use crate::parsing::parsing_of;
 use base_types::{NoMemory, Seq};
+use boxed::Boxed;
 use py_faults::Fault;
 use py_frames::{Frame, Item, Want};
 use py_functions::Program;
@@ -43,7 +44,13 @@ pub fn start(
 }
 
 /// The statements of a script come next, in their own place.
-fn run(thread: &mut Thread, mid: u32, load: u32, program: Program) -> Result<Want, NoMemory>
+fn run(
+    alloc: Global,
+    thread: &mut Thread,
+    mid: u32,
+    load: u32,
+    program: Program,
+) -> Result<Want, NoMemory>
     requires { 0 < thread.old.left }
     ensures { IfOk result (Does thread.new (pieces (λ w d. spec.starts (spec.around_at w (d - 1)) mid load (parsings.Parsed program)) thread.old)) }
 {
@@ -54,7 +61,7 @@ fn run(thread: &mut Thread, mid: u32, load: u32, program: Program) -> Result<Wan
         load,
         function: None,
     };
-    let scope = mem::replace(&mut thread.state.scope, place);
+    let scope = Boxed::new(alloc, mem::replace(&mut thread.state.scope, place))?;
     let left = thread.left;
     thread.left = left - 1;
     Ok(Want::Both(
@@ -80,7 +87,7 @@ fn begin_parsed(
     }
     match parsing {
         Parsing::Faulty(error) => Ok(Want::Go(Flow::Left(Leave::Raised(error)))),
-        Parsing::Parsed(program) => run(thread, mid, load, program),
+        Parsing::Parsed(program) => run(alloc, thread, mid, load, program),
     }
 }
 

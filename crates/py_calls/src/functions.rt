@@ -10,6 +10,7 @@ ghost use Rattle.py_frames.specs.Does.{Does, pieces, goes_on};
 ghost use Rattle.py_frames.specs.declared.work.Frame.TheVariants as frames;
 
 use base_types::{Exact, NoMemory, Seq, Text};
+use boxed::Boxed;
 use machine_events::Event;
 use py_faults::Fault;
 use py_frames::{Frame, Item, OnReply, Want};
@@ -58,6 +59,7 @@ fn function_at(program: &Program, index: u32) -> Result<Option<Shared<Function>>
 
 /// The function's body comes next, in its own place.
 fn run(
+    alloc: Global,
     thread: &mut Thread,
     mid: u32,
     load: u32,
@@ -68,7 +70,7 @@ fn run(
     ensures { IfOk result (Does thread.new (pieces (λ w d. depth.runs_in (spec.around_at w (d - 1)) mid load function arguments) thread.old)) }
 {
     let parameters = function.get().def().parameters.as_slice();
-    let locals = Locals::new(arguments.alloc());
+    let locals = Locals::new(alloc);
     let locals = bound(parameters, arguments, locals)?;
     let body = function.get().body()?;
     let place = Scope {
@@ -76,7 +78,7 @@ fn run(
         load,
         function: Some(FunctionScope { function, locals }),
     };
-    let scope = mem::replace(&mut thread.state.scope, place);
+    let scope = Boxed::new(alloc, mem::replace(&mut thread.state.scope, place))?;
     let left = thread.left;
     thread.left = left - 1;
     Ok(Want::Both(
@@ -111,7 +113,7 @@ fn enter(
             },
         );
     }
-    run(thread, mid, load, arguments, function)
+    run(alloc, thread, mid, load, arguments, function)
 }
 
 /// A function is called, where there is one of its number.
@@ -218,10 +220,10 @@ fn body_gives(flow: Flow) -> Flow
 }
 
 /// A body is done: the caller goes on where it stood.
-pub fn come_back(thread: &mut Thread, scope: Scope, left: u32, flow: Flow) -> Want
+pub fn come_back(thread: &mut Thread, scope: Boxed<Scope>, left: u32, flow: Flow) -> Want
     ensures { Does thread.new (goes_on (frames.Back scope left) flow thread.old) result }
 {
-    drop(mem::replace(&mut thread.state.scope, scope));
+    drop(mem::replace(&mut thread.state.scope, scope.into_inner()));
     thread.left = left;
     Want::Go(body_gives(flow))
 }

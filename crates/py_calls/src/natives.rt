@@ -3,6 +3,7 @@ ghost use Rattle.std.specs.Prelude.{◌≡◌, ◌∷◌, [], IfOk};
 ghost use Rattle.value_operators.specs.Items as table;
 ghost use Rattle.value_operators.specs.Texts as texts;
 ghost use Rattle.py_meaning.specs.Calls as spec;
+ghost use Rattle.py_meaning.specs.Paths.{replaced};
 ghost use Rattle.py_meaning.specs.Pieces as words;
 ghost use Rattle.py_frames.specs.Does.{Does, pieces};
 
@@ -104,7 +105,7 @@ pub fn call_native(
     native: Native,
     values: Seq<Value>,
 ) -> Result<Want, NoMemory>
-    ensures { IfOk result (Does thread.now (pieces (λ w d. spec.calls_native native values) thread.now)) }
+    ensures { IfOk result (Does thread.now (pieces (λ w d. spec.calls_native replaced native values) thread.now)) }
 {
     match native {
         Native::Print => call_print(alloc, thread, values),

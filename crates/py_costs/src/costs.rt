@@ -21,7 +21,7 @@ fn items_size(items: &Items) -> u64
 
 /// The number of texts and the whole 64 bytes of each. Where that is more than a u64 holds, the
 /// greatest u64.
-fn texts_size(texts: &Texts) -> u64
+pub fn texts_size(texts: &Texts) -> u64
     ensures { result ≡ min (texts_size texts.now) (2 ^ 64 - 1) }
 {
     let mut units = 0_u64;

@@ -6,4 +6,7 @@ mod Framing
 mod Stepping
 mod Making
 mod Turning
+mod Searching
+mod Looping
+mod Finding
 mod Whole

@@ -5,7 +5,7 @@ use Rattle.machine_events.specs.declared.event.Event.{Event}
 use Rattle.machine_events.specs.declared.event.Reply.{Reply}
 use Rattle.machine_events.specs.declared.event.Reply.TheVariants as r
 use Rattle.meanings.specs.Runs.{Run, Pays}
-use Rattle.py_meaning.specs.Pieces.{reply_units, after_reply}
+use Rattle.meanings.specs.Costs.{reply_units, after_reply}
 use Rattle.py_drive.specs.At.{At}
 use Rattle.py_drive.specs.declared.purse.Purse.{Purse}
 

@@ -5,6 +5,7 @@ use Rattle.tree_files.specs.Files.{Files}
 use Rattle.machine_events.specs.declared.event.Event.{Event}
 use Rattle.machine_events.specs.declared.event.Reply.{Reply}
 use Rattle.thread_knowledge.specs.Shown.{shown_first}
+use Rattle.meanings.specs.Lists.{lists_in}
 use Rattle.meanings.specs.Runs.{Run, Safe, StandsIn}
 use Rattle.meanings.proofs.Stand.{stands_start, safe_stands}
 use Rattle.script_port.specs.View.{View, Stays}
@@ -16,7 +17,7 @@ use Rattle.py_frames.specs.declared.want.Want.{Want}
 use Rattle.py_frames.specs.declared.want.Want.TheVariants as want
 use Rattle.script_end.specs.Ending.{Holds}
 use Rattle.py_drive.specs.At.{At}
-use Rattle.py_drive.specs.Turns.{After, Turned, Stood, Refused, RefusedAt, Parted, Asked, remains}
+use Rattle.py_drive.specs.Turns.{After, Turned, Stood, Refused, RefusedAt, Parted, Asked, AllKept, remains}
 use Rattle.py_drive.specs.Overs.{Begun, Fresh}
 use Rattle.py_drive.specs.declared.course.Course.{Course}
 use Rattle.py_drive.specs.declared.course.Turn.{Turn}
@@ -59,11 +60,21 @@ pub refused_at : {S : Type 0} (v : View S) (files files' : Option Files) (whole 
 refused_at v files files' whole fuel mine c w same at refused =
     subst (λ (o : Option Files). RefusedAt v o whole fuel) same (refused whole fuel (subst (λ (o : Option Files). At o whole fuel mine c.purse (remains c w)) (sym same) at))
 
-pub asked_refl : (files : Option Files) (faults lists : ℕ) → Asked files files faults faults lists lists
-asked_refl files faults lists = record { files = refl; faults = omega arith; lists = refl }
+pub asked_refl : (files : Option Files) (faults : ℕ) → Asked files files faults faults
+asked_refl files faults = record { files = refl; faults = omega arith }
 
-pub asked_trans : {files files' files'' : Option Files} {faults faults' faults'' lists lists' lists'' : ℕ} → Asked files files' faults faults' lists lists' → Asked files' files'' faults' faults'' lists' lists'' → Asked files files'' faults faults'' lists lists''
-asked_trans a b = record { files = b.files ∙ a.files; faults = omega (arith, a.faults, b.faults); lists = b.lists ∙ a.lists }
+pub asked_trans : {files files' files'' : Option Files} {faults faults' faults'' : ℕ} → Asked files files' faults faults' → Asked files' files'' faults' faults'' → Asked files files'' faults faults''
+asked_trans a b = record { files = b.files ∙ a.files; faults = omega (arith, a.faults, b.faults) }
+
+pub kept_refl : (lists : ℕ) (mine : List (Event × Reply)) → AllKept lists lists mine mine
+kept_refl lists mine = omega arith
+
+pub kept_trans : (lists lists' lists'' : ℕ) (mine mine' mine'' : List (Event × Reply)) → AllKept lists lists' mine mine' → AllKept lists' lists'' mine' mine'' → AllKept lists lists'' mine mine''
+kept_trans lists lists' lists'' mine mine' mine'' a b = omega (arith, a, b)
+
+-- where nothing was listed
+pub kept_grown : (lists lists' : ℕ) (mine mine' : List (Event × Reply)) → lists' ≡ lists → lists_in mine ≤ lists_in mine' → AllKept lists lists' mine mine'
+kept_grown lists lists' mine mine' same grew = omega (arith, same, grew)
 
 pub rose_later : (old mid new : ℕ) → old ≤ mid → Rose mid new → Rose old new
 rose_later old mid new grew rose = omega (arith, grew, rose)

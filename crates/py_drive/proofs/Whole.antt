@@ -1,5 +1,5 @@
 -- From the work of a script to its End, and to what stands where it is broken off.
-use Rattle.std.proofs.Common.{◌≡◌, ℕ, ◌+◌, ◌-◌, ◌≤◌, List, [], ◌∷◌, ◌++◌, true, Option, Some, refl, ◌∙◌, arith}
+use Rattle.std.proofs.Common.{◌≡◌, ℕ, ◌+◌, ◌-◌, ◌≤◌, List, [], ◌∷◌, ◌++◌, true, Option, Some, refl, ◌∙◌, ap, arith}
 use Rattle.tree_files.specs.Files.{Files}
 use Rattle.tree_files.specs.Count.{Rose}
 use Rattle.machine_events.specs.declared.event.Event.{Event}
@@ -11,6 +11,9 @@ use Rattle.thread_knowledge.specs.Shown.{shown, shown_first}
 use Rattle.thread_knowledge.specs.Knowing.{IsShown}
 use Rattle.meanings.specs.Runs.{Run, Ended, Stands, StandsIn, IsSpent, IsUnread, Safe}
 use Rattle.meanings.specs.Follows.{Follows, Ends}
+use Rattle.meanings.specs.Lists.{lists_in, ends_in}
+use Rattle.meanings.proofs.Giving.{safe_spend}
+use Rattle.meanings.proofs.Once.{no_end}
 use Rattle.meanings.proofs.Stand.{whole_of, safe_stands, over_reached, part, part_given, all_given, spent_gives_up, unread_gives_up}
 use Rattle.py_state.specs.declared.flow.Leave.TheVariants.{Raised, Return, Break, Continue}
 use Rattle.py_state.specs.declared.flow.Flow.{Flow}
@@ -18,7 +21,7 @@ use Rattle.py_state.specs.declared.flow.Flow.TheVariants.{Went, Left}
 use Rattle.py_meaning.specs.Meaning.{outcome_of}
 use Rattle.script_port.specs.View.{View, Stays}
 use Rattle.script_holds.specs.declared.held.Held.{Held}
-use Rattle.py_drive.specs.Turns.{ended}
+use Rattle.py_drive.specs.Turns.{ended, AllKept}
 use Rattle.py_drive.specs.Overs.{Begun}
 use Rattle.script_end.specs.Ending.{Broken, in_run, at_read, Gave, GaveAll, Idle, Holds}
 
@@ -81,3 +84,19 @@ unread_idle first v files t whole fuel left held begun stays safe holds s = reco
   runs = rw (stays.number ∙ begun.number) (safe_stands t s.stands safe).0;
   holds = holds;
 }
+
+-- a script that is broken off has made no End
+pub no_end_in : {files : Option Files} (t : ℕ) (whole : Run) (fuel : ℕ) (mine : List (Event × Reply)) → StandsIn files whole fuel mine → Safe (shown_first t) whole → ends_in mine ≡ 0
+no_end_in t whole fuel mine s safe = no_end t s.stands.reaches safe
+
+pub no_end_out : {files : Option Files} (t : ℕ) (whole : Run) (fuel budget : ℕ) (mine mine' : List (Event × Reply)) → IsSpent files whole fuel mine budget → Safe (shown_first t) whole → Gave t mine mine' → ends_in mine' ≡ 0
+no_end_out {files = files} t whole fuel budget mine mine' s safe gave = no_end t (gave files whole fuel s.of_tree (spent_gives_up t s)) (safe_spend whole fuel (shown_first t) safe)
+
+pub no_end_read : {files : Option Files} (t : ℕ) (whole : Run) (fuel left : ℕ) (mine mine' : List (Event × Reply)) → IsUnread files whole fuel mine left → Safe (shown_first t) whole → Gave t mine mine' → ends_in mine' ≡ 0
+no_end_read {files = files} t whole fuel left mine mine' s safe gave = no_end t (gave files whole (fuel - left) true (unread_gives_up t s)) (safe_spend whole (fuel - left) (shown_first t) safe)
+
+-- from the first event to the last each list is one of the script's DirSet events
+pub lists_whole : (lists lists' : ℕ) (first mine mine' : List (Event × Reply)) → first ≡ [] → AllKept lists lists' first mine → lists_in mine ≤ lists_in mine' → lists' ≤ lists + lists_in mine'
+lists_whole lists lists' first mine mine' none kept grew =
+    let zero : lists_in first ≡ 0 = ap lists_in none in
+    omega (arith, zero, kept, grew)

@@ -1,3 +1,4 @@
 pub mod At
 pub mod Turns
+pub mod Searching
 pub mod Overs

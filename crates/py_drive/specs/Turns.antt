@@ -1,10 +1,11 @@
 -- What a turn of the driver does.
-use Rattle.std.specs.Prelude.{◌≡◌, ◌≤◌, ℕ, List, Option}
+use Rattle.std.specs.Prelude.{◌≡◌, ◌≤◌, ℕ, ◌+◌, List, Option}
 use Rattle.tree_files.specs.Files.{Files}
 use Rattle.tree_files.specs.Count.{Rose}
 use Rattle.machine_events.specs.declared.event.Event.{Event}
 use Rattle.machine_events.specs.declared.event.Reply.{Reply}
 use Rattle.thread_knowledge.specs.Shown.{shown}
+use Rattle.meanings.specs.Lists.{lists_in}
 use Rattle.meanings.specs.Runs.{Run, Over, Ended, Makes, Stands, StandsIn, IsSpent, IsUnread, Safe}
 use Rattle.script_port.specs.View.{View}
 use Rattle.script_holds.specs.declared.held.Held.{Held}
@@ -70,10 +71,13 @@ pub record Stood {S : Type 0} (v : View S) (held : Held) (run : Run) : Type 0 wh
   pub safe : Safe (shown v.number v.mine) run
 
 -- a tree is as it was, but that its count of faults may have risen
-pub record Asked (told told' : Option Files) (failed failed' listed listed' : ℕ) : Type 0 where
+pub record Asked (told told' : Option Files) (failed failed' : ℕ) : Type 0 where
   pub files : told' ≡ told
   pub faults : failed ≤ failed'
-  pub lists : listed' ≡ listed
+
+-- a tree that has listed directories has done so at most once for each listing that the events between keep
+abbrev pub AllKept : ℕ → ℕ → List (Event × Reply) → List (Event × Reply) → Type 0
+AllKept listed listed' mine mine' = listed' + lists_in mine ≤ listed + lists_in mine'
 
 -- where a turn is broken off, whatever script stood at `run` stands somewhere
 abbrev pub Parted : Option Files → List (Event × Reply) → List (Event × Reply) → Purse → Run → Type 0

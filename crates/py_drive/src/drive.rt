@@ -6,7 +6,7 @@ ghost use Rattle.script_port.specs.View.{View, Stays};
 ghost use Rattle.py_meaning.specs.Meaning.{meaning};
 ghost use Rattle.py_sources.specs.Sources.{sources};
 ghost use Rattle.script_end.specs.Ending.{Holds};
-ghost use Rattle.py_drive.specs.Turns.{RefusedAt, Asked};
+ghost use Rattle.py_drive.specs.Turns.{RefusedAt, Asked, AllKept};
 ghost use Rattle.py_drive.specs.Overs.{Begun, Fresh, Overs};
 
 use crate::course::{Course, Turn};
@@ -83,7 +83,8 @@ pub fn run<P: Port, T: Tree>(
     ensures holds { OnOk result (Holds (P.view port.new) course.new.held) }
     ensures part { OnErr result (StandsIn (T.files tree.old) (meaning sources script text) fuel (P.view port.new).mine) }
     ensures refused { IsErrOf result Halt.Refused → RefusedAt (P.view port.new) (T.files tree.old) (meaning sources script text) fuel }
-    ensures asked { Asked (T.files tree.old) (T.files tree.new) (T.faults tree.old) (T.faults tree.new) (T.lists tree.old) (T.lists tree.new) }
+    ensures asked { Asked (T.files tree.old) (T.files tree.new) (T.faults tree.old) (T.faults tree.new) }
+    ensures kept { OnOk result (AllKept (T.lists tree.old) (T.lists tree.new) (P.view port.old).mine (P.view port.new).mine) }
 {
     let mut want = Want::Then(Item::Start {
         mid: script,

@@ -4,10 +4,12 @@
 
 mod course;
 mod drive;
+mod find;
 mod looks;
 mod makes;
 mod purse;
 mod script;
+mod search;
 mod steps;
 mod turn;
 

@@ -29,31 +29,6 @@ fn unread(course: &Course) -> Result<Turn, NoMemory>
     }
 }
 
-/// What stands at a path is looked up.
-pub fn stamp<T: Tree>(
-    alloc: Global,
-    tree: &mut T,
-    course: &mut Course,
-    path: &TreePath,
-    procedure: Procedure,
-) -> Result<Turn, NoMemory>
-    ensures turned { IfOk result (Looked (T.files tree.old) (T.faults tree.old) (T.faults tree.new) course.old.purse course.new (remains course.old (wants.Stamp path.now procedure))) }
-    ensures held { course.new.held ≡ course.old.held }
-    ensures asked { Asked (T.files tree.old) (T.files tree.new) (T.faults tree.old) (T.faults tree.new) (T.lists tree.old) (T.lists tree.new) }
-{
-    match tree.stamp(path) {
-        Ok(stamp) => feed(alloc, course, procedure, In::Stamped(stamp)),
-        Err(TreeFault::Failed) => {
-            drop(procedure);
-            unread(course)
-        }
-        Err(TreeFault::NoMemory) => {
-            drop(procedure);
-            Err(NoMemory)
-        }
-    }
-}
-
 /// The text of a file that stands there, for a unit.
 fn load<T: Tree>(
     alloc: Global,
@@ -65,7 +40,8 @@ fn load<T: Tree>(
     requires file { ForSome (T.files tree.old) (λ f. IsFileAt f path.now) }
     ensures turned { IfOk result (Looked (T.files tree.old) (T.faults tree.old) (T.faults tree.new) course.old.purse course.new (Pays true 1 (Looks (TextOf path.now) (λ text. feeds course.old procedure (given.Opened (Some text)))))) }
     ensures held { course.new.held ≡ course.old.held }
-    ensures asked { Asked (T.files tree.old) (T.files tree.new) (T.faults tree.old) (T.faults tree.new) (T.lists tree.old) (T.lists tree.new) }
+    ensures asked { Asked (T.files tree.old) (T.files tree.new) (T.faults tree.old) (T.faults tree.new) }
+    ensures lists_stay { T.lists tree.new ≡ T.lists tree.old }
 {
     if !course.purse.pay(true, 1) {
         drop(procedure);
@@ -97,7 +73,8 @@ fn seen<T: Tree>(
     requires file { IsFileStamp stamp → ForSome (T.files tree.old) (λ f. IsFileAt f path.now) }
     ensures turned { IfOk result (Looked (T.files tree.old) (T.faults tree.old) (T.faults tree.new) course.old.purse course.new (opens path.now (feeds course.old procedure (given.Opened None)) (λ text. feeds course.old procedure (given.Opened (Some text))) stamp)) }
     ensures held { course.new.held ≡ course.old.held }
-    ensures asked { Asked (T.files tree.old) (T.files tree.new) (T.faults tree.old) (T.faults tree.new) (T.lists tree.old) (T.lists tree.new) }
+    ensures asked { Asked (T.files tree.old) (T.files tree.new) (T.faults tree.old) (T.faults tree.new) }
+    ensures lists_stay { T.lists tree.new ≡ T.lists tree.old }
 {
     match stamp {
         Stamp::File(_) => load(alloc, tree, course, path, procedure),
@@ -116,7 +93,8 @@ pub fn file<T: Tree>(
 ) -> Result<Turn, NoMemory>
     ensures turned { IfOk result (Looked (T.files tree.old) (T.faults tree.old) (T.faults tree.new) course.old.purse course.new (remains course.old (wants.File path.now procedure))) }
     ensures held { course.new.held ≡ course.old.held }
-    ensures asked { Asked (T.files tree.old) (T.files tree.new) (T.faults tree.old) (T.faults tree.new) (T.lists tree.old) (T.lists tree.new) }
+    ensures asked { Asked (T.files tree.old) (T.files tree.new) (T.faults tree.old) (T.faults tree.new) }
+    ensures lists_stay { T.lists tree.new ≡ T.lists tree.old }
 {
     match tree.stamp(path) {
         Ok(stamp) => seen(alloc, tree, course, path, procedure, stamp),

@@ -1,6 +1,7 @@
 //! Turns that make an event.
-ghost use Rattle.std.specs.Prelude.{◌≡◌, ℕ, List, IfOk, OnOk, OnErr, IsErrOf, Option};
+ghost use Rattle.std.specs.Prelude.{◌≡◌, ◌≤◌, ℕ, List, IfOk, OnOk, OnErr, IsErrOf, Option};
 ghost use Rattle.tree_files.specs.Files.{Files};
+ghost use Rattle.meanings.specs.Lists.{lists_in};
 ghost use Rattle.py_frames.specs.declared.want.Want.TheVariants as wants;
 ghost use Rattle.script_port.specs.View.{View, Stays};
 ghost use Rattle.script_end.specs.Ending.{Holds};
@@ -22,6 +23,7 @@ pub fn call<P: Port>(
     requires stood { Stood (P.view port.old) course.old.held (remains course.old (wants.Call event on)) }
     ensures stays { Stays (P.view port.old) (P.view port.new) }
     ensures turned { IfOk result (Made (P.view port.old).mine (P.view port.new).mine course.old.purse course.new (remains course.old (wants.Call event on))) }
+    ensures grows { OnOk result (lists_in (P.view port.old).mine ≤ lists_in (P.view port.new).mine) }
     ensures holds { OnOk result (Holds (P.view port.new) course.new.held) }
     ensures part { OnErr result ((files : Option Files) → Parted files (P.view port.old).mine (P.view port.new).mine course.old.purse (remains course.old (wants.Call event on))) }
     ensures refused { IsErrOf result Halt.Refused → (files : Option Files) → Refused (P.view port.new) files (P.view port.old).mine course.old.purse (remains course.old (wants.Call event on)) }
@@ -57,6 +59,7 @@ pub fn wait<P: Port>(port: &mut P, course: &mut Course, item: Item) -> Result<Tu
     requires stood { Stood (P.view port.old) course.old.held (remains course.old (wants.Wait item)) }
     ensures stays { Stays (P.view port.old) (P.view port.new) }
     ensures turned { IfOk result (Made (P.view port.old).mine (P.view port.new).mine course.old.purse course.new (remains course.old (wants.Wait item))) }
+    ensures grows { OnOk result (lists_in (P.view port.old).mine ≤ lists_in (P.view port.new).mine) }
     ensures holds { OnOk result (Holds (P.view port.new) course.new.held) }
     ensures part { OnErr result ((files : Option Files) → Parted files (P.view port.old).mine (P.view port.new).mine course.old.purse (remains course.old (wants.Wait item))) }
     ensures refused { IsErrOf result Halt.Refused → (files : Option Files) → Refused (P.view port.new) files (P.view port.old).mine course.old.purse (remains course.old (wants.Wait item)) }

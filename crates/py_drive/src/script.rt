@@ -1,10 +1,11 @@
 //! A whole script, on a port.
-ghost use Rattle.std.specs.Prelude.{◌≡◌, Some, IfOk, OnErr};
+ghost use Rattle.std.specs.Prelude.{◌≡◌, ◌≤◌, ◌+◌, Some, IfOk, OnOk, OnErr};
 ghost use Rattle.tree_files.specs.Count.{Rose};
 ghost use Rattle.tree_files.specs.Files.{Files};
 ghost use Rattle.thread_knowledge.specs.Shown.{shown_first};
 ghost use Rattle.meanings.specs.Runs.{Safe};
 ghost use Rattle.meanings.specs.Follows.{Follows};
+ghost use Rattle.meanings.specs.Lists.{lists_in, ends_in};
 ghost use Rattle.script_port.specs.View.{View, Stays};
 ghost use Rattle.script_end.specs.Ending.{outcome, IsRead, Ended, Broken};
 ghost use Rattle.py_meaning.specs.Meaning.{meaning};
@@ -23,7 +24,8 @@ use tree_files::Tree;
 /// Runs a script on a port, over a tree, and makes its End event.
 ///
 /// The events are those of the script's meaning with this fuel, each once and in order, on the
-/// replies that come. `Read` comes only where a call of the tree failed.
+/// replies that come. `Read` comes only where a call of the tree failed. A directory is listed at
+/// most once for each listing that the events keep. Where memory is wanted there is no End.
 pub fn run_script_on<P: Port, T: Tree>(
     alloc: Global,
     port: &mut P,
@@ -35,7 +37,9 @@ pub fn run_script_on<P: Port, T: Tree>(
     requires begun { Begun (P.view port.old) script }
     requires safe { Safe (shown_first script) (meaning sources script text) }
     ensures stays { Stays (P.view port.old) (P.view port.new) }
-    ensures asked { Asked (T.files tree.old) (T.files tree.new) (T.faults tree.old) (T.faults tree.new) (T.lists tree.old) (T.lists tree.new) }
+    ensures asked { Asked (T.files tree.old) (T.files tree.new) (T.faults tree.old) (T.faults tree.new) }
+    ensures lists { OnOk result (T.lists tree.new ≤ T.lists tree.old + lists_in (P.view port.new).mine) }
+    ensures goes_on { OnErr result (ends_in (P.view port.new).mine ≡ 0) }
     ensures ended { IfOk result (λ ending. Ended (P.view port.new).mine (outcome ending)) }
     ensures follows { (files : Files) → T.files tree.old ≡ Some files → IfOk result (λ ending. Follows files script (meaning sources script text) fuel (P.view port.new).mine (outcome ending)) }
     ensures part { (files : Files) → T.files tree.old ≡ Some files → OnErr result (Broken files script (meaning sources script text) fuel (P.view port.new).mine (T.faults tree.old) (T.faults tree.new)) }

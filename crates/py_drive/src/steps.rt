@@ -9,7 +9,7 @@ ghost use Rattle.py_state.specs.declared.thread.State.{State};
 ghost use Rattle.py_frames.specs.Does.{rest, frame_does};
 ghost use Rattle.py_frames.specs.declared.want.Want.TheVariants as wants;
 ghost use Rattle.meanings.specs.Runs.{Run};
-ghost use Rattle.py_meaning.specs.Pieces.{after_reply};
+ghost use Rattle.meanings.specs.Costs.{after_reply};
 ghost use Rattle.py_drive.specs.At.{At, AfterPay};
 ghost use Rattle.py_drive.specs.Turns.{Stepped, remains, feeds};
 
@@ -93,7 +93,7 @@ pub fn start_under(
 
 /// What the reply to an event costs is paid. Who is to wait for a lock pays nothing before that.
 #[tactic(auto, using(crate::proofs::Paying::paid_reply))]
-fn pay_reply(purse: &mut Purse, reply: &Reply) -> bool
+pub fn pay_reply(purse: &mut Purse, reply: &Reply) -> bool
     ensures { (files : Option Files) (whole : Run) (fuel : ℕ) (mine : List (Event × Reply)) (next : Run) → At files whole fuel mine purse.old (after_reply reply.now next) → AfterPay result files whole fuel mine purse.new next }
 {
     match reply {

@@ -2,10 +2,11 @@
 ghost use Rattle.std.specs.Prelude.{IfOk, OnOk, OnErr, IsErrOf};
 ghost use Rattle.script_port.specs.View.{View, Stays};
 ghost use Rattle.script_end.specs.Ending.{Holds};
-ghost use Rattle.py_drive.specs.Turns.{Stood, Turned, Parted, Refused, Asked, remains};
+ghost use Rattle.py_drive.specs.Turns.{Stood, Turned, Parted, Refused, Asked, AllKept, remains};
 
 use crate::course::{Course, Turn};
-use crate::looks::{file, stamp};
+use crate::find::find;
+use crate::looks::file;
 use crate::makes::{call, wait};
 use crate::steps::{pass, pay, reply_to, start, start_under};
 use py_frames::Want;
@@ -27,7 +28,8 @@ pub fn give<P: Port, T: Tree>(
     ensures holds { OnOk result (Holds (P.view port.new) course.new.held) }
     ensures part { OnErr result (Parted (T.files tree.old) (P.view port.old).mine (P.view port.new).mine course.old.purse (remains course.old want)) }
     ensures refused { IsErrOf result Halt.Refused → Refused (P.view port.new) (T.files tree.old) (P.view port.old).mine course.old.purse (remains course.old want) }
-    ensures asked { Asked (T.files tree.old) (T.files tree.new) (T.faults tree.old) (T.faults tree.new) (T.lists tree.old) (T.lists tree.new) }
+    ensures asked { Asked (T.files tree.old) (T.files tree.new) (T.faults tree.old) (T.faults tree.new) }
+    ensures kept { OnOk result (AllKept (T.lists tree.old) (T.lists tree.new) (P.view port.old).mine (P.view port.new).mine) }
 {
     match want {
         Want::Go(flow) => match pass(alloc, course, flow) {
@@ -53,10 +55,11 @@ pub fn give<P: Port, T: Tree>(
             Err(_) => Err(Halt::NoMemory),
         },
         Want::Wait(item) => wait(port, course, item),
-        Want::Stamp(path, procedure) => match stamp(alloc, tree, course, &path, procedure) {
-            Ok(turn) => Ok(turn),
-            Err(_) => Err(Halt::NoMemory),
-        },
+        Want::Find {
+            name,
+            path,
+            procedure,
+        } => find(alloc, port, tree, course, name, path, procedure),
         Want::File(path, procedure) => match file(alloc, tree, course, &path, procedure) {
             Ok(turn) => Ok(turn),
             Err(_) => Err(Halt::NoMemory),

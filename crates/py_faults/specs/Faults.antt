@@ -4,6 +4,8 @@ use Rattle.std.specs.Fmt.{decimal}
 use Rattle.py_value.specs.Names.{type_text, native_name}
 use Rattle.py_value.specs.declared.kind.Kind.{Kind}
 use Rattle.py_value.specs.declared.kind.Kind.TheVariants as kinds
+use Rattle.py_value.specs.declared.value.Place.{Place}
+use Rattle.py_value.specs.declared.value.Place.TheVariants as places
 use Rattle.py_value.specs.declared.value.Raised.{Raised}
 use Rattle.py_faults.specs.declared.fault.Fault.{Fault}
 use Rattle.py_faults.specs.declared.fault.Fault.TheVariants as fault
@@ -11,6 +13,10 @@ use Rattle.py_faults.specs.declared.fault.Fault.TheVariants as fault
 -- an error without a name
 abbrev pub raised : Kind → List ℕ → Raised
 raised kind text = record { kind = kind; text = text; name = None }
+
+-- an import failed that has to do with the module of this name
+abbrev pub import_error : List ℕ → List ℕ → Raised
+import_error text name = record { kind = kinds.ImportError; text = text; name = Some name }
 
 -- an import of the name failed, as there is no such module
 abbrev pub not_found : List ℕ → List ℕ → Raised
@@ -20,6 +26,19 @@ abbrev pub no_attribute : Bool → List ℕ → List ℕ → List ℕ
 no_attribute false m x = codes "module '" ++ m ++ codes "' has no attribute '" ++ x ++ codes "'"
 no_attribute true m x =
     codes "partially initialized module '" ++ m ++ codes "' has no attribute '" ++ x ++ codes "' (most likely due to a circular import)"
+
+-- where a `from` import looked for a name: in a module of a file, or in one without
+abbrev pub source_of : Bool → List ℕ → List ℕ
+source_of false m = codes "' from '" ++ m ++ codes "' ("
+source_of true m = codes "' from partially initialized module '" ++ m ++ codes "' (most likely due to a circular import) ("
+
+abbrev pub looked_in : Place → Bool → List ℕ → List ℕ
+looked_in (places.File file) init m = source_of init m ++ file ++ codes ")"
+looked_in place init m = codes "' from '" ++ m ++ codes "' (unknown location)"
+
+-- why: its parent is no package
+abbrev pub not_package : List ℕ → List ℕ
+not_package p = codes "'; '" ++ p ++ codes "' is not a package"
 
 abbrev pub error_of : Fault → Raised
 error_of (fault.NotDefined x) = raised kinds.NameError (codes "name '" ++ x ++ codes "' is not defined")
@@ -43,6 +62,10 @@ error_of fault.NotInProfile = raised kinds.ProfileError (codes "not in the profi
 error_of fault.NotBuilt = raised kinds.ProfileError (codes "not built yet")
 error_of (fault.Halted n) = not_found (codes "import of " ++ n ++ codes " halted; None in sys.modules") n
 error_of (fault.NotFound n) = not_found (codes "No module named '" ++ n ++ codes "'") n
+error_of (fault.NotPackage n p) = not_found (codes "No module named '" ++ n ++ not_package p) n
+error_of (fault.CannotImport init m place x) = import_error (codes "cannot import name '" ++ x ++ looked_in place init m) m
+error_of fault.NoParentPackage = raised kinds.ImportError (codes "attempted relative import with no known parent package")
+error_of fault.BeyondTop = raised kinds.ImportError (codes "attempted relative import beyond top-level package")
 error_of (fault.Deadlock n) = raised kinds.DeadlockError (codes "deadlock detected by _ModuleLock('" ++ n ++ codes "')")
 error_of (fault.Lost n) = raised kinds.KeyError (codes "'" ++ n ++ codes "'")
 error_of fault.TooLong = raised kinds.SyntaxError (codes "source is longer than 1048576 bytes")

@@ -7,7 +7,7 @@ ghost use Rattle.py_faults.specs.declared.fault.Fault.TheVariants as faults;
 ghost use Rattle.py_value.specs.declared.kind.Kind.TheVariants as kinds;
 
 use base_types::{NoMemory, Text};
-use py_value::{Kind, Native, Raised, TypeName};
+use py_value::{Kind, Native, Place, Raised, TypeName};
 use std::alloc::Global;
 
 /// What goes wrong in a script, apart from what an operator raises by itself.
@@ -58,6 +58,22 @@ pub enum Fault {
     Halted(Text),
     /// No module of the name was found.
     NotFound(Text),
+    /// The parent of the name is no package.
+    NotPackage {
+        name: Text,
+        parent: Text,
+    },
+    /// A module has no variable and no submodule of the name; whether it is initialising still.
+    CannotImport {
+        is_initialising: bool,
+        module: Text,
+        place: Place,
+        name: Text,
+    },
+    /// A relative name in a module without a package.
+    NoParentPackage,
+    /// A relative name with more dots than the package has parts.
+    BeyondTop,
     /// Waiting for the lock of the name would close a cycle.
     Deadlock(Text),
     /// The entry of the name was dropped while its body ran.
@@ -163,6 +179,54 @@ fn not_found(alloc: Global, front: &str, name: Text, back: &str) -> Result<Raise
     })
 }
 
+/// Where the text of a failed `from` import says that it looked.
+fn looked_in(
+    alloc: Global,
+    is_initialising: bool,
+    module: &str,
+    place: &Place,
+) -> Result<Text, NoMemory>
+    ensures { IfOk result (λ text. text ≡ table.looked_in place.now is_initialising module.now) }
+{
+    match place {
+        Place::File(file) => {
+            let front = source_of(alloc, is_initialising, module)?;
+            joined(alloc, front.as_str(), file.as_str(), ")")
+        }
+        _ => joined(alloc, "' from '", module, "' (unknown location)"),
+    }
+}
+
+/// The same up to the name of the file.
+fn source_of(alloc: Global, is_initialising: bool, module: &str) -> Result<Text, NoMemory>
+    ensures { IfOk result (λ text. text ≡ table.source_of is_initialising module.now) }
+{
+    if is_initialising {
+        let back = "' (most likely due to a circular import) (";
+        return joined(alloc, "' from partially initialized module '", module, back);
+    }
+    joined(alloc, "' from '", module, "' (")
+}
+
+/// The error of a name that a module lacks in a `from` import.
+fn cannot_import(
+    alloc: Global,
+    is_initialising: bool,
+    module: Text,
+    place: &Place,
+    name: &str,
+) -> Result<Raised, NoMemory>
+    ensures { IfOk result (λ error. error ≡ error_of (faults.CannotImport is_initialising «module» place.now name.now)) }
+{
+    let back = looked_in(alloc, is_initialising, module.as_str(), place)?;
+    let text = joined(alloc, "cannot import name '", name, back.as_str())?;
+    Ok(Raised {
+        kind: Kind::ImportError,
+        text,
+        name: Some(module),
+    })
+}
+
 /// The error that a fault is raised as.
 pub fn raised(alloc: Global, fault: Fault) -> Result<Raised, NoMemory>
     ensures { IfOk result (λ error. error ≡ error_of fault) }
@@ -250,6 +314,24 @@ pub fn raised(alloc: Global, fault: Fault) -> Result<Raised, NoMemory>
             return not_found(alloc, "import of ", n, " halted; None in sys.modules");
         }
         Fault::NotFound(n) => return not_found(alloc, "No module named '", n, "'"),
+        Fault::NotPackage { name, parent } => {
+            let back = joined(alloc, "'; '", parent.as_str(), "' is not a package")?;
+            return not_found(alloc, "No module named '", name, back.as_str());
+        }
+        Fault::CannotImport {
+            is_initialising,
+            module,
+            place,
+            name,
+        } => return cannot_import(alloc, is_initialising, module, &place, name.as_str()),
+        Fault::NoParentPackage => {
+            let text = "attempted relative import with no known parent package";
+            return plain(alloc, Kind::ImportError, text);
+        }
+        Fault::BeyondTop => {
+            let text = "attempted relative import beyond top-level package";
+            return plain(alloc, Kind::ImportError, text);
+        }
         Fault::Deadlock(n) => {
             return around(
                 alloc,

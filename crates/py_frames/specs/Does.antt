@@ -1,5 +1,6 @@
 -- What the work that remains will do, in the words of the meaning.
 use Rattle.std.specs.Prelude.{◌≡◌, ℕ, zero, suc, List, [], ◌∷◌, ◌++◌, map, drop, length, slice_get, Option, Some, None, Bool, true, false}
+use Rattle.py_value.specs.declared.value.ModRef.{ModRef}
 use Rattle.py_value.specs.declared.value.Raised.{Raised as Error}
 use Rattle.py_value.specs.declared.value.Value.{Value}
 use Rattle.machine_events.specs.declared.event.Event.TheVariants as e
@@ -11,6 +12,8 @@ use Rattle.py_syntax.specs.declared.stmt.Alias.{Alias}
 use Rattle.py_syntax.specs.declared.stmt.Branch.{Branch}
 use Rattle.py_syntax.specs.declared.stmt.FuncDef.{FuncDef}
 use Rattle.py_syntax.specs.declared.stmt.Handler.{Handler}
+use Rattle.py_syntax.specs.declared.stmt.ImportedNames.{ImportedNames}
+use Rattle.py_syntax.specs.declared.stmt.ImportedNames.TheVariants as names
 use Rattle.py_syntax.specs.declared.stmt.Stmt.{Stmt, out-Stmt}
 use Rattle.py_syntax.specs.declared.stmt.Stmt.TheOpen.{Stmt-F}
 use Rattle.py_faults.specs.declared.fault.Fault.TheVariants as fault
@@ -22,14 +25,19 @@ use Rattle.py_meaning.specs.Pieces.{Piece, Onward, pay, calls, after_reply, on_v
 use Rattle.py_meaning.specs.Names.{reads_global, read_global, member, member_read, stores, stored, deleted, member_deleted}
 use Rattle.py_meaning.specs.Calls.{telling, defaulting}
 use Rattle.py_meaning.specs.Operators.{Around, operands_at, applies_at, atom_at, conjoins, disjoins, eval}
-use Rattle.py_meaning.specs.Statements.{BranchPiece, HandlerPiece, DefPiece, augment, stmt_operands_at, performs_at, imports_one, imports_all, tests, turn, turns, looped, handled, handles, binds_error, chosen, takes, catches, tried, tries, finishes, resumes, guards, unbinds, defines, run, branch, handler, run_all}
+use Rattle.py_meaning.specs.Statements.{BranchPiece, HandlerPiece, DefPiece, augment, stmt_operands_at, performs_at, tests, turn, turns, looped, handled, handles, binds_error, chosen, takes, catches, tried, tries, finishes, resumes, guards, unbinds, defines, run, branch, handler, run_all}
 use Rattle.py_meaning.specs.Imports.{opens}
-use Rattle.py_meaning.specs.Meaning.{World, around_at, calls_at, imports_at, bodies_at, starts, loaded, body_gives, ends}
+use Rattle.py_meaning.specs.Meaning.{World, around_at, inside_at, calls_at, imports_at, bodies_at, starts, loaded, body_gives, ends}
+use Rattle.py_meaning.specs.ImportStatements.{with_module, imports_one, imports_all, imports_front, binds_import, follows_parts, name_of, name_read, submodule_entry, missed, tried_submodule, submodule_read, submodule, submodules, if_package, asks_submodules, binds_item, binds_items, binds_star, binds_stars, public_names, all_read, package_in, optional_name, from_resolved, imported_names, from_import}
+use Rattle.module_paths.specs.Means.{means as path_means}
+use Rattle.path_finder.specs.Steps.{searches}
+use Rattle.search_meaning.specs.Searches.{searches_in}
+use Rattle.spec_core.specs.Relative.{resolved}
 use Rattle.find_load.specs.Means.{means}
 use Rattle.find_load.specs.declared.words.In.{In}
 use Rattle.find_load.specs.declared.words.In.TheVariants as given
 use Rattle.py_frames.specs.declared.work.Procedure.{Procedure}
-use Rattle.py_frames.specs.declared.work.Procedure.TheVariants.{Import}
+use Rattle.py_frames.specs.declared.work.Procedure.TheVariants.{Import, Path}
 use Rattle.py_frames.specs.declared.work.Form.{Form}
 use Rattle.py_frames.specs.declared.work.Form.TheVariants.{Expression, Statement}
 use Rattle.py_frames.specs.declared.work.Item.{Item}
@@ -86,6 +94,76 @@ abbrev pub imports_some : Around → Option Alias → Piece
 imports_some around None = fails fault.NotInProfile
 imports_some around (Some a) = imports_one around a
 
+-- `import a.b.c` behind the import of the whole name, and then behind that of its first part
+abbrev pub fronts_parts : Around → List (List ℕ) → Option (List ℕ) → Piece
+fronts_parts around [] bound = fails fault.NotInProfile
+fronts_parts around (x ∷ cs) bound = imports_front around x cs bound
+
+abbrev pub fronts_some : Around → Option Alias → Piece
+fronts_some around None = fails fault.NotInProfile
+fronts_some around (Some a) = fronts_parts around a.parts a.bound
+
+abbrev pub binds_parts : Around → List (List ℕ) → Option (List ℕ) → Value → Piece
+binds_parts around [] bound v = fails fault.NotInProfile
+binds_parts around (x ∷ cs) bound v = binds_import around x cs bound v
+
+abbrev pub binds_some_import : Around → Option Alias → Value → Piece
+binds_some_import around None v = fails fault.NotInProfile
+binds_some_import around (Some a) v = binds_parts around a.parts a.bound v
+
+-- the parts from one on, where they are bound to a name of their own
+abbrev pub follows_bound : Around → List (List ℕ) → Option (List ℕ) → Value → Piece
+follows_bound around parts None v = fails fault.NotInProfile
+follows_bound around parts (Some x) v = follows_parts around parts x v
+
+abbrev pub follows_some : Around → ℕ → Option Alias → Value → Piece
+follows_some around part None v = fails fault.NotInProfile
+follows_some around part (Some a) v = follows_bound around (drop part a.parts) a.bound v
+
+-- a `from` statement
+abbrev pub from_at : Around → Stmt-F Stmt Branch FuncDef Handler → Piece
+from_at around (Stmt-F.From dots parts names) = from_import around dots parts names
+from_at around stmt = fails fault.NotInProfile
+
+abbrev pub from_some : Around → Option Stmt → Piece
+from_some around None = fails fault.NotInProfile
+from_some around (Some s) = from_at around (out-Stmt s)
+
+-- what it does with its module
+abbrev pub names_at : Around → Stmt-F Stmt Branch FuncDef Handler → ModRef → Piece
+names_at around (Stmt-F.From dots parts names) m = imported_names around names m
+names_at around stmt m = fails fault.NotInProfile
+
+abbrev pub names_some : Around → Option Stmt → ModRef → Piece
+names_some around None m = fails fault.NotInProfile
+names_some around (Some s) m = names_at around (out-Stmt s) m
+
+-- the package of its own module was read
+abbrev pub relative_at : Around → Stmt-F Stmt Branch FuncDef Handler → Reply → Piece
+relative_at around (Stmt-F.From dots parts names) reply =
+    from_resolved around (imported_names around names) (resolved (package_in reply) dots (optional_name parts))
+relative_at around stmt reply = fails fault.NotInProfile
+
+abbrev pub relative_some : Around → Option Stmt → Reply → Piece
+relative_some around None reply = fails fault.NotInProfile
+relative_some around (Some s) reply = relative_at around (out-Stmt s) reply
+
+abbrev pub listed_in : ImportedNames → List Alias
+listed_in names.All = []
+listed_in (names.Listed items) = items
+
+abbrev pub items_at : Stmt-F Stmt Branch FuncDef Handler → List Alias
+items_at (Stmt-F.From dots parts names) = listed_in names
+items_at stmt = []
+
+abbrev pub items_of : Option Stmt → List Alias
+items_of None = []
+items_of (Some s) = items_at (out-Stmt s)
+
+abbrev pub binds_some_item : Around → ModRef → Option Alias → Piece
+binds_some_item around m None = fails fault.NotInProfile
+binds_some_item around m (Some a) = binds_item around m a
+
 abbrev pub branches : Around → List Branch → List BranchPiece
 branches around bs = map (branch around) bs
 
@@ -113,7 +191,7 @@ tried_some around (Some s) k = tried_at around (out-Stmt s) k
 -- a statement, once its unit is paid
 abbrev pub begun_at : Around → Stmt-F Stmt Branch FuncDef Handler → Piece
 begun_at around (Stmt-F.Import items) = imports_all around items
-begun_at around (Stmt-F.From dots parts names) = fails fault.NotBuilt
+begun_at around (Stmt-F.From dots parts names) = from_import around dots parts names
 begun_at around (Stmt-F.If bs otherwise) = tests (branches around bs) (run_all around otherwise)
 begun_at around (Stmt-F.Try body hs otherwise last) =
     guards (map (run around) last) (tries (run_all around body) (handlers around hs) (run_all around otherwise))
@@ -151,7 +229,8 @@ decides_some around (Some b) v others = decides v (run_all around b.body) others
 -- ---- procedures, and the depth of calls
 
 abbrev pub fed : World → ℕ → Procedure → In → Piece
-fed w left (Import p) input = means (bodies_at w left) p input
+fed w left (Import p) input = means (inside_at w left) p input
+fed w left (Path p) input = path_means p input
 
 -- a body that is paid for, where one more may be open
 abbrev pub begins_at : World → ℕ → ℕ → ℕ → List ℕ → Piece
@@ -174,7 +253,7 @@ item_piece w d (it.Apply e vs) = λ s k. applies_at (around_at w d) (out-Expr e)
 item_piece w d (it.Perform stmts at vs) = performs (slice_get stmts at) vs
 item_piece w d (it.Choose e v) = chooses (around_at w d) e v
 item_piece w d (it.ReadGlobal x) = reads_global x
-item_piece w d (it.Member object x) = member object x
+item_piece w d (it.Member object x) = member (around_at w d).replaced object x
 item_piece w d (it.Call f vs) = calls_at w d f vs
 item_piece w d (it.Store x v) = stores x v
 item_piece w d (it.Augment x o vs) = augment x o vs
@@ -183,7 +262,16 @@ item_piece w d (it.Statement stmts at) = runs_some (around_at w d) (slice_get st
 item_piece w d (it.Begun stmts at) = begun (around_at w d) (slice_get stmts at)
 item_piece w d (it.Imports stmts at place) = imports_all (around_at w d) (drop place (aliases_of (slice_get stmts at)))
 item_piece w d (it.Alias stmts at place) = imports_some (around_at w d) (slice_get (aliases_of (slice_get stmts at)) place)
-item_piece w d (it.Import x) = imports_at w d x
+item_piece w d (it.Import x is_parent) = imports_at w d is_parent x
+item_piece w d (it.From stmts at) = from_some (around_at w d) (slice_get stmts at)
+item_piece w d (it.FromModule m x is_bound) = name_of (around_at w d) is_bound m x
+item_piece w d (it.AskSubmodules m xs) = asks_submodules (around_at w d) m xs
+item_piece w d (it.Submodules m xs at) = submodules (around_at w d) m (drop at xs)
+item_piece w d (it.Submodule m x) = submodule (around_at w d) m x
+item_piece w d (it.Bindings m stmts at place) = binds_items (around_at w d) m (drop place (items_of (slice_get stmts at)))
+item_piece w d (it.Binding m stmts at place) = binds_some_item (around_at w d) m (slice_get (items_of (slice_get stmts at)) place)
+item_piece w d (it.Stars m xs at) = binds_stars (around_at w d) m (drop at xs)
+item_piece w d (it.Star m x) = binds_star (around_at w d) m x
 item_piece w d (it.Feed p input) = fed w d p input
 item_piece w d (it.Start mid load text) = bodies_at w d mid load text
 item_piece w d (it.Begin mid load text) = begins_at w d mid load text
@@ -224,6 +312,19 @@ frame_does w d (frame.Resume flow) next = resumes flow (next d)
 frame_does w d (frame.Store x) next = on_value (next d) (λ v s. stores x v s (next d))
 frame_does w d (frame.Imports stmts at place) next =
     on_value (next d) (λ _ s. imports_all (around_at w d) (drop place (aliases_of (slice_get stmts at))) s (next d))
+frame_does w d (frame.Front stmts at place) next =
+    on_value (next d) (λ _ s. fronts_some (around_at w d) (slice_get (aliases_of (slice_get stmts at)) place) s (next d))
+frame_does w d (frame.Fronted stmts at place) next =
+    on_value (next d) (λ v s. binds_some_import (around_at w d) (slice_get (aliases_of (slice_get stmts at)) place) v s (next d))
+frame_does w d (frame.Parts stmts at place part) next =
+    on_value (next d) (λ v s. follows_some (around_at w d) part (slice_get (aliases_of (slice_get stmts at)) place) v s (next d))
+frame_does w d (frame.From stmts at) next =
+    on_value (next d) (λ v s. with_module v (names_some (around_at w d) (slice_get stmts at)) s (next d))
+frame_does w d (frame.Submodules m xs at) next = on_value (next d) (λ _ s. submodules (around_at w d) m (drop at xs) s (next d))
+frame_does w d (frame.TriedSubmodule n) next = λ flow s. tried_submodule n flow s (next d)
+frame_does w d (frame.Bindings m stmts at place) next =
+    on_value (next d) (λ _ s. binds_items (around_at w d) m (drop place (items_of (slice_get stmts at))) s (next d))
+frame_does w d (frame.Stars m xs at) next = on_value (next d) (λ _ s. binds_stars (around_at w d) m (drop at xs) s (next d))
 frame_does w d (frame.Imported left) next = next left
 frame_does w d (frame.Open p) next = λ flow s. fed w d p (given.Ended flow) s (next d)
 frame_does w d (frame.Back scope left) next =
@@ -240,13 +341,21 @@ rest w (f ∷ fs) d = frame_does w d f (rest w fs)
 abbrev pub reply_piece : World → ℕ → OnReply → Reply → Piece
 reply_piece w d on.Done reply = passes
 reply_piece w d (on.Global x) reply = read_global reply x
-reply_piece w d (on.Member m x) reply = member_read reply m x
+reply_piece w d (on.Member m x) reply = member_read (around_at w d).replaced reply m x
 reply_piece w d on.Stored reply = stored reply
 reply_piece w d (on.Deleted x) reply = deleted reply x
 reply_piece w d (on.MemberDeleted x) reply = member_deleted reply x
 reply_piece w d (on.Unbound flow) reply = λ s k. k flow s
 reply_piece w d (on.Sourced load index vs) reply = loaded_at w d load index vs reply
 reply_piece w d (on.Feed p) reply = fed w d p (given.Replied reply)
+reply_piece w d (on.FromModule m x is_bound) reply = name_read (around_at w d) is_bound m x reply
+reply_piece w d (on.Entry m x init) reply = submodule_entry m x init reply
+reply_piece w d (on.IfPackage m xs) reply = if_package (around_at w d) m xs reply
+reply_piece w d (on.Submodule m x) reply = submodule_read (around_at w d) m x reply
+reply_piece w d (on.Missed error) reply = missed error reply
+reply_piece w d (on.All m) reply = all_read (around_at w d) m reply
+reply_piece w d (on.Names m) reply = public_names m (around_at w d) reply
+reply_piece w d (on.Package stmts at) reply = relative_some (around_at w d) (slice_get stmts at) reply
 
 abbrev pub reply_does : World → ℕ → OnReply → Rest → State → Reply → Run
 reply_does w d o next s reply = reply_piece w d o reply s (next d)
@@ -261,7 +370,7 @@ want_does w d (want.Pay of_tree units item) next s = Pays of_tree units (item_do
 want_does w d (want.Call event o) next s = calls event (λ reply. reply_does w d o next s reply)
 want_does w d (want.Replied o reply) next s = after_reply reply (reply_does w d o next s reply)
 want_does w d (want.Wait item) next s = Makes e.Wake (λ _. item_does w d item next s)
-want_does w d (want.Stamp path p) next s = Looks (StampOf path) (λ at. fed w d p (given.Stamped at) s (next d))
+want_does w d (want.Find n path p) next s = searches_in (searches n path []) (λ answer. fed w d p (given.Found answer) s (next d))
 want_does w d (want.File path p) next s =
     Looks (StampOf path) (opens path (fed w d p (given.Opened None) s (next d)) (λ o. fed w d p (given.Opened (Some o)) s (next d)))
 

@@ -38,6 +38,7 @@ stops leave (frame.EndHandler bound) = true
 stops leave (frame.Finally block) = true
 stops leave (frame.Resume flow) = true
 stops leave (frame.Imported left) = true
+stops leave (frame.TriedSubmodule n) = true
 stops leave (frame.Open procedure) = true
 stops leave (frame.Back scope left) = true
 stops leave frame.HasAttr = is_missing leave

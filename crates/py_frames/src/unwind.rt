@@ -63,6 +63,7 @@ fn stops(leave: &Leave, frame: &Frame) -> bool
         Frame::Finally(_) => true,
         Frame::Resume(_) => true,
         Frame::Imported(_) => true,
+        Frame::TriedSubmodule(_) => true,
         Frame::Open(_) => true,
         Frame::Back { scope: _, left: _ } => true,
         Frame::HasAttr => is_missing(leave),

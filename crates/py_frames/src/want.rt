@@ -1,9 +1,12 @@
 //! What a piece of work wants first, and how it goes on after that.
 use crate::work::{Frame, Item, Procedure};
-use base_types::{Seq, Text, TreePath};
+use base_types::{Seq, Text, Texts, TreePath};
 use machine_events::{Event, Reply};
 use py_state::Flow;
-use py_value::Value;
+use py_syntax::Stmt;
+use py_value::{Items, ModRef, Raised, Value};
+use shared::Shared;
+use spec_core::Dotted;
 
 /// What goes on by the reply to an event.
 #[derive(Drop)]
@@ -14,7 +17,7 @@ pub enum OnReply {
     Global(Text),
     /// An attribute of a module was read.
     Member {
-        module: Text,
+        module: ModRef,
         name: Text,
     },
     /// A variable or attribute was set.
@@ -33,6 +36,39 @@ pub enum OnReply {
     },
     /// A procedure is fed with it.
     Feed(Procedure),
+    /// A name of a module was read for an import, and whether its value is bound.
+    FromModule {
+        module: ModRef,
+        name: Text,
+        is_bound: bool,
+    },
+    /// The entry of a submodule in place of a name that is not set; whether the module was initialising.
+    Entry {
+        module: ModRef,
+        name: Text,
+        is_initialising: bool,
+    },
+    /// Whether a module is a package, before its submodules with these names are asked for.
+    IfPackage {
+        module: ModRef,
+        names: Texts,
+    },
+    /// Whether a submodule is to be imported.
+    Submodule {
+        module: ModRef,
+        name: Text,
+    },
+    /// The entry of a submodule whose import raised this error.
+    Missed(Raised),
+    /// A module's `__all__`.
+    All(ModRef),
+    /// All names of a module, for a star.
+    Names(ModRef),
+    /// The package of the module in which a `from` statement has dots.
+    Package {
+        stmts: Shared<Seq<Stmt>>,
+        at: usize,
+    },
 }
 
 /// What a piece of work wants first, and how it goes on after that.
@@ -56,8 +92,12 @@ pub enum Want {
     Replied(OnReply, Reply),
     /// A wait for a lock, which is free.
     Wait(Item),
-    /// What stands at a path.
-    Stamp(TreePath, Procedure),
+    /// A search for a name on a path.
+    Find {
+        name: Dotted,
+        path: Items,
+        procedure: Procedure,
+    },
     /// The text of a file, if one stands there: a unit is paid for that.
     File(TreePath, Procedure),
 }

@@ -1,19 +1,23 @@
 //! The work that remains of a script.
 ghost use Rattle.std.specs.Prelude.{◌≡◌, [], ◌∷◌, MatchOption, OnOk, OnErr};
 
-use base_types::{NoMemory, Seq, Text};
+use base_types::{NoMemory, Seq, Text, Texts};
+use boxed::Boxed;
 use find_load::{Importer, In};
+use module_paths::PathReader;
 use py_state::{Flow, Leave, Scope, Stack};
 use py_syntax::{BinaryOp, Branch, Expr, Handler, Stmt};
-use py_value::{Raised, Value};
+use py_value::{ModRef, Raised, Value};
 use shared::Shared;
+use spec_core::Dotted;
 use std::alloc::Global;
 use std::marker::Model;
 
-/// A procedure that is open.
+/// A procedure that is open. It stands apart, since it is large and rare.
 #[derive(Drop)]
 pub enum Procedure {
-    Import(Importer),
+    Import(Boxed<Importer>),
+    Path(Boxed<PathReader>),
 }
 
 /// What operands are gathered for: an expression, or the statement at a place of a block.
@@ -103,8 +107,63 @@ pub enum Item {
         at: usize,
         place: usize,
     },
-    /// The import of a name.
-    Import(Text),
+    /// The import of a name, which may be the parent of one that is imported.
+    Import {
+        name: Text,
+        is_parent: bool,
+    },
+    /// A `from` statement, once its unit is paid.
+    From {
+        stmts: Shared<Seq<Stmt>>,
+        at: usize,
+    },
+    /// A name of a module for an import, and whether its value is bound.
+    FromModule {
+        module: ModRef,
+        name: Text,
+        is_bound: bool,
+    },
+    /// The submodules with these names, where the module is a package.
+    AskSubmodules {
+        module: ModRef,
+        names: Texts,
+    },
+    /// The submodules with the names from a place on.
+    Submodules {
+        module: ModRef,
+        names: Texts,
+        at: usize,
+    },
+    /// One of them.
+    Submodule {
+        module: ModRef,
+        name: Text,
+    },
+    /// The items of a `from` statement from a place on are bound.
+    Bindings {
+        module: ModRef,
+        stmts: Shared<Seq<Stmt>>,
+        at: usize,
+        place: usize,
+    },
+    /// One of them.
+    Binding {
+        module: ModRef,
+        stmts: Shared<Seq<Stmt>>,
+        at: usize,
+        place: usize,
+    },
+    /// The names that a star stands for, from a place on, are bound.
+    Stars {
+        module: ModRef,
+        names: Texts,
+        at: usize,
+    },
+    /// One of them.
+    Star {
+        module: ModRef,
+        name: Text,
+    },
     /// A procedure is fed.
     Feed(Procedure, In),
     /// A body of a module or script.
@@ -228,13 +287,58 @@ pub enum Frame {
         at: usize,
         place: usize,
     },
+    /// The import of a name with dots, before its first part is asked for.
+    Front {
+        stmts: Shared<Seq<Stmt>>,
+        at: usize,
+        place: usize,
+    },
+    /// The import of its first part.
+    Fronted {
+        stmts: Shared<Seq<Stmt>>,
+        at: usize,
+        place: usize,
+    },
+    /// A module on the way to the last part, whose parts from one on follow.
+    Parts {
+        stmts: Shared<Seq<Stmt>>,
+        at: usize,
+        place: usize,
+        part: usize,
+    },
+    /// The module of a `from` statement.
+    From {
+        stmts: Shared<Seq<Stmt>>,
+        at: usize,
+    },
+    /// A submodule, behind which those with the names from a place on come.
+    Submodules {
+        module: ModRef,
+        names: Texts,
+        at: usize,
+    },
+    /// The import of a submodule that may be missing.
+    TriedSubmodule(Dotted),
+    /// What comes before the items of a `from` statement from a place on.
+    Bindings {
+        module: ModRef,
+        stmts: Shared<Seq<Stmt>>,
+        at: usize,
+        place: usize,
+    },
+    /// What comes before the names of a star from a place on.
+    Stars {
+        module: ModRef,
+        names: Texts,
+        at: usize,
+    },
     /// An import, within which one fewer may be open.
     Imported(u32),
-    /// A body that a procedure waits for.
+    /// A body, an import or a path that a procedure waits for.
     Open(Procedure),
     /// A body: what the caller stands in, and how many may be open there.
     Back {
-        scope: Scope,
+        scope: Boxed<Scope>,
         left: u32,
     },
     /// An attribute, of which it is told whether it is there.

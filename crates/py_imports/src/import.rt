@@ -7,6 +7,7 @@ ghost use Rattle.py_frames.specs.declared.work.Item.TheVariants as items;
 ghost use Rattle.py_frames.specs.declared.work.Frame.TheVariants as frames;
 
 use base_types::{NoMemory, Text};
+use boxed::Boxed;
 use find_load::{Importer, In};
 use py_faults::{Fault, raised};
 use py_frames::{Frame, Item, Procedure, Want};
@@ -23,10 +24,16 @@ fn fail(alloc: Global, fault: Fault, thread: &Thread) -> Result<Want, NoMemory>
     Ok(Want::Go(Flow::Left(Leave::Raised(error))))
 }
 
-/// The import of a name. Where none more may be open, RecursionError; a name that is no dotted name
-/// is not in the profile. Within the import one fewer may be open.
-pub fn begin_import(alloc: Global, name: Text, thread: &mut Thread) -> Result<Want, NoMemory>
-    ensures { IfOk result (Does thread.new (begins (items.Import name) thread.old)) }
+/// The import of a name, which may be the parent of one that is imported. Where none more may be open,
+/// RecursionError; a name that is no dotted name is not in the profile. Within the import one fewer may
+/// be open.
+pub fn begin_import(
+    alloc: Global,
+    name: Text,
+    is_parent: bool,
+    thread: &mut Thread,
+) -> Result<Want, NoMemory>
+    ensures { IfOk result (Does thread.new (begins (items.Import name is_parent) thread.old)) }
 {
     if thread.left == 0 {
         return fail(alloc, Fault::TooDeep, thread);
@@ -34,9 +41,9 @@ pub fn begin_import(alloc: Global, name: Text, thread: &mut Thread) -> Result<Wa
     let Some(dotted) = Dotted::read(&name)? else {
         return fail(alloc, Fault::NotInProfile, thread);
     };
+    let importer = Boxed::new(alloc, Importer::start(dotted, is_parent))?;
     let left = thread.left;
     thread.left = left - 1;
-    let importer = Importer::start(dotted);
     Ok(Want::Both(
         Item::Feed(Procedure::Import(importer), In::Start),
         Frame::Imported(left),

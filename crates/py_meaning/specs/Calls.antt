@@ -20,7 +20,7 @@ use Rattle.py_faults.specs.declared.fault.Fault.TheVariants as fault
 use Rattle.py_state.specs.declared.flow.Leave.TheVariants.{Raised}
 use Rattle.py_state.specs.declared.flow.Flow.TheVariants.{Went, Left}
 use Rattle.py_meaning.specs.Pieces.{Piece, Onward, calls, fails, gives, built, done}
-use Rattle.py_meaning.specs.Names.{member}
+use Rattle.py_meaning.specs.Names.{Replaced, member}
 
 abbrev pub text_at : Value-F Value → List ℕ
 text_at (Value-F.Text text) = text
@@ -87,12 +87,12 @@ len_call (v ∷ []) = built (v ∷ []) (length_given (length_of v) v)
 len_call vs = fails (fault.ArgumentCount natives.Len)
 
 -- reads an attribute whose name is a value
-abbrev pub member_named_at : Value → Value-F Value → Piece
-member_named_at v (Value-F.Text x) = member v x
-member_named_at v name = fails fault.NameNotText
+abbrev pub member_named_at : Replaced → Value → Value-F Value → Piece
+member_named_at path v (Value-F.Text x) = member path v x
+member_named_at path v name = fails fault.NameNotText
 
-abbrev pub member_named : Value → Value → Piece
-member_named v name = member_named_at v (out-Value name)
+abbrev pub member_named : Replaced → Value → Value → Piece
+member_named path v name = member_named_at path v (out-Value name)
 
 -- only an AttributeError is met
 abbrev pub missing_at : Onward → Value → Error → Kind → Onward
@@ -109,20 +109,20 @@ abbrev pub telling : Onward → Onward
 telling k (Went v) s = k (Went (values.Bool true)) s
 telling k (Left leave) s = defaulting k (values.Bool false) (Left leave) s
 
-abbrev pub hasattr_call : List Value → Piece
-hasattr_call (v ∷ x ∷ []) = λ s k. member_named v x s (telling k)
-hasattr_call vs = fails (fault.ArgumentCount natives.HasAttr)
+abbrev pub hasattr_call : Replaced → List Value → Piece
+hasattr_call path (v ∷ x ∷ []) = λ s k. member_named path v x s (telling k)
+hasattr_call path vs = fails (fault.ArgumentCount natives.HasAttr)
 
-abbrev pub getattr_call : List Value → Piece
-getattr_call (v ∷ x ∷ []) = member_named v x
-getattr_call (v ∷ x ∷ d ∷ []) = λ s k. member_named v x s (defaulting k d)
-getattr_call vs = fails (fault.ArgumentCount natives.GetAttr)
+abbrev pub getattr_call : Replaced → List Value → Piece
+getattr_call path (v ∷ x ∷ []) = member_named path v x
+getattr_call path (v ∷ x ∷ d ∷ []) = λ s k. member_named path v x s (defaulting k d)
+getattr_call path vs = fails (fault.ArgumentCount natives.GetAttr)
 
-abbrev pub calls_native : Native → List Value → Piece
-calls_native natives.Print vs = built vs (prints (strs_of vs))
-calls_native natives.Str vs = str_call vs
-calls_native natives.Repr vs = repr_call vs
-calls_native natives.Len vs = len_call vs
-calls_native natives.HasAttr vs = hasattr_call vs
-calls_native natives.GetAttr vs = getattr_call vs
-calls_native native vs = fails fault.NotBuilt
+abbrev pub calls_native : Replaced → Native → List Value → Piece
+calls_native path natives.Print vs = built vs (prints (strs_of vs))
+calls_native path natives.Str vs = str_call vs
+calls_native path natives.Repr vs = repr_call vs
+calls_native path natives.Len vs = len_call vs
+calls_native path natives.HasAttr vs = hasattr_call path vs
+calls_native path natives.GetAttr vs = getattr_call path vs
+calls_native path native vs = fails fault.NotBuilt

@@ -1,114 +1,194 @@
--- Import of one name (`importlib._bootstrap._find_and_load`), for a name without a dot, with a search of the root alone.
-use Rattle.std.specs.Prelude.{ℕ, zero, suc, List, [], ◌∷◌, ◌++◌, codes, Option, Some, None, ◌&&◌, if◌then◌else◌, Bool, true, false}
-use Rattle.base_types.specs.Path.{Path, is_part}
+-- Import of one name (`importlib._bootstrap._find_and_load`): its parent first, then its lock, then the search on the parent's path.
+use Rattle.std.specs.Prelude.{ℕ, zero, suc, List, [], Option, Some, None, Bool, true, false}
+use Rattle.base_types.specs.Path.{Path}
 use Rattle.py_value.specs.declared.value.ModRef.{ModRef}
+use Rattle.py_value.specs.declared.value.Value.{Value, out-Value}
 use Rattle.py_value.specs.declared.value.Value.TheVariants as values
+use Rattle.py_value.specs.declared.value.Value.TheOpen.{Value-F}
+use Rattle.spec_core.specs.Names.{parent_of}
 use Rattle.spec_core.specs.declared.spec.Spec.{Spec}
+use Rattle.spec_core.specs.declared.spec.SpecKind.{SpecKind}
 use Rattle.spec_core.specs.declared.spec.SpecKind.TheVariants as kinds
 use Rattle.tree_files.specs.declared.tree.Stamp.{Stamp}
 use Rattle.tree_files.specs.declared.tree.Stamp.TheVariants as stamps
 use Rattle.machine_events.specs.declared.event.Event.TheVariants as e
 use Rattle.machine_events.specs.declared.event.Reply.{Reply}
 use Rattle.machine_events.specs.declared.event.Reply.TheVariants as r
+use Rattle.machine_events.specs.declared.module.Slot.{Slot}
+use Rattle.machine_events.specs.declared.module.Slot.TheVariants as slots
+use Rattle.path_finder.specs.Entries as entries
+use Rattle.path_finder.specs.Steps as search
+use Rattle.path_finder.specs.declared.words.Found.{Found}
+use Rattle.path_finder.specs.declared.words.Found.TheVariants as found
+use Rattle.search_meaning.specs.Searches.{searches_in}
 use Rattle.meanings.specs.Runs.{Run, Pays, Looks, Makes, StampOf, TextOf}
 use Rattle.py_faults.specs.declared.fault.Fault.{Fault}
 use Rattle.py_faults.specs.declared.fault.Fault.TheVariants as fault
 use Rattle.py_state.specs.declared.flow.Flow.{Flow}
 use Rattle.py_state.specs.declared.flow.Flow.TheVariants.{Went, Left}
-use Rattle.py_meaning.specs.Pieces.{Piece, Onward, pay, calls, fails, raise, most}
+use Rattle.py_meaning.specs.Pieces.{Piece, Onward, pay, calls, fails, passes, on_value, most}
+use Rattle.py_meaning.specs.Paths.{path_of}
 
--- a body of a module, with the module's number, its load and its text
-abbrev pub Body : Type 0
-Body = ℕ → ℕ → List ℕ → Piece
+-- what an import goes into: the body of a module, with the module's number, its load and its text; and the import of a parent
+pub record Inside : Type 0 where
+  pub body : ℕ → ℕ → List ℕ → Piece
+  pub parent : List ℕ → Piece
 
 -- an import is answered by a module
-abbrev pub found : ModRef → Piece
-found m s k = k (Went (values.Module m)) s
+abbrev pub answers : ModRef → Piece
+answers m s k = k (Went (values.Module m)) s
 
--- what a look into the cache leads to: the module, an error, or a wait and then another look
+-- ---- looks into the cache
+
+-- what a look leads to: the module, an error, or a wait and then another look
 abbrev pub met : Piece → List ℕ → Reply → Piece
-met again n (r.Module m) = found m
-met again n (r.Cycle m) = found m
+met again n (r.Module m) = answers m
+met again n (r.Cycle m) = answers m
 met again n r.Halted = fails (fault.Halted n)
 met again n r.Deadlock = fails (fault.Deadlock n)
 met again n (r.Wait l) = λ s k. Makes e.Wake (λ _. again s k)
 met again n reply = fails fault.NotInProfile
 
-abbrev pub asked : Piece → Piece → List ℕ → Reply → Piece
-asked again missing n r.Missing = missing
-asked again missing n reply = met again n reply
+-- of a parent whose entry is `None` at its first look nothing is raised: its child's import tells of it
+abbrev pub halts : Bool → List ℕ → Piece
+halts true n = passes
+halts false n = fails (fault.Halted n)
 
-abbrev pub taken : Piece → Piece → List ℕ → Reply → Piece
-taken again mine n (r.Mine epoch) = mine
+abbrev pub asked : Piece → Piece → Bool → List ℕ → Reply → Piece
+asked again missing is_parent n r.Missing = missing
+asked again missing is_parent n r.Halted = halts is_parent n
+asked again missing is_parent n reply = met again n reply
+
+abbrev pub taken : Piece → (ℕ → Piece) → List ℕ → Reply → Piece
+taken again mine n (r.Mine epoch) = mine epoch
 taken again mine n reply = met again n reply
 
--- the lock is given back, and the error is raised
+-- ---- with the lock
+
+-- it is given back, and the error is raised
 abbrev pub gives_back : List ℕ → Fault → Piece
 gives_back n f s k = calls (e.Release n) (λ _. fails f s k)
 
-abbrev pub file_of : List ℕ → List ℕ
-file_of n = n ++ codes ".py"
+-- it is given back, and the leave goes on
+abbrev pub gives_back_and : List ℕ → Flow → Piece
+gives_back_and n flow s k = calls (e.Release n) (λ _. k flow s)
 
-abbrev pub spec_of : List ℕ → Spec
-spec_of n = record { name = n; kind = kinds.Source (file_of n) }
+-- after a good body the entry is looked up again, unless it or its parent's is lost
+abbrev pub lost_parent : List ℕ → Option (List ℕ) → Piece
+lost_parent n (Some p) = fails (fault.Lost p)
+lost_parent n None = fails fault.NotInProfile
 
--- after a good body the entry is looked up again, unless it is lost
 abbrev pub finished : Piece → List ℕ → Reply → Piece
 finished again n (r.Kept slot) = again
 finished again n r.Lost = fails (fault.Lost n)
+finished again n r.LostParent = lost_parent n (parent_of n)
 finished again n reply = fails fault.NotInProfile
 
 abbrev pub finishes : ℕ → Piece → List ℕ → Flow → Piece
 finishes load again n (Went v) = λ s k. calls (e.Finish load true) (λ reply. finished again n reply s k)
 finishes load again n (Left leave) = λ s k. calls (e.Finish load false) (λ _. k (Left leave) s)
 
-abbrev pub added : Body → Piece → List ℕ → List ℕ → Reply → Piece
-added body again n text (r.Load load mid) = λ s k. body mid load text s (λ flow s. finishes load again n flow s k)
-added body again n text reply = gives_back n fault.NotInProfile
+-- a module of a file is made, and its body runs
+abbrev pub added : Inside → Piece → List ℕ → List ℕ → Reply → Piece
+added inside again n text (r.Load load mid) = λ s k. inside.body mid load text s (λ flow s. finishes load again n flow s k)
+added inside again n text reply = gives_back n fault.NotInProfile
 
--- the file is read, and its module is made
-abbrev pub adds : Body → Piece → List ℕ → List ℕ → Piece
-adds body again n text s k = calls (e.Add (spec_of n) text) (λ reply. added body again n text reply s k)
+abbrev pub adds : Inside → Piece → List ℕ → Spec → List ℕ → Piece
+adds inside again n spec text s k = calls (e.Add spec text) (λ reply. added inside again n text reply s k)
 
-abbrev pub has_text : Body → Piece → List ℕ → Option (List ℕ) → Piece
-has_text body again n None = gives_back n fault.TooLong
-has_text body again n (Some text) = adds body again n text
+-- the file is read. The text of a file that is too long for a source is none
+abbrev pub has_text : Inside → Piece → List ℕ → Spec → Option (List ℕ) → Piece
+has_text inside again n spec None = gives_back n fault.TooLong
+has_text inside again n spec (Some text) = adds inside again n spec text
 
 -- the text of the file at a path, for one unit, if a file stands there
 abbrev pub opens : Path → Run → (Option (List ℕ) → Run) → Stamp → Run
 opens path none go (stamps.File size) = Pays true 1 (Looks (TextOf path) go)
 opens path none go stamp = none
 
-abbrev pub by_file : Path → Body → Piece → List ℕ → Stamp → Piece
-by_file file body again n stamp s k = opens file (gives_back n (fault.NotFound n) s k) (λ text. has_text body again n text s k) stamp
+abbrev pub reads_file : Inside → Piece → List ℕ → Spec → Option Path → Piece
+reads_file inside again n spec None = gives_back n (fault.NotFound n)
+reads_file inside again n spec (Some path) = λ s k.
+    Looks (StampOf path) (opens path (gives_back n (fault.NotFound n) s k) (λ text. has_text inside again n spec text s k))
 
-abbrev pub by_folder : Path → Body → Piece → List ℕ → Stamp → Piece
-by_folder file body again n (stamps.Dir time) = gives_back n fault.NotBuilt
-by_folder file body again n stamp = λ s k. Looks (StampOf file) (λ at. by_file file body again n at s k)
+-- a namespace is made: it has no body, and what is kept of it is the path that it was found on
+abbrev pub namespace_made : Piece → List ℕ → ℕ → Piece
+namespace_made again n load s k = finishes load again n (Went values.Nothing) s k
 
--- a name and its file are parts of a tree path, as those of an identifier are
-abbrev pub is_searched : List ℕ → Bool
-is_searched n = is_part n && is_part (file_of n)
+abbrev pub namespace_added : Piece → List ℕ → ℕ → List Value → List (List ℕ) → Reply → Piece
+namespace_added again n epoch path portions (r.Load load mid) = λ s k.
+    calls (e.NsSet mid (record { parent_path = path; epoch = epoch; portions = portions })) (λ _. namespace_made again n load s k)
+namespace_added again n epoch path portions reply = gives_back n fault.NotInProfile
 
--- the search, in the root alone: a folder of this name, else a file
-abbrev pub searched : Body → Piece → List ℕ → Piece
-searched body again n =
-    if is_searched n
-    then (λ s k. Looks (StampOf (n ∷ [])) (λ at. by_folder (file_of n ∷ []) body again n at s k))
-    else gives_back n (fault.NotFound n)
+abbrev pub namespace_of : List ℕ → List (List ℕ) → Spec
+namespace_of n portions = record { name = n; kind = kinds.Namespace portions }
 
-abbrev pub searches : Body → Piece → List ℕ → Piece
-searches body again n s k = Pays true 1 (searched body again n s k)
+abbrev pub adds_namespace : Piece → List ℕ → ℕ → List Value → List (List ℕ) → Piece
+adds_namespace again n epoch path portions s k =
+    calls (e.Add (namespace_of n portions) []) (λ reply. namespace_added again n epoch path portions reply s k)
 
--- with the lock, the path is read and the module is searched for
-abbrev pub finds : Body → Piece → List ℕ → Piece
-finds body again n s k = calls e.PathGet (λ _. searches body again n s k)
+-- by what the search found
+abbrev pub loads : Inside → Piece → List ℕ → Spec → SpecKind → Piece
+loads inside again n spec (kinds.Source file) = reads_file inside again n spec (entries.path_of file)
+loads inside again n spec (kinds.Package file path) = reads_file inside again n spec (entries.path_of file)
+loads inside again n spec kind = gives_back n fault.NotInProfile
 
-abbrev pub takes : Body → Piece → List ℕ → Piece
-takes body again n s k = calls (e.Take n) (λ reply. taken again (finds body again n) n reply s k)
+abbrev pub discovers : Inside → Piece → List ℕ → ℕ → List Value → Option Found → Piece
+discovers inside again n epoch path None = gives_back n (fault.NotFound n)
+discovers inside again n epoch path (Some (found.Spec spec)) = loads inside again n spec spec.kind
+discovers inside again n epoch path (Some (found.Portions portions)) = adds_namespace again n epoch path portions
+
+abbrev pub finds : Inside → Piece → List ℕ → ℕ → List Value → Piece
+finds inside again n epoch path s k =
+    searches_in (search.searches n path []) (λ answer. discovers inside again n epoch path answer s k)
+
+-- ---- the path
+
+-- a name without a dot is searched on the search path
+abbrev pub on_search_path : (List Value → Piece) → List ℕ → Reply → Piece
+on_search_path go n (r.Path items) = go items
+on_search_path go n reply = gives_back n fault.NotInProfile
+
+-- any other on the path of the module that the cache has for its parent's name
+abbrev pub on_path : (List Value → Piece) → List ℕ → List ℕ → Value-F Value → Piece
+on_path go n p (Value-F.List items) = go items
+on_path go n p v = gives_back n (fault.NotPackage n p)
+
+abbrev pub on_parent_path : (List Value → Piece) → List ℕ → List ℕ → Flow → Piece
+on_parent_path go n p (Went v) = on_path go n p (out-Value v)
+on_parent_path go n p (Left leave) = gives_back_and n (Left leave)
+
+abbrev pub on_parent : (List Value → Piece) → List ℕ → List ℕ → Slot → Piece
+on_parent go n p slots.Absent = gives_back n (fault.Lost p)
+on_parent go n p slots.Halted = gives_back n (fault.NotPackage n p)
+on_parent go n p (slots.Module m) = λ s k. path_of m s (λ flow s. on_parent_path go n p flow s k)
+
+abbrev pub on_entry : (List Value → Piece) → List ℕ → List ℕ → Reply → Piece
+on_entry go n p (r.Slot slot) = on_parent go n p slot
+on_entry go n p reply = gives_back n fault.NotInProfile
+
+abbrev pub reads_path : (List Value → Piece) → List ℕ → Option (List ℕ) → Piece
+reads_path go n None = λ s k. calls e.PathGet (λ reply. on_search_path go n reply s k)
+reads_path go n (Some p) = λ s k. calls (e.TabGet p) (λ reply. on_entry go n p reply s k)
+
+abbrev pub has_lock : Inside → Piece → List ℕ → ℕ → Piece
+has_lock inside again n epoch = reads_path (finds inside again n epoch) n (parent_of n)
+
+-- ---- the whole
+
+abbrev pub takes : Inside → Piece → List ℕ → Piece
+takes inside again n s k = calls (e.Take n) (λ reply. taken again (has_lock inside again n) n reply s k)
+
+-- the parent is imported first, and waited for before the lock of its child is taken
+abbrev pub after_parent : Inside → Piece → Option (List ℕ) → Piece
+after_parent inside next None = next
+after_parent inside next (Some p) = λ s k. inside.parent p s (on_value k (λ _ s. next s k))
+
+abbrev pub misses : Inside → Piece → List ℕ → Piece
+misses inside again n = after_parent inside (takes inside again n) (parent_of n)
 
 -- at most so many turns of a look into the cache and what follows it, and then a payment of more than is left
-abbrev pub asks : Body → ℕ → List ℕ → Piece
-asks body zero n = λ s k. pay most (fails fault.NotInProfile s k)
-asks body (suc turns) n =
-    λ s k. calls (e.Ask n) (λ reply. asked (asks body turns n) (takes body (asks body turns n) n) n reply s k)
+abbrev pub asks : Inside → ℕ → Bool → List ℕ → Piece
+asks inside zero is_parent n = λ s k. pay most (fails fault.NotInProfile s k)
+asks inside (suc turns) is_parent n = λ s k.
+    calls (e.Ask n) (λ reply. asked (asks inside turns false n) (misses inside (asks inside turns false n) n) is_parent n reply s k)

@@ -2,6 +2,8 @@ pub mod Pieces
 pub mod Names
 pub mod Operators
 pub mod Calls
+pub mod ImportStatements
 pub mod Statements
+pub mod Paths
 pub mod Imports
 pub mod Meaning

@@ -1,5 +1,5 @@
 -- What calls, imports and bodies mean where so many more may be open, and what a script means.
-use Rattle.std.specs.Prelude.{ℕ, zero, suc, List, [], ◌∷◌, Option, Some, None, nat_eq, length, if◌then◌else◌, Bool}
+use Rattle.std.specs.Prelude.{ℕ, zero, suc, List, [], ◌∷◌, Option, Some, None, nat_eq, length, if◌then◌else◌, Bool, true, false}
 use Rattle.std.specs.FinMap as maps
 use Rattle.std.specs.FinMap.{FinMap}
 use Rattle.std.specs.Ordering.{nat_cmp}
@@ -28,9 +28,11 @@ use Rattle.py_state.specs.declared.thread.Source.{Source}
 use Rattle.py_state.specs.declared.thread.State.{State}
 use Rattle.py_meaning.specs.Pieces.{Piece, Onward, pay, calls, text_units, most, done, fails}
 use Rattle.py_meaning.specs.Calls.{calls_kind, calls_native}
+use Rattle.py_meaning.specs.Names.{Replaced}
 use Rattle.py_meaning.specs.Operators.{Around}
 use Rattle.py_meaning.specs.Statements.{run_all}
-use Rattle.py_meaning.specs.Imports.{asks}
+use Rattle.py_meaning.specs.Paths.{replaced}
+use Rattle.py_meaning.specs.Imports.{Inside, asks}
 
 -- what the text of each source comes to
 abbrev pub World : Type 0
@@ -110,40 +112,43 @@ starts around mid load (Parsed script) =
 abbrev pub runs_body : World → Around → ℕ → ℕ → List ℕ → Piece
 runs_body w around mid load text s k = pay (text_units text) (starts around mid load (w text) s k)
 
--- the import of a name
-abbrev pub imports_name : (ℕ → ℕ → List ℕ → Piece) → List ℕ → Piece
-imports_name body n = if is_dotted n then asks body most n else fails fault.NotInProfile
+-- the import of a name, which may be that of another one's parent
+abbrev pub imports_name : Inside → Bool → List ℕ → Piece
+imports_name inside is_parent n = if is_dotted n then asks inside most is_parent n else fails fault.NotInProfile
 
 -- a call, by what the callee is
-abbrev pub calls_value : (ℕ → ℕ → List Value → Piece) → Value → Value-F Value → List Value → Piece
-calls_value function f (Value-F.Func load index name) vs = function load index vs
-calls_value function f (Value-F.Kind kind) vs = calls_kind kind vs
-calls_value function f (Value-F.Native native) vs = calls_native native vs
-calls_value function f v vs = fails (fault.NotCallable (type_of f))
+abbrev pub calls_value : (ℕ → ℕ → List Value → Piece) → Replaced → Value → Value-F Value → List Value → Piece
+calls_value function path f (Value-F.Func load index name) vs = function load index vs
+calls_value function path f (Value-F.Kind kind) vs = calls_kind kind vs
+calls_value function path f (Value-F.Native native) vs = calls_native path native vs
+calls_value function path f v vs = fails (fault.NotCallable (type_of f))
 
-abbrev pub calls_with : (ℕ → ℕ → List Value → Piece) → Value → List Value → Piece
-calls_with function f vs = calls_value function f (out-Value f) vs
+abbrev pub calls_with : (ℕ → ℕ → List Value → Piece) → Replaced → Value → List Value → Piece
+calls_with function path f vs = calls_value function path f (out-Value f) vs
 
 -- Where so many more bodies, calls and imports may be open.
 
 abbrev mutual
   pub functions_at : World → ℕ → ℕ → ℕ → List Value → Piece
   functions_at w zero = λ load index vs. fails fault.TooDeep
-  functions_at w (suc left) = calls_function w (record { called = calls_with (functions_at w left); imported = imports_at w left })
+  functions_at w (suc left) = calls_function w (record { called = calls_with (functions_at w left) replaced; imported = imports_at w left false; replaced = replaced })
 
   pub bodies_at : World → ℕ → ℕ → ℕ → List ℕ → Piece
   bodies_at w zero = λ mid load text. fails fault.TooDeep
-  bodies_at w (suc left) = runs_body w (record { called = calls_with (functions_at w left); imported = imports_at w left })
+  bodies_at w (suc left) = runs_body w (record { called = calls_with (functions_at w left) replaced; imported = imports_at w left false; replaced = replaced })
 
-  pub imports_at : World → ℕ → List ℕ → Piece
-  imports_at w zero = λ n. fails fault.TooDeep
-  imports_at w (suc left) = imports_name (bodies_at w left)
+  pub imports_at : World → ℕ → Bool → List ℕ → Piece
+  imports_at w zero = λ is_parent n. fails fault.TooDeep
+  imports_at w (suc left) = imports_name (record { body = bodies_at w left; parent = imports_at w left true })
 
 abbrev pub calls_at : World → ℕ → Value → List Value → Piece
-calls_at w left = calls_with (functions_at w left)
+calls_at w left = calls_with (functions_at w left) replaced
 
 abbrev pub around_at : World → ℕ → Around
-around_at w left = record { called = calls_at w left; imported = imports_at w left }
+around_at w left = record { called = calls_at w left; imported = imports_at w left false; replaced = replaced }
+
+abbrev pub inside_at : World → ℕ → Inside
+inside_at w left = record { body = bodies_at w left; parent = imports_at w left true }
 
 -- Scripts.
 

@@ -7,6 +7,7 @@ use Rattle.py_value.specs.declared.kind.Kind.{Kind}
 use Rattle.py_value.specs.declared.kind.Kind.TheVariants as kinds
 use Rattle.py_value.specs.declared.kind.Native.{Native}
 use Rattle.py_value.specs.declared.kind.Native.TheVariants as natives
+use Rattle.py_value.specs.declared.value.ModRef.{ModRef}
 use Rattle.py_value.specs.declared.value.Raised.{Raised as Error}
 use Rattle.py_value.specs.declared.value.Value.{Value, out-Value}
 use Rattle.py_value.specs.declared.value.Value.TheVariants as values
@@ -96,7 +97,7 @@ without_local s x = with_function s (unset_in s.scope.function x)
 
 -- Reads of names.
 
--- a variable's value; the path of a namespace is not built yet
+-- a variable's value; no body runs in a namespace, so its path is read here only once modules are loaded again
 abbrev pub variable : Value → Piece
 variable v = if is_namespace_path v then fails fault.NotBuilt else (λ s k. k (Went v) s)
 
@@ -167,22 +168,33 @@ error_member error x =
     then (λ s k. k (Went (name_value error.name)) s)
     else fails fault.NotInProfile
 
-abbrev pub member_read : Reply → List ℕ → List ℕ → Piece
-member_read (r.Value v) m x = variable v
-member_read (r.Unset init) m x = fails (fault.NoAttribute init m x)
-member_read r.Sleeping m x = fails fault.NotBuilt
-member_read reply m x = fails fault.NotInProfile
+-- what comes in place of the path of a namespace: a list
+abbrev pub Replaced : Type 0
+Replaced = ModRef → Piece
 
-abbrev pub member_at : Value-F Value → List ℕ → Piece
-member_at (Value-F.Module m) x = λ s k. calls (e.GetVar m.mid x false) (λ reply. member_read reply m.name x s k)
-member_at (Value-F.Error error) x = error_member error x
-member_at Value-F.SysModules x = fails fault.NotBuilt
-member_at Value-F.SysPath x = fails fault.NotBuilt
-member_at v x = fails fault.NotInProfile
+-- only a module's `__path__` can be one
+abbrev pub replaces : Replaced → ModRef → List ℕ → Piece
+replaces path m x = if bytes_eq x (codes "__path__") then path m else fails fault.NotInProfile
+
+abbrev pub member_value : Replaced → ModRef → List ℕ → Value → Piece
+member_value path m x v = if is_namespace_path v then replaces path m x else (λ s k. k (Went v) s)
+
+abbrev pub member_read : Replaced → Reply → ModRef → List ℕ → Piece
+member_read path (r.Value v) m x = member_value path m x v
+member_read path (r.Unset init) m x = fails (fault.NoAttribute init m.name x)
+member_read path r.Sleeping m x = fails fault.NotBuilt
+member_read path reply m x = fails fault.NotInProfile
+
+abbrev pub member_at : Replaced → Value-F Value → List ℕ → Piece
+member_at path (Value-F.Module m) x = λ s k. calls (e.GetVar m.mid x false) (λ reply. member_read path reply m x s k)
+member_at path (Value-F.Error error) x = error_member error x
+member_at path Value-F.SysModules x = fails fault.NotBuilt
+member_at path Value-F.SysPath x = fails fault.NotBuilt
+member_at path v x = fails fault.NotInProfile
 
 -- an attribute is read
-abbrev pub member : Value → List ℕ → Piece
-member v x = member_at (out-Value v) x
+abbrev pub member : Replaced → Value → List ℕ → Piece
+member path v x = member_at path (out-Value v) x
 
 abbrev pub sets_member_at : Value-F Value → List ℕ → Value → Piece
 sets_member_at (Value-F.Module m) x v = λ s k. calls (e.SetVar m.mid x v false) (λ reply. stored reply s k)

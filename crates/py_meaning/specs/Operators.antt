@@ -23,12 +23,13 @@ use Rattle.py_syntax.specs.declared.expr.Expr.TheFolds.{fold-Expr}
 use Rattle.py_faults.specs.declared.fault.Fault.TheVariants as fault
 use Rattle.py_state.specs.declared.flow.Flow.TheVariants.{Went}
 use Rattle.py_meaning.specs.Pieces.{Piece, pay, on_value, fails, gives, sized, atom, operates, built, decides, with_one, with_two}
-use Rattle.py_meaning.specs.Names.{reads, variable, member}
+use Rattle.py_meaning.specs.Names.{Replaced, reads, variable, member}
 
--- what stands around a piece: the calls of values, and the imports of names
+-- what stands around a piece: the calls of values, the imports of names, and what comes in place of the path of a namespace
 pub record Around : Type 0 where
   pub called : Value → List Value → Piece
   pub imported : List ℕ → Piece
+  pub replaced : Replaced
 
 abbrev pub operator_of : BinaryOp → BinOp
 operator_of op.Add = bin.Add
@@ -85,7 +86,7 @@ gives_item (applied.Raised error) = gives (applied.Raised error)
 abbrev pub applies_at : {X : Type 0} → Around → Expr-F X → List Value → Piece
 applies_at around (Expr-F.Tuple es) vs = gives (displayed values.Tuple vs)
 applies_at around (Expr-F.List es) vs = gives (displayed values.List vs)
-applies_at around (Expr-F.Attribute object x) vs = with_one vs (λ v. member v x)
+applies_at around (Expr-F.Attribute object x) vs = with_one vs (λ v. member around.replaced v x)
 applies_at around (Expr-F.Call callee es) vs = calls_first around vs
 applies_at around (Expr-F.Subscript object index) vs = built vs (with_two vs (λ v i. gives_item (subscript v i)))
 applies_at around (Expr-F.Negative a) vs = built vs (with_one vs (λ v. gives (negated v)))

@@ -30,6 +30,7 @@ use Rattle.py_state.specs.declared.thread.State.{State}
 use Rattle.py_meaning.specs.Pieces.{Piece, Onward, pay, calls, most, on_value, done, passes, fails, gives, sized, gathers, in_order, built, decides, with_one, with_two, with_three}
 use Rattle.py_meaning.specs.Names.{is_local_name, without_local, stores, deletes, sets_member, deletes_member, changes_item}
 use Rattle.py_meaning.specs.Operators.{Around, operator_of, eval}
+use Rattle.py_meaning.specs.ImportStatements.{imports_all, from_import}
 
 abbrev pub leaves : Flow → Piece
 leaves flow s k = k flow s
@@ -118,22 +119,6 @@ performs_at Stmt-F.Continue vs = leaves (Left Continue)
 performs_at (Stmt-F.Return e) vs = returns vs
 performs_at (Stmt-F.Raise e) vs = raises vs
 performs_at stmt vs = fails fault.NotBuilt
-
--- Imports (7.11): each name is bound before the next is imported.
-
-abbrev pub bound_as : Option (List ℕ) → List ℕ → List ℕ
-bound_as None x = x
-bound_as (Some y) x = y
-
-abbrev pub imports_parts : Around → List (List ℕ) → Option (List ℕ) → Piece
-imports_parts around (x ∷ []) bound = λ s k. around.imported x s (on_value k (λ v s. stores (bound_as bound x) v s k))
-imports_parts around parts bound = fails fault.NotBuilt
-
-abbrev pub imports_one : Around → Alias → Piece
-imports_one around a = imports_parts around a.parts a.bound
-
-abbrev pub imports_all : Around → List Alias → Piece
-imports_all around items = in_order (map (imports_one around) items)
 
 -- `if` and `while` (8.1 and 8.2).
 
@@ -299,7 +284,7 @@ defines f s k = stores f.name (values.Func s.scope.load f.number f.name) s k
 -- what a compound statement does once its unit is paid, and a simple one too
 abbrev pub paid_at : Around → Stmt-F Piece BranchPiece DefPiece HandlerPiece → Piece
 paid_at around (Stmt-F.Import items) = imports_all around items
-paid_at around (Stmt-F.From dots parts names) = fails fault.NotBuilt
+paid_at around (Stmt-F.From dots parts names) = from_import around dots parts names
 paid_at around (Stmt-F.If branches otherwise) = tests branches (in_order otherwise)
 paid_at around (Stmt-F.Try body hs otherwise last) = guards last (tries (in_order body) hs (in_order otherwise))
 paid_at around (Stmt-F.Def f) = defines f

@@ -1,19 +1,21 @@
 //! Attributes and items (Language Reference 6.3.1 and 7.2).
 ghost use Rattle.std.specs.Prelude.{◌≡◌, IfOk, true};
 ghost use Rattle.py_value.specs.declared.value.Value.{out-Value};
+ghost use Rattle.py_value.specs.declared.value.Value.TheOpen.{Value-F};
+ghost use Rattle.py_meaning.specs.Meaning.{around_at};
 ghost use Rattle.py_meaning.specs.Names as spec;
 ghost use Rattle.py_frames.specs.Does.{Does, pieces, begins, replies};
 ghost use Rattle.py_frames.specs.declared.work.Item.TheVariants as items;
 ghost use Rattle.py_frames.specs.declared.want.OnReply.TheVariants as ons;
 
-use crate::names::variable;
+use crate::paths::member_value;
 use crate::ways::{fail, went};
 use base_types::{Exact, NoMemory, Text};
 use machine_events::{Event, Reply};
 use py_faults::Fault;
 use py_frames::{OnReply, Want};
 use py_state::Thread;
-use py_value::{Kind, Raised, Value, type_of};
+use py_value::{Kind, ModRef, Raised, Value, type_of};
 use std::alloc::Global;
 
 /// Whether an error of the kind tells the name of a module.
@@ -50,25 +52,25 @@ fn error_member(
     fail(alloc, thread, Fault::NotInProfile)
 }
 
+/// An attribute of a module.
+fn module_member(thread: &Thread, module: ModRef, name: Text) -> Result<Want, NoMemory>
+    ensures { IfOk result (Does thread.now (pieces (λ w d. spec.member_at (around_at w d).replaced (Value-F.Module «module») name) thread.now)) }
+{
+    let _ = thread;
+    let event = Event::GetVar {
+        mid: module.mid,
+        name: name.copy()?,
+        raw: false,
+    };
+    Ok(Want::Call(event, OnReply::Member { module, name }))
+}
+
 /// An attribute is to be read.
 pub fn member(alloc: Global, thread: &Thread, object: Value, name: Text) -> Result<Want, NoMemory>
     ensures { IfOk result (Does thread.now (begins (items.Member object name) thread.now)) }
 {
     match object {
-        Value::Module(module) => {
-            let event = Event::GetVar {
-                mid: module.mid,
-                name: name.copy()?,
-                raw: false,
-            };
-            Ok(Want::Call(
-                event,
-                OnReply::Member {
-                    module: module.name,
-                    name,
-                },
-            ))
-        }
+        Value::Module(module) => module_member(thread, module, name),
         Value::Error(error) => error_member(alloc, thread, error, &name),
         Value::SysModules | Value::SysPath => fail(alloc, thread, Fault::NotBuilt),
         other => {
@@ -82,20 +84,20 @@ pub fn member(alloc: Global, thread: &Thread, object: Value, name: Text) -> Resu
 pub fn member_read(
     alloc: Global,
     thread: &Thread,
-    module: Text,
+    module: ModRef,
     name: Text,
     reply: Reply,
 ) -> Result<Want, NoMemory>
     ensures { IfOk result (Does thread.now (replies (ons.Member «module» name) reply thread.now)) }
 {
     match reply {
-        Reply::Value(value) => variable(alloc, thread, value),
+        Reply::Value(value) => member_value(alloc, thread, module, &name, value),
         Reply::Unset(is_initialising) => fail(
             alloc,
             thread,
             Fault::NoAttribute {
                 is_initialising,
-                module,
+                module: module.name,
                 name,
             },
         ),

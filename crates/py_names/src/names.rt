@@ -20,7 +20,7 @@ use py_value::{Value, size};
 use std::alloc::Global;
 
 /// Whether a value stands for the path of a namespace.
-fn is_namespace_path(value: &Value) -> bool
+pub fn is_namespace_path(value: &Value) -> bool
     ensures { result ≡ is_namespace_path value.now }
 {
     match value {
@@ -30,7 +30,7 @@ fn is_namespace_path(value: &Value) -> bool
 }
 
 /// A variable's value.
-pub fn variable(alloc: Global, thread: &Thread, value: Value) -> Result<Want, NoMemory>
+fn variable(alloc: Global, thread: &Thread, value: Value) -> Result<Want, NoMemory>
     ensures { IfOk result (Does thread.now (pieces (λ w d. spec.variable value) thread.now)) }
 {
     if is_namespace_path(&value) {

@@ -64,7 +64,7 @@ by_two (Some p) go = go p.0 p.1
 abbrev pub given_at : Around → Expr-F Expr → List Value → Piece
 given_at around (Expr-F.Tuple es) vs = gives (displayed values.Tuple vs)
 given_at around (Expr-F.List es) vs = gives (displayed values.List vs)
-given_at around (Expr-F.Attribute object x) vs = by_one (one_of vs) (λ v. member v x)
+given_at around (Expr-F.Attribute object x) vs = by_one (one_of vs) (λ v. member around.replaced v x)
 given_at around (Expr-F.Call callee es) vs = calls_first around vs
 given_at around (Expr-F.Subscript object index) vs = built vs (by_two (two_of vs) (λ v i. gives_item (subscript v i)))
 given_at around (Expr-F.Negative a) vs = built vs (by_one (one_of vs) (λ v. gives (negated v)))

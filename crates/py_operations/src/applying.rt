@@ -92,7 +92,7 @@ fn attribute(
     name: &Text,
     values: Seq<Value>,
 ) -> Result<Want, NoMemory>
-    ensures { IfOk result (Does thread.now (pieces (λ w d s k. by_one (one_of values) (λ v. names.member v name.now) s (words.sized k)) thread.now)) }
+    ensures { IfOk result (Does thread.now (pieces (λ w d s k. by_one (one_of values) (λ v. names.member (around_at w d).replaced v name.now) s (words.sized k)) thread.now)) }
 {
     match one(values) {
         None => fail(alloc, thread, Fault::NotInProfile),

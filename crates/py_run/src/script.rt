@@ -1,10 +1,10 @@
 //! A whole script.
-ghost use Rattle.std.specs.Prelude.{◌≡◌, ◌≤◌, ◌+◌, [], IfOk, OnErr, Some};
+ghost use Rattle.std.specs.Prelude.{◌≡◌, ◌≤◌, ◌+◌, [], IfOk, OnOk, OnErr, Some};
 ghost use Rattle.tree_files.specs.Count.{Rose};
 ghost use Rattle.tree_files.specs.Files.{Files};
 ghost use Rattle.machine_book.specs.Sight.{Sight, IsReady, Continues};
 ghost use Rattle.meanings.specs.Follows.{Follows};
-ghost use Rattle.meanings.specs.Lists.{lists_in};
+ghost use Rattle.meanings.specs.Lists.{lists_in, ends_in};
 ghost use Rattle.script_end.specs.Ending.{Ended, Broken, IsRead, outcome};
 ghost use Rattle.py_meaning.specs.Meaning.{meaning};
 ghost use Rattle.py_sources.specs.Sources.{sources};
@@ -29,7 +29,7 @@ fn copy_of(alloc: Global, text: &[u8]) -> Result<Seq<u8>, NoMemory>
 ///
 /// The events are those of the script's meaning with this fuel, each once and in order, on the
 /// replies that come. `Read` comes only where a call of the tree failed. A directory is listed at
-/// most once for each listing that the script's events keep.
+/// most once for each listing that the script's events keep. Where memory is wanted there is no End.
 pub fn run_script<D: Desk, T: Tree>(
     alloc: Global,
     desk: &mut D,
@@ -44,7 +44,8 @@ pub fn run_script<D: Desk, T: Tree>(
     ensures continues { Continues (D.sight desk.old) (D.sight desk.new) }
     ensures files { T.files tree.new ≡ T.files tree.old }
     ensures faults_grow { T.faults tree.old ≤ T.faults tree.new }
-    ensures lists { T.lists tree.new ≤ T.lists tree.old + lists_in (D.sight desk.new).mine }
+    ensures lists { OnOk result (T.lists tree.new ≤ T.lists tree.old + lists_in (D.sight desk.new).mine) }
+    ensures goes_on { OnErr result (ends_in (D.sight desk.new).mine ≡ 0) }
     ensures ended { IfOk result (λ ending. Ended (D.sight desk.new).mine (outcome ending)) }
     ensures follows { (files : Files) → T.files tree.old ≡ Some files → IfOk result (λ ending. Follows files script (meaning sources script text.now) fuel (D.sight desk.new).mine (outcome ending)) }
     ensures part { (files : Files) → T.files tree.old ≡ Some files → OnErr result (Broken files script (meaning sources script text.now) fuel (D.sight desk.new).mine (T.faults tree.old) (T.faults tree.new)) }

@@ -1,5 +1,5 @@
--- Simple statements, imports, `if` and `while` are safe.
-use Rattle.std.proofs.Common.{ℕ, zero, suc, List, [], ◌∷◌, map, Option, refl}
+-- Simple statements, `if` and `while` are safe.
+use Rattle.std.proofs.Common.{ℕ, zero, suc, List, [], ◌∷◌, refl}
 use Rattle.py_value.specs.declared.value.Raised.{Raised as Error}
 use Rattle.py_value.specs.declared.value.Value.{Value, out-Value}
 use Rattle.py_value.specs.declared.value.Value.TheVariants as values
@@ -11,7 +11,6 @@ use Rattle.value_parts.proofs.Operators.{operators}
 use Rattle.py_syntax.specs.declared.expr.BinaryOp.{BinaryOp}
 use Rattle.py_syntax.specs.declared.expr.Expr.{Expr, out-Expr}
 use Rattle.py_syntax.specs.declared.expr.Expr.TheOpen.{Expr-F}
-use Rattle.py_syntax.specs.declared.stmt.Alias.{Alias}
 use Rattle.py_syntax.specs.declared.stmt.Stmt.TheOpen.{Stmt-F}
 use Rattle.py_faults.specs.Faults.{raised}
 use Rattle.py_faults.specs.declared.fault.Fault.TheVariants as fault
@@ -19,12 +18,11 @@ use Rattle.py_state.specs.declared.flow.Leave.TheVariants.{Raised, Return, Break
 use Rattle.py_state.specs.declared.flow.Flow.TheVariants.{Went, Left}
 use Rattle.py_meaning.specs.Pieces.{Piece, Onward, most, on_value, done, passes, gives, sized, decides, with_two}
 use Rattle.py_meaning.specs.Names.{stores, sets_member, deletes_member, changes_item}
-use Rattle.py_meaning.specs.Operators.{Around, operator_of}
-use Rattle.py_meaning.specs.Statements.{leaves, assigns_at, removes_at, augment, returns, raises_at, raises_value, raises_again, raises, performs_at, bound_as, imports_parts, imports_one, imports_all, BranchPiece, tests, looped, turn, turns, DefPiece, defines}
-use Rattle.py_safety.proofs.Pieces.{SafeOn, SafeAt, Always, AllSafe, SafeOf, on_later, goes_safe, fails_safe, passes_safe, pay_safe, behind, on_value_safe, sized_on, in_order_safe, built_safe, decides_safe, with_one_safe, with_two_safe, with_three_safe}
+use Rattle.py_meaning.specs.Operators.{operator_of}
+use Rattle.py_meaning.specs.Statements.{leaves, assigns_at, removes_at, augment, returns, raises_at, raises_value, raises_again, raises, performs_at, BranchPiece, tests, looped, turn, turns, DefPiece, defines}
+use Rattle.py_safety.proofs.Pieces.{SafeOn, SafeAt, Always, SafeOf, on_later, goes_safe, fails_safe, passes_safe, pay_safe, behind, on_value_safe, sized_on, built_safe, decides_safe, with_one_safe, with_two_safe, with_three_safe}
 use Rattle.py_safety.proofs.Values.{nothing_known, gives_safe}
 use Rattle.py_safety.proofs.Names.{stores_safe, deletes_safe, sets_member_safe, deletes_member_safe, changes_item_safe}
-use Rattle.py_safety.proofs.Expressions.{SafeAround}
 
 -- ---- simple statements
 
@@ -79,20 +77,6 @@ performs_safe Stmt-F.Continue s vs h = goes_safe s (Left Continue) tt
 performs_safe (Stmt-F.Return e) s vs h = returns_safe s vs h
 performs_safe (Stmt-F.Raise e) s vs h = raises_safe s vs h
 performs_safe stmt s vs h = fails_safe fault.NotBuilt s
-
--- ---- imports
-
-module _ (around : Around) (safe_around : SafeAround around) where
-  imports_parts_safe : (parts : List (List ℕ)) (bound : Option (List ℕ)) → Always (imports_parts around parts bound)
-  imports_parts_safe (x ∷ []) bound s = behind s (around.imported x) (λ v. stores (bound_as bound x) v) (safe_around.imported x s) (λ s' g v known. stores_safe s' (bound_as bound x) v known)
-  imports_parts_safe parts bound s = fails_safe fault.NotBuilt s
-
-  all_imports : (items : List Alias) → AllSafe (map (imports_one around) items)
-  all_imports [] = tt
-  all_imports (a ∷ items) = (imports_parts_safe a.parts a.bound, all_imports items)
-
-  pub imports_all_safe : (items : List Alias) → Always (imports_all around items)
-  imports_all_safe items = in_order_safe (map (imports_one around) items) (all_imports items)
 
 -- ---- `if` and `while`
 

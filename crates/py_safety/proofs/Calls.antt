@@ -25,12 +25,13 @@ use Rattle.py_faults.specs.declared.fault.Fault.TheVariants as fault
 use Rattle.py_state.specs.declared.flow.Leave.TheVariants.{Raised, Return, Break, Continue}
 use Rattle.py_state.specs.declared.flow.Flow.TheVariants.{Went, Left}
 use Rattle.py_meaning.specs.Pieces.{Onward, calls, fails, gives, done, passes}
+use Rattle.py_meaning.specs.Names.{Replaced}
 use Rattle.py_meaning.specs.Calls.{text_of, made_error, error_text, calls_kind, strs_of, line_of, writes, prints, str_call, repr_call, length_given, len_call, member_named_at, member_named, missing_at, defaulting, telling, hasattr_call, getattr_call, calls_native}
 use Rattle.py_safety.specs.Known.{KnowsValue}
 use Rattle.py_safety.proofs.Growth.{value_grows}
 use Rattle.py_safety.proofs.Pieces.{SafeOn, SafeAt, Always, SafeOf, goes_safe, fails_safe, passes_safe, steady, built_safe}
 use Rattle.py_safety.proofs.Values.{gives_safe}
-use Rattle.py_safety.proofs.Names.{member_safe}
+use Rattle.py_safety.proofs.Names.{SafeReplaced, member_safe}
 
 error_known : (s : Shown) (error : Error) → KnowsValue s (values.Error error)
 error_known s error = ((plain s).error error, refl)
@@ -74,13 +75,6 @@ len_call_safe : SafeOf len_call
 len_call_safe s (v ∷ []) h = built_safe s (v ∷ []) (length_given (length_of v) v) (length_safe (length_of v) v s)
 len_call_safe s vs h = fails_safe (fault.ArgumentCount natives.Len) s
 
-member_named_safe : (s : Shown) (v name : Value) → KnowsValue s v → SafeAt s (member_named v name)
-member_named_safe s v name known = at (out-Value name)
-  where
-    at : (layer : Value-F Value) → SafeAt s (member_named_at v layer)
-    at (Value-F.Text x) = member_safe s v x known
-    at layer = fails_safe fault.NameNotText s
-
 defaulting_on : (s : Shown) (k : Onward) (d : Value) → SafeOn s k → KnowsValue s d → SafeOn s (defaulting k d)
 defaulting_on s k d safe h s' f (Left (Raised error)) known st knows = at error.kind
   where
@@ -96,20 +90,28 @@ telling_on : (s : Shown) (k : Onward) → SafeOn s k → SafeOn s (telling k)
 telling_on s k safe s' f (Went v) known st knows = safe s' f (Went (values.Bool true)) ((plain s').bool true, refl) st knows
 telling_on s k safe s' f (Left leave) known st knows = defaulting_on s k (values.Bool false) safe ((plain s).bool false, refl) s' f (Left leave) known st knows
 
-hasattr_safe : SafeOf hasattr_call
-hasattr_safe s (v ∷ x ∷ []) h = λ run st knows k safe. member_named_safe s v x h.0 run st knows (telling k) (telling_on s k safe)
-hasattr_safe s vs h = fails_safe (fault.ArgumentCount natives.HasAttr) s
+module _ (path : Replaced) (safe_path : SafeReplaced path) where
+  member_named_safe : (s : Shown) (v name : Value) → KnowsValue s v → SafeAt s (member_named path v name)
+  member_named_safe s v name known = at (out-Value name)
+    where
+      at : (layer : Value-F Value) → SafeAt s (member_named_at path v layer)
+      at (Value-F.Text x) = member_safe path safe_path s v x known
+      at layer = fails_safe fault.NameNotText s
 
-getattr_safe : SafeOf getattr_call
-getattr_safe s (v ∷ x ∷ []) h = member_named_safe s v x h.0
-getattr_safe s (v ∷ x ∷ d ∷ []) h = λ run st knows k safe. member_named_safe s v x h.0 run st knows (defaulting k d) (defaulting_on s k d safe h.1.1.0)
-getattr_safe s vs h = fails_safe (fault.ArgumentCount natives.GetAttr) s
+  hasattr_safe : SafeOf (hasattr_call path)
+  hasattr_safe s (v ∷ x ∷ []) h = λ run st knows k safe. member_named_safe s v x h.0 run st knows (telling k) (telling_on s k safe)
+  hasattr_safe s vs h = fails_safe (fault.ArgumentCount natives.HasAttr) s
 
-pub calls_native_safe : (native : Native) → SafeOf (calls_native native)
-calls_native_safe natives.Print s vs h = built_safe s vs (prints (strs_of vs)) (prints_safe (strs_of vs) s)
-calls_native_safe natives.Str s vs h = str_call_safe s vs h
-calls_native_safe natives.Repr s vs h = repr_call_safe s vs h
-calls_native_safe natives.Len s vs h = len_call_safe s vs h
-calls_native_safe natives.HasAttr s vs h = hasattr_safe s vs h
-calls_native_safe natives.GetAttr s vs h = getattr_safe s vs h
-calls_native_safe native s vs h = fails_safe fault.NotBuilt s
+  getattr_safe : SafeOf (getattr_call path)
+  getattr_safe s (v ∷ x ∷ []) h = member_named_safe s v x h.0
+  getattr_safe s (v ∷ x ∷ d ∷ []) h = λ run st knows k safe. member_named_safe s v x h.0 run st knows (defaulting k d) (defaulting_on s k d safe h.1.1.0)
+  getattr_safe s vs h = fails_safe (fault.ArgumentCount natives.GetAttr) s
+
+  pub calls_native_safe : (native : Native) → SafeOf (calls_native path native)
+  calls_native_safe natives.Print s vs h = built_safe s vs (prints (strs_of vs)) (prints_safe (strs_of vs) s)
+  calls_native_safe natives.Str s vs h = str_call_safe s vs h
+  calls_native_safe natives.Repr s vs h = repr_call_safe s vs h
+  calls_native_safe natives.Len s vs h = len_call_safe s vs h
+  calls_native_safe natives.HasAttr s vs h = hasattr_safe s vs h
+  calls_native_safe natives.GetAttr s vs h = getattr_safe s vs h
+  calls_native_safe native s vs h = fails_safe fault.NotBuilt s

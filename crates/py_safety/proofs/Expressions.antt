@@ -27,12 +27,13 @@ use Rattle.py_meaning.specs.Operators.{Around, operator_of, inverted, compared, 
 use Rattle.py_safety.specs.Known.{KnowsValue}
 use Rattle.py_safety.proofs.Pieces.{SafeAt, Always, Each, AllSafe, SafeOf, goes_safe, fails_safe, pay_safe, behind, sized_safe, sized_goes, atom_safe, operates_safe, built_safe, decides_safe, with_one_safe, with_two_safe}
 use Rattle.py_safety.proofs.Values.{nothing_known, gives_safe, list_known, tuple_known}
-use Rattle.py_safety.proofs.Names.{variable_safe, reads_safe, member_safe}
+use Rattle.py_safety.proofs.Names.{SafeReplaced, variable_safe, reads_safe, member_safe}
 
--- the calls of known values and the imports of names are safe
+-- the calls of known values, the imports of names and the paths of namespaces are safe
 pub record SafeAround (around : Around) : Type 0 where
   pub called : (s : Shown) (f : Value) (vs : List Value) → KnowsValue s f → Each s vs → SafeAt s (around.called f vs)
   pub imported : (n : List ℕ) → Always (around.imported n)
+  pub replaced : SafeReplaced around.replaced
 
 inverted_known : (s : Shown) (a : Applied) → KnowsApplied s (inverted a)
 inverted_known s (applied.Value v) = ((plain s).bool (not (is_true v)), refl)
@@ -77,7 +78,7 @@ module _ (around : Around) (safe_around : SafeAround around) where
   applies_safe : {X : Type 0} (form : Expr-F X) → SafeOf (applies_at around form)
   applies_safe (Expr-F.Tuple es) s vs h = gives_safe s (displayed values.Tuple vs) (tuple_known s vs h)
   applies_safe (Expr-F.List es) s vs h = gives_safe s (displayed values.List vs) (list_known s vs h)
-  applies_safe (Expr-F.Attribute object x) s vs h = with_one_safe s vs h (λ v. member v x) (λ v known. member_safe s v x known)
+  applies_safe (Expr-F.Attribute object x) s vs h = with_one_safe s vs h (λ v. member around.replaced v x) (λ v known. member_safe around.replaced safe_around.replaced s v x known)
   applies_safe (Expr-F.Call callee es) s vs h = calls_first_safe s vs h
   applies_safe (Expr-F.Subscript object index) s vs h =
       built_safe s vs (with_two vs (λ v i. gives_item (subscript v i)))

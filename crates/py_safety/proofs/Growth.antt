@@ -1,12 +1,12 @@
 -- What a thread knows stays known while it is shown more.
-use Rattle.std.proofs.Common.{◌≡◌, inl, inr, ℕ, List, [], ◌∷◌, ◌++◌, Option, Some, None, refl, ap, ◌∙◌}
+use Rattle.std.proofs.Common.{◌≡◌, inl, inr, ℕ, List, [], ◌∷◌, ◌++◌, flat_map, Option, Some, None, refl, ap, ◌∙◌}
 use Rattle.py_value.specs.declared.value.ModRef.{ModRef}
 use Rattle.py_value.specs.declared.value.Value.{Value}
 use Rattle.machine_events.specs.declared.event.Event.{Event}
 use Rattle.machine_events.specs.declared.event.Reply.{Reply}
 use Rattle.thread_knowledge.specs.Holdings.{Holding}
-use Rattle.thread_knowledge.specs.Shown.{Shown, Running, shown_more, holds, does, modules_in, loads_in, named, numbered, load_numbered}
-use Rattle.thread_knowledge.specs.Knowing.{Has, HasAll, HasMid}
+use Rattle.thread_knowledge.specs.Shown.{Shown, Running, shown_more, holds, does, modules_in, loads_in, named, numbered, load_numbered, namespace_of}
+use Rattle.thread_knowledge.specs.Knowing.{Has, HasAll, HasMid, KnowsItems}
 use Rattle.py_state.specs.declared.flow.Leave.{Leave}
 use Rattle.py_state.specs.declared.flow.Leave.TheVariants.{Return}
 use Rattle.py_state.specs.declared.flow.Flow.{Flow}
@@ -20,6 +20,7 @@ pub record Grows (s s' : Shown) : Type 0 where
   pub mids : (i : ℕ) → Has s.mids i → Has s'.mids i
   pub modules : (m : ModRef) → Has s.modules m → Has s'.modules m
   pub loads : (i : ℕ) → Has s.loads i → Has s'.loads i
+  pub namespaces : (i : ℕ) → Has s.namespaces i → Has s'.namespaces i
 
 -- it runs besides, and holds this
 pub record Later (s s' : Shown) (held : List Holding) : Type 0 where
@@ -32,10 +33,15 @@ abbrev pub Fits : Shown → Shown → Type 0
 Fits s s' = Later s s' s.held
 
 pub grows_refl : (s : Shown) → Grows s s
-grows_refl s = record { mids = λ i h. h; modules = λ m h. h; loads = λ i h. h }
+grows_refl s = record { mids = λ i h. h; modules = λ m h. h; loads = λ i h. h; namespaces = λ i h. h }
 
 pub grows_then : (a b c : Shown) → Grows a b → Grows b c → Grows a c
-grows_then a b c f g = record { mids = λ i h. g.mids i (f.mids i h); modules = λ m h. g.modules m (f.modules m h); loads = λ i h. g.loads i (f.loads i h) }
+grows_then a b c f g = record {
+  mids = λ i h. g.mids i (f.mids i h);
+  modules = λ m h. g.modules m (f.modules m h);
+  loads = λ i h. g.loads i (f.loads i h);
+  namespaces = λ i h. g.namespaces i (f.namespaces i h);
+}
 
 pub fits_refl : (s : Shown) → s.doing ≡ Running → Fits s s
 fits_refl s run = record { grows = grows_refl s; held_is = refl; runs = run }
@@ -57,6 +63,7 @@ grows_more s event reply = record {
   mids = λ i h. has_after (numbered reply) s.mids i h;
   modules = λ m h. has_after (named reply) s.modules m h;
   loads = λ i h. has_after (load_numbered reply) s.loads i h;
+  namespaces = λ i h. has_after (namespace_of event reply) s.namespaces i h;
 }
 
 pub later_more : (a b : Shown) (held held' : List Holding) (event : Event) (reply : Reply) → Later a b held → holds event reply held ≡ held' → does event reply b.doing ≡ Running → Later a (shown_more b (event, reply)) held'
@@ -78,6 +85,12 @@ all_grows xs ys (z ∷ zs) f h = (f z h.0, all_grows xs ys zs f h.1)
 module _ (s s' : Shown) (g : Grows s s') where
   pub value_grows : (v : Value) → KnowsValue s v → KnowsValue s' v
   value_grows v h = ((all_grows s.modules s'.modules (modules_in v) g.modules h.0.0, all_grows s.loads s'.loads (loads_in v) g.loads h.0.1), h.1)
+
+  pub items_grow : (items : List Value) → KnowsItems s items → KnowsItems s' items
+  items_grow items h = (
+    all_grows s.modules s'.modules (flat_map modules_in items) g.modules h.0,
+    all_grows s.loads s'.loads (flat_map loads_in items) g.loads h.1,
+  )
 
   pub mid_grows : (mid : ℕ) → HasMid s mid → HasMid s' mid
   mid_grows mid (inl h) = inl (g.mids mid h)

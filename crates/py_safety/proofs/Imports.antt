@@ -1,41 +1,59 @@
 -- The import of one name is safe: the lock is held from Take to Add or Release, and the load from Add to Finish.
-use Rattle.std.proofs.Common.{◌≡◌, inl, ℕ, zero, suc, Bool, true, false, if◌then◌else◌, nat_eq, List, [], ◌∷◌, Option, Some, None, refl, sym, subst}
+use Rattle.std.proofs.Common.{◌≡◌, inl, ℕ, zero, suc, Bool, true, false, if◌then◌else◌, nat_eq, List, [], ◌∷◌, Option, Some, None, refl, sym, subst, ◌∙◌}
 use Rattle.std.proofs.lemmas.Bool.{eq-eqb}
 use Rattle.std.specs.Cmp.Lexicographic.{pointwise}
 use Rattle.base_types.specs.Path.{Path}
 use Rattle.py_value.specs.declared.value.ModRef.{ModRef}
+use Rattle.py_value.specs.declared.value.NsState.{NsState}
+use Rattle.py_value.specs.declared.value.Value.{Value, out-Value}
+use Rattle.py_value.specs.declared.value.Value.TheOpen.{Value-F}
 use Rattle.py_value.specs.declared.value.Value.TheVariants as values
+use Rattle.spec_core.specs.Names.{parent_of}
+use Rattle.spec_core.specs.declared.spec.Spec.{Spec}
+use Rattle.spec_core.specs.declared.spec.SpecKind.{SpecKind}
+use Rattle.spec_core.specs.declared.spec.SpecKind.TheVariants as kinds
 use Rattle.tree_files.specs.declared.tree.Stamp.{Stamp}
 use Rattle.tree_files.specs.declared.tree.Stamp.TheVariants as stamps
 use Rattle.machine_events.specs.declared.event.Event.{Event}
 use Rattle.machine_events.specs.declared.event.Event.TheVariants as e
 use Rattle.machine_events.specs.declared.event.Reply.{Reply}
 use Rattle.machine_events.specs.declared.event.Reply.TheVariants as r
+use Rattle.machine_events.specs.declared.module.Slot.{Slot}
+use Rattle.machine_events.specs.declared.module.Slot.TheVariants as slots
 use Rattle.thread_knowledge.specs.Holdings.{Holding, Taken, Loading, without, becoming}
-use Rattle.thread_knowledge.specs.Shown.{Shown, Running, shown_more, holds, does}
-use Rattle.thread_knowledge.specs.Knowing.{Has, HasMid}
-use Rattle.meanings.specs.Runs.{Safe, Looks, StampOf}
+use Rattle.thread_knowledge.specs.Shown.{Shown, Running, shown_more, holds, does, answered}
+use Rattle.thread_knowledge.specs.Knowing.{Has, HasMid, KnowsItems, MayAdd}
+use Rattle.path_finder.specs.Entries as entries
+use Rattle.path_finder.specs.Steps.{searches}
+use Rattle.path_finder.specs.declared.words.Found.{Found}
+use Rattle.path_finder.specs.declared.words.Found.TheVariants as found
+use Rattle.search_meaning.specs.Searches.{searches_in, IsNamed}
+use Rattle.meanings.specs.Runs.{Safe, MayMake}
 use Rattle.py_faults.specs.declared.fault.Fault.{Fault}
 use Rattle.py_faults.specs.declared.fault.Fault.TheVariants as fault
 use Rattle.py_state.specs.declared.flow.Flow.{Flow}
 use Rattle.py_state.specs.declared.flow.Flow.TheVariants.{Went, Left}
 use Rattle.py_state.specs.declared.thread.State.{State}
-use Rattle.py_meaning.specs.Pieces.{Piece, Onward, most, fails, raise, after_reply}
-use Rattle.py_meaning.specs.Imports.{Body, found, asked, taken, gives_back, file_of, spec_of, finished, finishes, added, adds, has_text, by_file, by_folder, is_searched, searched, searches, finds, takes, asks}
+use Rattle.py_meaning.specs.Pieces.{Piece, Onward, most, calls, fails, raise, after_reply}
+use Rattle.py_meaning.specs.Paths.{path_of}
+use Rattle.py_meaning.specs.Imports.{Inside, answers, met, halts, asked, taken, gives_back, gives_back_and, lost_parent, finished, finishes, added, adds, has_text, opens, reads_file, namespace_made, namespace_added, namespace_of, adds_namespace, loads, discovers, finds, on_search_path, on_path, on_parent_path, on_parent, on_entry, reads_path, has_lock, takes, after_parent, misses, asks}
 use Rattle.py_safety.specs.Known.{Knows, KnowsFlow}
-use Rattle.py_safety.proofs.Growth.{Grows, Later, Fits, fits_refl, grows_then, later_then, grows_more, later_more, fits_more, state_grows, leave_grows}
-use Rattle.py_safety.proofs.Pieces.{SafeOn, SafeAt, Always, on_later, goes_safe, fails_safe, pay_safe, calls_safe}
-use Rattle.py_safety.proofs.Values.{module_known}
+use Rattle.py_safety.proofs.Growth.{Grows, Later, Fits, fits_refl, grows_then, later_then, grows_more, later_more, fits_more, items_grow, state_grows, leave_grows, flow_grows}
+use Rattle.py_safety.proofs.Pieces.{SafeOn, SafeAt, Always, on_later, goes_safe, fails_safe, passes_safe, pay_safe, calls_safe, behind}
+use Rattle.py_safety.proofs.Values.{nothing_known, module_known}
+use Rattle.py_safety.proofs.Searches.{search_safe}
+use Rattle.py_safety.proofs.Paths.{list_items, path_answered, path_of_safe}
 
-abbrev pub SafeBody : Body → Type 0
+abbrev pub SafeBody : (ℕ → ℕ → List ℕ → Piece) → Type 0
 SafeBody body = (s : Shown) (mid load : ℕ) (text : List ℕ) → HasMid s mid → Has s.loads load → SafeAt s (body mid load text)
 
--- a piece is safe where this is held besides, and its rest is safe where it is not
-abbrev Within : Shown → Holding → Piece → Type 0
-Within s held p = (s' : Shown) → Later s s' (held ∷ s.held) → (st : State) → Knows s' st → (k : Onward) → SafeOn s k → Safe s' (p st k)
+-- the bodies of modules that exist and the imports of parents are safe
+pub record SafeInside (inside : Inside) : Type 0 where
+  pub body : SafeBody inside.body
+  pub parent : (n : List ℕ) → Always (inside.parent n)
 
-found_safe : (s : Shown) (m : ModRef) → Has s.modules m → SafeAt s (found m)
-found_safe s m h = goes_safe s (Went (values.Module m)) (module_known s m h)
+answers_safe : (s : Shown) (m : ModRef) → Has s.modules m → SafeAt s (answers m)
+answers_safe s m h = goes_safe s (Went (values.Module m)) (module_known s m h)
 
 -- ---- what is held
 
@@ -50,92 +68,221 @@ released_first n held = rw (same_name n) refl
 loaded_first : (load : ℕ) (n : List ℕ) (held : List Holding) → becoming (Taken n) (Loading load) (Taken n ∷ held) ≡ Loading load ∷ held
 loaded_first load n held = rw (same_name n) refl
 
+-- the same for a name that is equal
+loaded_named : (load : ℕ) (name n : List ℕ) (held : List Holding) → name ≡ n → becoming (Taken name) (Loading load) (Taken n ∷ held) ≡ Loading load ∷ held
+loaded_named load name n held is = subst (λ (x : List ℕ). becoming (Taken x) (Loading load) (Taken n ∷ held) ≡ Loading load ∷ held) (sym is) (loaded_first load n held)
+
 ended_first : (load : ℕ) (held : List Holding) → without (Loading load) (Loading load ∷ held) ≡ held
 ended_first load held = rw (eq-eqb load load refl) refl
 
 holds_first : (s s' : Shown) (held : Holding) → Later s s' (held ∷ s.held) → Has s'.held held
 holds_first s s' held f = subst (λ (all : List Holding). Has all held) (sym f.held_is) (inl refl)
 
+-- ---- while one thing more is held
+
+-- a piece is safe at s' where this is held besides what s holds, and its rest is safe where it is not
+abbrev WithinAt : Shown → Holding → Shown → Piece → Type 0
+WithinAt s held s' p = Later s s' (held ∷ s.held) → (st : State) → Knows s' st → (k : Onward) → SafeOn s k → Safe s' (p st k)
+
+abbrev Within : Shown → Holding → Piece → Type 0
+Within s held p = (s' : Shown) → WithinAt s held s' p
+
+pick_within : (s : Shown) (held : Holding) (s' : Shown) (b : Bool) (p q : Piece) → WithinAt s held s' p → WithinAt s held s' q → WithinAt s held s' (if b then p else q)
+pick_within s held s' true p q good bad = good
+pick_within s held s' false p q good bad = bad
+
+-- an event that changes nothing of what is held
+steady_within : (s : Shown) (held : Holding) (s' : Shown) (event : Event) (p : Reply → Piece) → MayMake s' event → ((reply : Reply) → holds event reply (held ∷ s.held) ≡ held ∷ s.held)
+    → ((reply : Reply) → does event reply s'.doing ≡ Running) → ((reply : Reply) → WithinAt s held (shown_more s' (event, reply)) (p reply)) → WithinAt s held s' (λ st k. calls event (λ reply. p reply st k))
+steady_within s held s' event p may same runs each f st knows k safe =
+    calls_safe s' event (λ reply. p reply st k) f.runs may runs
+    (λ reply. let next : Shown = shown_more s' (event, reply) in
+    each reply (later_more s s' (held ∷ s.held) (held ∷ s.held) event reply f (same reply) (runs reply)) st (state_grows s' next (grows_more s' event reply) st knows) k safe)
+
+-- a piece that is safe anywhere, and by how it ends what is safe while this is held
+flows_within : (s : Shown) (held : Holding) (s' : Shown) (p : Piece) (q : Flow → Piece) → SafeAt s' p
+    → ((later : Shown) → Grows s' later → (flow : Flow) → KnowsFlow later flow → WithinAt s held later (q flow)) → WithinAt s held s' (λ st k. p st (λ flow st'. q flow st' k))
+flows_within s held s' p q h each f st knows k safe =
+    h f.runs st knows (λ flow st'. q flow st' k) (λ later g flow known st' knows'. each later g.grows flow known (later_then s s' later (held ∷ s.held) f g) st' knows' k safe)
+
+searches_within : (s : Shown) (held : Holding) (s' : Shown) (n : List ℕ) (path : List Value) (q : Option Found → Piece)
+    → ((later : Shown) → Grows s' later → (answer : Option Found) → IsNamed n answer → WithinAt s held later (q answer))
+    → WithinAt s held s' (λ st k. searches_in (searches n path []) (λ answer. q answer st k))
+searches_within s held s' n path q each f st knows k safe =
+    search_safe s' n path (λ answer. q answer st k) f.runs
+    (λ later g answer named. each later g.grows answer named (later_then s s' later (held ∷ s.held) f g) st (state_grows s' later g.grows st knows) k safe)
+
 -- ---- the lock is given back
 
+gives_back_and_safe : (s : Shown) (n : List ℕ) (s' : Shown) (flow : Flow) → KnowsFlow s' flow → WithinAt s (Taken n) s' (gives_back_and n flow)
+gives_back_and_safe s n s' flow known f st knows k safe =
+    calls_safe s' (e.Release n) (λ _. k flow st) f.runs (f.runs, holds_first s s' (Taken n) f) (λ reply. f.runs)
+    (λ reply. let next : Shown = shown_more s' (e.Release n, reply) in
+    let g : Grows s' next = grows_more s' (e.Release n) reply in
+    safe next (later_more s s' (Taken n ∷ s.held) s.held (e.Release n) reply f (released_first n s.held) f.runs) flow (flow_grows s' next g flow known) st (state_grows s' next g st knows))
+
 gives_back_safe : (s : Shown) (n : List ℕ) (f : Fault) → Within s (Taken n) (gives_back n f)
-gives_back_safe s n f s' g st knows k safe =
-    calls_safe s' (e.Release n) (λ _. fails f st k) g.runs (g.runs, holds_first s s' (Taken n) g) (λ reply. g.runs)
-    (λ reply. safe (shown_more s' (e.Release n, reply)) (later_more s s' (Taken n ∷ s.held) s.held (e.Release n) reply g (released_first n s.held) g.runs)
-    (raise f) tt st (state_grows s' (shown_more s' (e.Release n, reply)) (grows_more s' (e.Release n) reply) st knows))
+gives_back_safe s n f s' = gives_back_and_safe s n s' (raise f) tt
 
 -- ---- after a body
 
-finished_safe : (again : Piece) → Always again → (n : List ℕ) (s : Shown) (reply : Reply) → SafeAt s (finished again n reply)
-finished_safe again more n s (r.Kept slot) = more s
-finished_safe again more n s r.Lost = fails_safe (fault.Lost n) s
-finished_safe again more n s reply = fails_safe fault.NotInProfile s
+lost_parent_safe : (n : List ℕ) (parent : Option (List ℕ)) → Always (lost_parent n parent)
+lost_parent_safe n (Some p) s = fails_safe (fault.Lost p) s
+lost_parent_safe n None s = fails_safe fault.NotInProfile s
+
+finished_safe : (again : Piece) → Always again → (n : List ℕ) (reply : Reply) → Always (finished again n reply)
+finished_safe again more n (r.Kept slot) s = more s
+finished_safe again more n r.Lost s = fails_safe (fault.Lost n) s
+finished_safe again more n r.LostParent s = lost_parent_safe n (parent_of n) s
+finished_safe again more n reply s = fails_safe fault.NotInProfile s
 
 after_finish : (s s' : Shown) (load : ℕ) (good : Bool) (reply : Reply) → Later s s' (Loading load ∷ s.held) → Fits s (shown_more s' (e.Finish load good, reply))
 after_finish s s' load good reply f = later_more s s' (Loading load ∷ s.held) s.held (e.Finish load good) reply f (ended_first load s.held) f.runs
 
-finishes_safe : (s : Shown) (load : ℕ) (again : Piece) → Always again → (n : List ℕ) (s' : Shown) → Later s s' (Loading load ∷ s.held) → (flow : Flow) → KnowsFlow s' flow
-    → (st : State) → Knows s' st → (k : Onward) → SafeOn s k → Safe s' (finishes load again n flow st k)
-finishes_safe s load again more n s' f (Went v) known st knows k safe =
+finishes_safe : (s : Shown) (load : ℕ) (again : Piece) → Always again → (n : List ℕ) (s' : Shown) (flow : Flow) → KnowsFlow s' flow → WithinAt s (Loading load) s' (finishes load again n flow)
+finishes_safe s load again more n s' (Went v) known f st knows k safe =
     calls_safe s' (e.Finish load true) (λ reply. finished again n reply st k) f.runs (f.runs, holds_first s s' (Loading load) f) (λ reply. f.runs)
     (λ reply. let next : Shown = shown_more s' (e.Finish load true, reply) in
-    finished_safe again more n next reply f.runs st (state_grows s' next (grows_more s' (e.Finish load true) reply) st knows) k (on_later s next k (after_finish s s' load true reply f) safe))
-finishes_safe s load again more n s' f (Left leave) known st knows k safe =
+    finished_safe again more n reply next f.runs st (state_grows s' next (grows_more s' (e.Finish load true) reply) st knows) k (on_later s next k (after_finish s s' load true reply f) safe))
+finishes_safe s load again more n s' (Left leave) known f st knows k safe =
     calls_safe s' (e.Finish load false) (λ _. k (Left leave) st) f.runs (f.runs, holds_first s s' (Loading load) f) (λ reply. f.runs)
     (λ reply. let next : Shown = shown_more s' (e.Finish load false, reply) in
     let g : Grows s' next = grows_more s' (e.Finish load false) reply in
     safe next (after_finish s s' load false reply f) (Left leave) (leave_grows s' next g leave known) st (state_grows s' next g st knows))
 
-module _ (body : Body) (safe_body : SafeBody body) (again : Piece) (more : Always again) (n : List ℕ) where
+-- ---- the path
+
+-- what goes on with a path is safe where its entries are known
+abbrev SafeGo : Shown → List ℕ → (List Value → Piece) → Type 0
+SafeGo s n go = (s' : Shown) (items : List Value) → KnowsItems s' items → WithinAt s (Taken n) s' (go items)
+
+module _ (s : Shown) (n : List ℕ) (go : List Value → Piece) (safe_go : SafeGo s n go) where
+  on_search_path_safe : (s' : Shown) (reply : Reply) → WithinAt s (Taken n) (shown_more s' (e.PathGet, reply)) (on_search_path go n reply)
+  on_search_path_safe s' (r.Path items) = safe_go (shown_more s' (e.PathGet, r.Path items)) items (path_answered s' e.PathGet items)
+  on_search_path_safe s' reply = gives_back_safe s n fault.NotInProfile (shown_more s' (e.PathGet, reply))
+
+  on_parent_path_safe : (s' : Shown) (p : List ℕ) (flow : Flow) → KnowsFlow s' flow → WithinAt s (Taken n) s' (on_parent_path go n p flow)
+  on_parent_path_safe s' p (Went v) known = at (out-Value v) refl
+    where
+      at : (layer : Value-F Value) → out-Value v ≡ layer → WithinAt s (Taken n) s' (on_path go n p layer)
+      at (Value-F.List items) is = safe_go s' items (list_items s' v known.0 items is)
+      at layer is = gives_back_safe s n (fault.NotPackage n p) s'
+  on_parent_path_safe s' p (Left leave) known = gives_back_and_safe s n s' (Left leave) known
+
+  on_entry_safe : (s' : Shown) (p : List ℕ) (reply : Reply) → WithinAt s (Taken n) (shown_more s' (e.TabGet p, reply)) (on_entry go n p reply)
+  on_entry_safe s' p (r.Slot slot) = at slot
+    where
+      at : (slot : Slot) → WithinAt s (Taken n) (shown_more s' (e.TabGet p, r.Slot slot)) (on_parent go n p slot)
+      at slots.Absent = gives_back_safe s n (fault.Lost p) (shown_more s' (e.TabGet p, r.Slot slots.Absent))
+      at slots.Halted = gives_back_safe s n (fault.NotPackage n p) (shown_more s' (e.TabGet p, r.Slot slots.Halted))
+      at (slots.Module m) =
+          let next : Shown = shown_more s' (e.TabGet p, r.Slot (slots.Module m)) in
+          flows_within s (Taken n) next (path_of m) (λ flow. on_parent_path go n p flow) (path_of_safe next m (inl refl)) (λ later g flow known. on_parent_path_safe later p flow known)
+  on_entry_safe s' p reply = gives_back_safe s n fault.NotInProfile (shown_more s' (e.TabGet p, reply))
+
+  reads_path_safe : (parent : Option (List ℕ)) → Within s (Taken n) (reads_path go n parent)
+  reads_path_safe None s' f =
+      steady_within s (Taken n) s' e.PathGet (λ reply. on_search_path go n reply) (f.runs, tt) (λ reply. refl) (λ reply. f.runs) (on_search_path_safe s') f
+  reads_path_safe (Some p) s' f =
+      steady_within s (Taken n) s' (e.TabGet p) (λ reply. on_entry go n p reply) (f.runs, tt) (λ reply. refl) (λ reply. f.runs) (on_entry_safe s' p) f
+
+module _ (inside : Inside) (safe_inside : SafeInside inside) (again : Piece) (more : Always again) (n : List ℕ) where
+  -- ---- a module of a file
+
+  module _ (s : Shown) (spec : Spec) (named : spec.name ≡ n) where
+    added_safe : (text : List ℕ) (s' : Shown) → Later s s' (Taken n ∷ s.held) → (st : State) → Knows s' st → (k : Onward) → SafeOn s k → (reply : Reply)
+        → Safe (shown_more s' (e.Add spec text, reply)) (added inside again n text reply st k)
+    added_safe text s' f st knows k safe (r.Load load mid) =
+        let event : Event = e.Add spec text in
+        let next : Shown = shown_more s' (event, r.Load load mid) in
+        let loading : Later s next (Loading load ∷ s.held) = later_more s s' (Taken n ∷ s.held) (Loading load ∷ s.held) event (r.Load load mid) f (loaded_named load spec.name n s.held named) f.runs in
+        flows_within s (Loading load) next (inside.body mid load text) (λ flow. finishes load again n flow) (safe_inside.body next mid load text (inl (inl refl)) (inl refl))
+        (λ later g flow known. finishes_safe s load again more n later flow known) loading st (state_grows s' next (grows_more s' event (r.Load load mid)) st knows) k safe
+    added_safe text s' f st knows k safe reply =
+        let event : Event = e.Add spec text in
+        let next : Shown = shown_more s' (event, reply) in
+        gives_back_safe s n fault.NotInProfile next (later_more s s' (Taken n ∷ s.held) (Taken n ∷ s.held) event reply f refl f.runs) st (state_grows s' next (grows_more s' event reply) st knows) k safe
+
+    -- the lock is held under the name of what was found
+    holds_named : (s' : Shown) → Later s s' (Taken n ∷ s.held) → Has s'.held (Taken spec.name)
+    holds_named s' f = subst (λ (x : List ℕ). Has s'.held (Taken x)) (sym named) (holds_first s s' (Taken n) f)
+
+    adds_safe : (text : List ℕ) → MayAdd spec.kind text → Within s (Taken n) (adds inside again n spec text)
+    adds_safe text may s' f st knows k safe =
+        calls_safe s' (e.Add spec text) (λ reply. added inside again n text reply st k) f.runs (f.runs, (holds_named s' f, may)) (λ reply. f.runs) (added_safe text s' f st knows k safe)
+
+    abbrev AnyText : Type 0
+    AnyText = (text : List ℕ) → MayAdd spec.kind text
+
+    has_text_safe : AnyText → (text : Option (List ℕ)) → Within s (Taken n) (has_text inside again n spec text)
+    has_text_safe may None = gives_back_safe s n fault.TooLong
+    has_text_safe may (Some text) = adds_safe text (may text)
+
+    abbrev opened : Path → Stamp → Piece
+    opened path at st k = opens path (gives_back n (fault.NotFound n) st k) (λ text. has_text inside again n spec text st k) at
+
+    opens_safe : AnyText → (path : Path) (at : Stamp) → Within s (Taken n) (opened path at)
+    opens_safe may path (stamps.File size) s' f st knows k safe = (f.runs, (f.runs, λ text. has_text_safe may text s' f st knows k safe))
+    opens_safe may path (stamps.Dir time) s' f st knows k safe = gives_back_safe s n (fault.NotFound n) s' f st knows k safe
+    opens_safe may path stamps.Absent s' f st knows k safe = gives_back_safe s n (fault.NotFound n) s' f st knows k safe
+
+    reads_file_safe : AnyText → (path : Option Path) → Within s (Taken n) (reads_file inside again n spec path)
+    reads_file_safe may None = gives_back_safe s n (fault.NotFound n)
+    reads_file_safe may (Some path) = λ s' f st knows k safe. (f.runs, λ at. opens_safe may path at s' f st knows k safe)
+
+    loads_safe : (kind : SpecKind) → spec.kind ≡ kind → Within s (Taken n) (loads inside again n spec kind)
+    loads_safe (kinds.Source file) is = reads_file_safe (λ text. subst (λ (kind : SpecKind). MayAdd kind text) (sym is) tt) (entries.path_of file)
+    loads_safe (kinds.Package file path) is = reads_file_safe (λ text. subst (λ (kind : SpecKind). MayAdd kind text) (sym is) tt) (entries.path_of file)
+    loads_safe kind is = gives_back_safe s n fault.NotInProfile
+
+  -- ---- a namespace
+
+  module _ (s : Shown) (epoch : ℕ) (path : List Value) (portions : List (List ℕ)) where
+    abbrev adding : Event
+    adding = e.Add (namespace_of n portions) []
+
+    -- what is kept of it
+    abbrev kept : NsState
+    kept = record { parent_path = path; epoch = epoch; portions = portions }
+
+    made_safe : (load : ℕ) → Within s (Loading load) (namespace_made again n load)
+    made_safe load s' = finishes_safe s load again more n s' (Went values.Nothing) (nothing_known s')
+
+    keeps_safe : (load mid : ℕ) (s' : Shown) → Has s'.namespaces mid → KnowsItems s' path → WithinAt s (Loading load) s' (λ st k. calls (e.NsSet mid kept) (λ _. namespace_made again n load st k))
+    keeps_safe load mid s' has known f =
+        steady_within s (Loading load) s' (e.NsSet mid kept) (λ _. namespace_made again n load) (f.runs, (has, known)) (λ reply. refl) (λ reply. f.runs)
+        (λ reply. made_safe load (shown_more s' (e.NsSet mid kept, reply))) f
+
+    namespace_added_safe : (s' : Shown) → KnowsItems s' path → Later s s' (Taken n ∷ s.held) → (st : State) → Knows s' st → (k : Onward) → SafeOn s k → (reply : Reply)
+        → Safe (shown_more s' (adding, reply)) (namespace_added again n epoch path portions reply st k)
+    namespace_added_safe s' known f st knows k safe (r.Load load mid) =
+        let next : Shown = shown_more s' (adding, r.Load load mid) in
+        let g : Grows s' next = grows_more s' adding (r.Load load mid) in
+        let loading : Later s next (Loading load ∷ s.held) = later_more s s' (Taken n ∷ s.held) (Loading load ∷ s.held) adding (r.Load load mid) f (loaded_first load n s.held) f.runs in
+        keeps_safe load mid next (inl refl) (items_grow s' next g path known) loading st (state_grows s' next g st knows) k safe
+    namespace_added_safe s' known f st knows k safe reply =
+        let next : Shown = shown_more s' (adding, reply) in
+        gives_back_safe s n fault.NotInProfile next (later_more s s' (Taken n ∷ s.held) (Taken n ∷ s.held) adding reply f refl f.runs) st (state_grows s' next (grows_more s' adding reply) st knows) k safe
+
+    adds_namespace_safe : (s' : Shown) → KnowsItems s' path → WithinAt s (Taken n) s' (adds_namespace again n epoch path portions)
+    adds_namespace_safe s' known f st knows k safe =
+        calls_safe s' adding (λ reply. namespace_added again n epoch path portions reply st k) f.runs (f.runs, (holds_first s s' (Taken n) f, refl)) (λ reply. f.runs)
+        (namespace_added_safe s' known f st knows k safe)
+
   -- ---- with the lock
 
-  kept_lock : (s s' : Shown) (event : Event) (reply : Reply) → Later s s' (Taken n ∷ s.held) → holds event reply (Taken n ∷ s.held) ≡ Taken n ∷ s.held → does event reply s'.doing ≡ Running → Later s (shown_more s' (event, reply)) (Taken n ∷ s.held)
-  kept_lock s s' event reply f same runs = later_more s s' (Taken n ∷ s.held) (Taken n ∷ s.held) event reply f same runs
+  discovers_safe : (s : Shown) (epoch : ℕ) (path : List Value) (s' : Shown) → KnowsItems s' path → (answer : Option Found) → IsNamed n answer → WithinAt s (Taken n) s' (discovers inside again n epoch path answer)
+  discovers_safe s epoch path s' known None named = gives_back_safe s n (fault.NotFound n) s'
+  discovers_safe s epoch path s' known (Some (found.Spec spec)) named = loads_safe s spec named spec.kind refl s'
+  discovers_safe s epoch path s' known (Some (found.Portions portions)) named = adds_namespace_safe s epoch path portions s' known
 
-  added_safe : (s s' : Shown) → Later s s' (Taken n ∷ s.held) → (text : List ℕ) (st : State) → Knows s' st → (k : Onward) → SafeOn s k → (reply : Reply)
-      → Safe (shown_more s' (e.Add (spec_of n) text, reply)) (added body again n text reply st k)
-  added_safe s s' f text st knows k safe (r.Load load mid) =
-      let event : Event = e.Add (spec_of n) text in
-      let next : Shown = shown_more s' (event, r.Load load mid) in
-      let loads : Later s next (Loading load ∷ s.held) = later_more s s' (Taken n ∷ s.held) (Loading load ∷ s.held) event (r.Load load mid) f (loaded_first load n s.held) f.runs in
-      safe_body next mid load text (inl (inl refl)) (inl refl) f.runs st (state_grows s' next (grows_more s' event (r.Load load mid)) st knows) (λ flow st'. finishes load again n flow st' k)
-      (λ s₂ g flow known st₂ knows₂. finishes_safe s load again more n s₂ (later_then s next s₂ (Loading load ∷ s.held) loads g) flow known st₂ knows₂ k safe)
-  added_safe s s' f text st knows k safe reply =
-      let event : Event = e.Add (spec_of n) text in
-      let next : Shown = shown_more s' (event, reply) in
-      gives_back_safe s n fault.NotInProfile next (kept_lock s s' event reply f refl f.runs) st (state_grows s' next (grows_more s' event reply) st knows) k safe
+  finds_safe : (s : Shown) (epoch : ℕ) → SafeGo s n (finds inside again n epoch)
+  finds_safe s epoch s' path known =
+      searches_within s (Taken n) s' n path (λ answer. discovers inside again n epoch path answer)
+      (λ later g answer named. discovers_safe s epoch path later (items_grow s' later g path known) answer named)
 
-  adds_safe : (s : Shown) (text : List ℕ) → Within s (Taken n) (adds body again n text)
-  adds_safe s text s' f st knows k safe =
-      calls_safe s' (e.Add (spec_of n) text) (λ reply. added body again n text reply st k) f.runs (f.runs, (holds_first s s' (Taken n) f, tt)) (λ reply. f.runs)
-      (added_safe s s' f text st knows k safe)
-
-  has_text_safe : (s : Shown) (text : Option (List ℕ)) → Within s (Taken n) (has_text body again n text)
-  has_text_safe s None = gives_back_safe s n fault.TooLong
-  has_text_safe s (Some text) = adds_safe s text
-
-  by_file_safe : (file : Path) (s : Shown) (stamp : Stamp) → Within s (Taken n) (by_file file body again n stamp)
-  by_file_safe file s (stamps.File size) s' f st knows k safe = (f.runs, (f.runs, λ text. has_text_safe s text s' f st knows k safe))
-  by_file_safe file s (stamps.Dir time) s' f st knows k safe = gives_back_safe s n (fault.NotFound n) s' f st knows k safe
-  by_file_safe file s stamps.Absent s' f st knows k safe = gives_back_safe s n (fault.NotFound n) s' f st knows k safe
-
-  by_folder_safe : (file : Path) (s : Shown) (stamp : Stamp) → Within s (Taken n) (by_folder file body again n stamp)
-  by_folder_safe file s (stamps.Dir time) s' f st knows k safe = gives_back_safe s n fault.NotBuilt s' f st knows k safe
-  by_folder_safe file s (stamps.File size) s' f st knows k safe = (f.runs, λ at. by_file_safe file s at s' f st knows k safe)
-  by_folder_safe file s stamps.Absent s' f st knows k safe = (f.runs, λ at. by_file_safe file s at s' f st knows k safe)
-
-  searched_safe : (s : Shown) → Within s (Taken n) (searched body again n)
-  searched_safe s = pick (is_searched n)
-    where
-      pick : (b : Bool) → Within s (Taken n) (if b then (λ st k. Looks (StampOf (n ∷ [])) (λ at. by_folder (file_of n ∷ []) body again n at st k)) else gives_back n (fault.NotFound n))
-      pick true = λ s' f st knows k safe. (f.runs, λ at. by_folder_safe (file_of n ∷ []) s at s' f st knows k safe)
-      pick false = gives_back_safe s n (fault.NotFound n)
-
-  finds_safe : (s : Shown) → Within s (Taken n) (finds body again n)
-  finds_safe s s' f st knows k safe =
-      calls_safe s' e.PathGet (λ _. searches body again n st k) f.runs (f.runs, tt) (λ reply. f.runs)
-      (λ reply. let next : Shown = shown_more s' (e.PathGet, reply) in
-      (f.runs, searched_safe s next (kept_lock s s' e.PathGet reply f refl f.runs) st (state_grows s' next (grows_more s' e.PathGet reply) st knows) k safe))
+  has_lock_safe : (s : Shown) (epoch : ℕ) → Within s (Taken n) (has_lock inside again n epoch)
+  has_lock_safe s epoch = reads_path_safe s n (finds inside again n epoch) (finds_safe s epoch) (parent_of n)
 
   -- ---- looks into the cache
 
@@ -158,31 +305,43 @@ module _ (body : Body) (safe_body : SafeBody body) (again : Piece) (more : Alway
     after : (event : Event) (reply : Reply) (p : Piece) → holds event reply s.held ≡ s.held → does event reply s.doing ≡ Running → SafeAt (shown_more s (event, reply)) p → Safe (shown_more s (event, reply)) (p st k)
     after event reply p same runs h = h runs st (state_grows s (shown_more s (event, reply)) (grows_more s event reply) st knows) k (on_later s (shown_more s (event, reply)) k (fits_more s event reply run same runs) safe)
 
-    taken_safe : (reply : Reply) → Safe (shown_more s (e.Take n, reply)) (after_reply reply (taken again (finds body again n) n reply st k))
+    -- a look whose reply may be that the thread is to wait
+    met_safe : (event : Event) (reply : Reply) → holds event reply s.held ≡ s.held → does event reply s.doing ≡ answered reply s.doing → Safe (shown_more s (event, reply)) (after_reply reply (met again n reply st k))
+    met_safe event (r.Module m) same runs = (runs ∙ run, after event (r.Module m) (answers m) same (runs ∙ run) (answers_safe (shown_more s (event, r.Module m)) m (inl refl)))
+    met_safe event (r.Cycle m) same runs = (runs ∙ run, after event (r.Cycle m) (answers m) same (runs ∙ run) (answers_safe (shown_more s (event, r.Cycle m)) m (inl refl)))
+    met_safe event r.Halted same runs = (runs ∙ run, after event r.Halted (fails (fault.Halted n)) same (runs ∙ run) (fails_safe (fault.Halted n) (shown_more s (event, r.Halted))))
+    met_safe event r.Deadlock same runs = (runs ∙ run, after event r.Deadlock (fails (fault.Deadlock n)) same (runs ∙ run) (fails_safe (fault.Deadlock n) (shown_more s (event, r.Deadlock))))
+    met_safe event (r.Wait l) same runs = (runs, λ answer. again_woken s event (r.Wait l) answer same st knows k safe)
+    met_safe event reply same runs = (runs ∙ run, after event reply (fails fault.NotInProfile) same (runs ∙ run) (fails_safe fault.NotInProfile (shown_more s (event, reply))))
+
+    taken_safe : (reply : Reply) → Safe (shown_more s (e.Take n, reply)) (after_reply reply (taken again (has_lock inside again n) n reply st k))
     taken_safe (r.Mine epoch) =
         let next : Shown = shown_more s (e.Take n, r.Mine epoch) in
-        (run, finds_safe s next (later_more s s s.held (Taken n ∷ s.held) (e.Take n) (r.Mine epoch) (fits_refl s run) refl run) st (state_grows s next (grows_more s (e.Take n) (r.Mine epoch)) st knows) k safe)
-    taken_safe (r.Module m) = (run, after (e.Take n) (r.Module m) (found m) refl run (found_safe (shown_more s (e.Take n, r.Module m)) m (inl refl)))
-    taken_safe (r.Cycle m) = (run, after (e.Take n) (r.Cycle m) (found m) refl run (found_safe (shown_more s (e.Take n, r.Cycle m)) m (inl refl)))
-    taken_safe r.Halted = (run, after (e.Take n) r.Halted (fails (fault.Halted n)) refl run (fails_safe (fault.Halted n) (shown_more s (e.Take n, r.Halted))))
-    taken_safe r.Deadlock = (run, after (e.Take n) r.Deadlock (fails (fault.Deadlock n)) refl run (fails_safe (fault.Deadlock n) (shown_more s (e.Take n, r.Deadlock))))
-    taken_safe (r.Wait l) = (refl, λ answer. again_woken s (e.Take n) (r.Wait l) answer refl st knows k safe)
-    taken_safe reply = (run, after (e.Take n) reply (fails fault.NotInProfile) refl run (fails_safe fault.NotInProfile (shown_more s (e.Take n, reply))))
+        (run, has_lock_safe s epoch next (later_more s s s.held (Taken n ∷ s.held) (e.Take n) (r.Mine epoch) (fits_refl s run) refl run) st (state_grows s next (grows_more s (e.Take n) (r.Mine epoch)) st knows) k safe)
+    taken_safe reply = met_safe (e.Take n) reply refl refl
 
-  takes_safe : Always (takes body again n)
+    halts_safe : (is_parent : Bool) → Always (halts is_parent n)
+    halts_safe true = passes_safe
+    halts_safe false = fails_safe (fault.Halted n)
+
+    asked_safe : (missing : Piece) → Always missing → (is_parent : Bool) (reply : Reply) → Safe (shown_more s (e.Ask n, reply)) (after_reply reply (asked again missing is_parent n reply st k))
+    asked_safe missing next is_parent r.Missing = (run, after (e.Ask n) r.Missing missing refl run (next (shown_more s (e.Ask n, r.Missing))))
+    asked_safe missing next is_parent r.Halted = (run, after (e.Ask n) r.Halted (halts is_parent n) refl run (halts_safe is_parent (shown_more s (e.Ask n, r.Halted))))
+    asked_safe missing next is_parent reply = met_safe (e.Ask n) reply refl refl
+
+  takes_safe : Always (takes inside again n)
   takes_safe s run st knows k safe = (run, ((run, tt), taken_safe s run st knows k safe))
 
-  asked_safe : (s : Shown) (run : s.doing ≡ Running) (st : State) (knows : Knows s st) (k : Onward) (safe : SafeOn s k) (reply : Reply)
-      → Safe (shown_more s (e.Ask n, reply)) (after_reply reply (asked again (takes body again n) n reply st k))
-  asked_safe s run st knows k safe r.Missing = (run, after s run st knows k safe (e.Ask n) r.Missing (takes body again n) refl run (takes_safe (shown_more s (e.Ask n, r.Missing))))
-  asked_safe s run st knows k safe (r.Module m) = (run, after s run st knows k safe (e.Ask n) (r.Module m) (found m) refl run (found_safe (shown_more s (e.Ask n, r.Module m)) m (inl refl)))
-  asked_safe s run st knows k safe (r.Cycle m) = (run, after s run st knows k safe (e.Ask n) (r.Cycle m) (found m) refl run (found_safe (shown_more s (e.Ask n, r.Cycle m)) m (inl refl)))
-  asked_safe s run st knows k safe r.Halted = (run, after s run st knows k safe (e.Ask n) r.Halted (fails (fault.Halted n)) refl run (fails_safe (fault.Halted n) (shown_more s (e.Ask n, r.Halted))))
-  asked_safe s run st knows k safe r.Deadlock = (run, after s run st knows k safe (e.Ask n) r.Deadlock (fails (fault.Deadlock n)) refl run (fails_safe (fault.Deadlock n) (shown_more s (e.Ask n, r.Deadlock))))
-  asked_safe s run st knows k safe (r.Wait l) = (refl, λ answer. again_woken s (e.Ask n) (r.Wait l) answer refl st knows k safe)
-  asked_safe s run st knows k safe reply = (run, after s run st knows k safe (e.Ask n) reply (fails fault.NotInProfile) refl run (fails_safe fault.NotInProfile (shown_more s (e.Ask n, reply))))
+  after_parent_safe : (next : Piece) → Always next → (parent : Option (List ℕ)) → Always (after_parent inside next parent)
+  after_parent_safe next safe None s = safe s
+  after_parent_safe next safe (Some p) s = behind s (inside.parent p) (λ _. next) (safe_inside.parent p s) (λ s' g v known. safe s')
 
-pub asks_safe : (body : Body) → SafeBody body → (turns : ℕ) (n : List ℕ) → Always (asks body turns n)
-asks_safe body safe_body zero n s = pay_safe s most (fails fault.NotInProfile) (fails_safe fault.NotInProfile s)
-asks_safe body safe_body (suc turns) n s = λ run st knows k safe.
-    (run, ((run, tt), asked_safe body safe_body (asks body turns n) (asks_safe body safe_body turns n) n s run st knows k safe))
+  misses_safe : Always (misses inside again n)
+  misses_safe = after_parent_safe (takes inside again n) takes_safe (parent_of n)
+
+pub asks_safe : (inside : Inside) → SafeInside inside → (turns : ℕ) (is_parent : Bool) (n : List ℕ) → Always (asks inside turns is_parent n)
+asks_safe inside safe_inside zero is_parent n s = pay_safe s most (fails fault.NotInProfile) (fails_safe fault.NotInProfile s)
+asks_safe inside safe_inside (suc turns) is_parent n s = λ run st knows k safe.
+    let again : Piece = asks inside turns false n in
+    let more : Always again = asks_safe inside safe_inside turns false n in
+    (run, ((run, tt), asked_safe inside safe_inside again more n s run st knows k safe (misses inside again n) (misses_safe inside safe_inside again more n) is_parent))

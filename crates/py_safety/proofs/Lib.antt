@@ -1,9 +1,12 @@
 mod Growth
 mod Pieces
 mod Values
+mod Searches
 mod Names
+mod Paths
 mod Expressions
 mod Calls
+mod ImportStatements
 mod Blocks
 mod Tries
 mod Statements

@@ -1,5 +1,5 @@
 -- Calls of functions, bodies and scripts are safe.
-use Rattle.std.proofs.Common.{◌≡◌, inl, inr, ℕ, zero, suc, nat_eq, length, List, [], ◌∷◌, Option, Some, None, refl, sym, ◌∙◌}
+use Rattle.std.proofs.Common.{◌≡◌, inl, inr, Bool, true, false, ℕ, zero, suc, nat_eq, length, List, [], ◌∷◌, Option, Some, None, refl, sym, ◌∙◌}
 use Rattle.std.specs.FinMap as maps
 use Rattle.std.specs.FinMap.{FinMap, get-empty}
 use Rattle.std.specs.Ordering.{nat_cmp}
@@ -28,18 +28,21 @@ use Rattle.py_state.specs.declared.thread.Source.{Source}
 use Rattle.py_state.specs.declared.thread.State.{State}
 use Rattle.py_meaning.specs.Pieces.{Piece, Onward, text_units, most, fails}
 use Rattle.py_meaning.specs.Operators.{Around}
-use Rattle.py_meaning.specs.Imports.{asks}
-use Rattle.py_meaning.specs.Meaning.{World, body_gives, placed, comes_back, keeps, bound, runs_function, enters, sourced, loaded, with_source, calls_function, starts, runs_body, imports_name, calls_value, calls_with, functions_at, bodies_at, imports_at, around_at, ends, first_state, meaning}
+use Rattle.py_meaning.specs.Names.{Replaced}
+use Rattle.py_meaning.specs.Paths.{replaced}
+use Rattle.py_meaning.specs.Imports.{Inside, asks}
+use Rattle.py_meaning.specs.Meaning.{World, body_gives, placed, comes_back, keeps, bound, runs_function, enters, sourced, loaded, with_source, calls_function, starts, runs_body, imports_name, calls_value, calls_with, functions_at, bodies_at, imports_at, around_at, inside_at, ends, first_state, meaning}
 use Rattle.py_safety.specs.Known.{KnowsValue, KnowsLocals, Knows, KnowsFlow}
 use Rattle.py_safety.specs.Law.{MeaningIsSafe}
 use Rattle.py_safety.proofs.Growth.{Grows, grows_more, state_grows}
 use Rattle.py_safety.proofs.Pieces.{SafeOn, SafeAt, Always, Each, each_grows, goes_safe, fails_safe, pick_safe, pay_safe, steady}
 use Rattle.py_safety.proofs.Values.{nothing_known, load_in}
-use Rattle.py_safety.proofs.Names.{insert_each}
+use Rattle.py_safety.proofs.Names.{SafeReplaced, insert_each}
+use Rattle.py_safety.proofs.Paths.{replaced_safe}
 use Rattle.py_safety.proofs.Expressions.{SafeAround}
 use Rattle.py_safety.proofs.Calls.{calls_kind_safe, calls_native_safe}
 use Rattle.py_safety.proofs.Statements.{run_all_safe}
-use Rattle.py_safety.proofs.Imports.{SafeBody, asks_safe}
+use Rattle.py_safety.proofs.Imports.{SafeBody, SafeInside, asks_safe}
 
 -- ---- places
 
@@ -136,40 +139,42 @@ module _ (around : Around) (safe_around : SafeAround around) where
   runs_body_safe : (w : World) → SafeBody (runs_body w around)
   runs_body_safe w s mid load text has_mid has_load = pay_safe s (text_units text) (starts around mid load (w text)) (starts_safe s mid load has_mid has_load (w text))
 
-imports_name_safe : (body : ℕ → ℕ → List ℕ → Piece) → SafeBody body → (n : List ℕ) → Always (imports_name body n)
-imports_name_safe body safe_body n s = pick_safe s (is_dotted n) (asks body most n) (fails fault.NotInProfile) (asks_safe body safe_body most n s) (fails_safe fault.NotInProfile s)
+imports_name_safe : (inside : Inside) → SafeInside inside → (is_parent : Bool) (n : List ℕ) → Always (imports_name inside is_parent n)
+imports_name_safe inside safe_inside is_parent n s =
+    pick_safe s (is_dotted n) (asks inside most is_parent n) (fails fault.NotInProfile) (asks_safe inside safe_inside most is_parent n s) (fails_safe fault.NotInProfile s)
 
 -- ---- where so many more may be open
 
 abbrev SafeFunction : (ℕ → ℕ → List Value → Piece) → Type 0
 SafeFunction function = (s : Shown) (load index : ℕ) (vs : List Value) → Has s.loads load → Each s vs → SafeAt s (function load index vs)
 
-calls_safe : (function : ℕ → ℕ → List Value → Piece) → SafeFunction function → (s : Shown) (f : Value) (vs : List Value) → KnowsValue s f → Each s vs → SafeAt s (calls_with function f vs)
-calls_safe function safe s f vs known h = at (out-Value f) refl
+calls_safe : (function : ℕ → ℕ → List Value → Piece) → SafeFunction function → (path : Replaced) → SafeReplaced path
+    → (s : Shown) (f : Value) (vs : List Value) → KnowsValue s f → Each s vs → SafeAt s (calls_with function path f vs)
+calls_safe function safe path safe_path s f vs known h = at (out-Value f) refl
   where
-    at : (layer : Value-F Value) → out-Value f ≡ layer → SafeAt s (calls_value function f layer vs)
+    at : (layer : Value-F Value) → out-Value f ≡ layer → SafeAt s (calls_value function path f layer vs)
     at (Value-F.Func load index name) is = safe s load index vs (load_in s f known.0 load index name is) h
     at (Value-F.Kind kind) is = calls_kind_safe kind s vs h
-    at (Value-F.Native native) is = calls_native_safe native s vs h
+    at (Value-F.Native native) is = calls_native_safe path safe_path native s vs h
     at layer is = fails_safe (fault.NotCallable (type_of f)) s
 
-around_safe : (w : World) (left : ℕ) → SafeFunction (functions_at w left) → ((n : List ℕ) → Always (imports_at w left n)) → SafeAround (around_at w left)
-around_safe w left functions imports = record { called = calls_safe (functions_at w left) functions; imported = imports }
+around_safe : (w : World) (left : ℕ) → SafeFunction (functions_at w left) → ((n : List ℕ) → Always (imports_at w left false n)) → SafeAround (around_at w left)
+around_safe w left functions imports = record { called = calls_safe (functions_at w left) functions replaced replaced_safe; imported = imports; replaced = replaced_safe }
 
 mutual
   functions_safe : (w : World) (left : ℕ) → SafeFunction (functions_at w left)
   functions_safe w zero s load index vs has h = fails_safe fault.TooDeep s
   functions_safe w (suc left) s load index vs has h =
-      calls_function_safe (around_at w left) (around_safe w left (functions_safe w left) (imports_safe w left)) w s load index vs has h
+      calls_function_safe (around_at w left) (around_safe w left (functions_safe w left) (imports_safe w left false)) w s load index vs has h
 
   bodies_safe : (w : World) (left : ℕ) → SafeBody (bodies_at w left)
   bodies_safe w zero s mid load text has_mid has_load = fails_safe fault.TooDeep s
   bodies_safe w (suc left) s mid load text has_mid has_load =
-      runs_body_safe (around_at w left) (around_safe w left (functions_safe w left) (imports_safe w left)) w s mid load text has_mid has_load
+      runs_body_safe (around_at w left) (around_safe w left (functions_safe w left) (imports_safe w left false)) w s mid load text has_mid has_load
 
-  imports_safe : (w : World) (left : ℕ) (n : List ℕ) → Always (imports_at w left n)
-  imports_safe w zero n s = fails_safe fault.TooDeep s
-  imports_safe w (suc left) n s = imports_name_safe (bodies_at w left) (bodies_safe w left) n s
+  imports_safe : (w : World) (left : ℕ) (is_parent : Bool) (n : List ℕ) → Always (imports_at w left is_parent n)
+  imports_safe w zero is_parent n s = fails_safe fault.TooDeep s
+  imports_safe w (suc left) is_parent n s = imports_name_safe (inside_at w left) (record { body = bodies_safe w left; parent = imports_safe w left true }) is_parent n s
 
 -- ---- scripts
 

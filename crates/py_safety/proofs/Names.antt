@@ -10,6 +10,7 @@ use Rattle.std.specs.Str.{bytes_eq}
 use Rattle.py_value.specs.Names.{type_of}
 use Rattle.py_value.specs.declared.kind.Kind.{Kind}
 use Rattle.py_value.specs.declared.kind.Native.{Native}
+use Rattle.py_value.specs.declared.value.ModRef.{ModRef}
 use Rattle.py_value.specs.declared.value.Raised.{Raised as Error}
 use Rattle.py_value.specs.declared.value.Value.{Value, out-Value}
 use Rattle.py_value.specs.declared.value.Value.TheOpen.{Value-F}
@@ -19,14 +20,14 @@ use Rattle.machine_events.specs.declared.event.Event.TheVariants as e
 use Rattle.machine_events.specs.declared.event.Reply.{Reply}
 use Rattle.machine_events.specs.declared.event.Reply.TheVariants as r
 use Rattle.thread_knowledge.specs.Shown.{Shown, shown_more, is_namespace_path, modules_in, loads_in}
-use Rattle.thread_knowledge.specs.Knowing.{HasAll, KnowsAll}
+use Rattle.thread_knowledge.specs.Knowing.{Has, HasAll, KnowsAll}
 use Rattle.meanings.specs.Runs.{Run, Safe}
 use Rattle.value_parts.proofs.Parts.{plain}
 use Rattle.py_faults.specs.declared.fault.Fault.TheVariants as fault
 use Rattle.py_state.specs.declared.flow.Flow.TheVariants.{Went}
 use Rattle.py_state.specs.declared.thread.FunctionScope.{FunctionScope}
 use Rattle.py_state.specs.declared.thread.State.{State}
-use Rattle.py_meaning.specs.Pieces.{fails, done}
+use Rattle.py_meaning.specs.Pieces.{Piece, fails, done}
 use Rattle.py_meaning.specs.Names as names
 use Rattle.py_safety.specs.Known.{KnowsValue, KnowsLocals, Knows}
 use Rattle.py_safety.proofs.Growth.{fits_refl, all_grows}
@@ -46,12 +47,16 @@ all_here (x ∷ xs) ys = (inl refl, all_grows (xs ++ ys) (x ∷ (xs ++ ys)) xs (
 pub value_answered : (s : Shown) (event : Event) (v : Value) → KnowsAll (shown_more s (event, r.Value v)) v
 value_answered s event v = (all_here (modules_in v) s.modules, all_here (loads_in v) s.loads)
 
-pub variable_safe : (s : Shown) (v : Value) → KnowsAll s v → SafeAt s (names.variable v)
-variable_safe s v h = at (is_namespace_path v) refl
+-- a value that is read, where another piece stands for the path of a namespace
+pub value_or_safe : (s : Shown) (v : Value) (p : Piece) → KnowsAll s v → (is_namespace_path v ≡ true → SafeAt s p) → SafeAt s (if is_namespace_path v then p else (λ st k. k (Went v) st))
+value_or_safe s v p h path = at (is_namespace_path v) refl
   where
-    at : (b : Bool) → is_namespace_path v ≡ b → SafeAt s (if b then fails fault.NotBuilt else (λ st k. k (Went v) st))
-    at true is = fails_safe fault.NotBuilt s
+    at : (b : Bool) → is_namespace_path v ≡ b → SafeAt s (if b then p else (λ st k. k (Went v) st))
+    at true is = path is
     at false is = goes_safe s (Went v) (h, is)
+
+pub variable_safe : (s : Shown) (v : Value) → KnowsAll s v → SafeAt s (names.variable v)
+variable_safe s v h = value_or_safe s v (fails fault.NotBuilt) h (λ is. fails_safe fault.NotBuilt s)
 
 -- ---- maps
 
@@ -170,23 +175,43 @@ error_member_safe error x s =
     name_known None = nothing_known s
     name_known (Some n) = ((plain s).text n, refl)
 
-member_read_safe : (s : Shown) (event : Event) (m x : List ℕ) (reply : Reply) → SafeAt (shown_more s (event, reply)) (names.member_read reply m x)
-member_read_safe s event m x (r.Value v) = variable_safe (shown_more s (event, r.Value v)) v (value_answered s event v)
-member_read_safe s event m x (r.Unset init) = fails_safe (fault.NoAttribute init m x) (shown_more s (event, r.Unset init))
-member_read_safe s event m x r.Sleeping = fails_safe fault.NotBuilt (shown_more s (event, r.Sleeping))
-member_read_safe s event m x reply = fails_safe fault.NotInProfile (shown_more s (event, reply))
+-- what comes in place of the path of a namespace is safe where it is shown that the module is one
+abbrev pub SafeReplaced : names.Replaced → Type 0
+SafeReplaced path = (s : Shown) (m : ModRef) → Has s.namespaces m.mid → SafeAt s (path m)
 
-pub member_safe : (s : Shown) (v : Value) (x : List ℕ) → KnowsValue s v → SafeAt s (names.member v x)
-member_safe s v x known = at (out-Value v) refl
+-- a `__path__` that was read as that of a namespace shows it
+pub path_shown : (s : Shown) (mid : ℕ) (x : List ℕ) (raw : Bool) (v : Value) → is_namespace_path v ≡ true → bytes_eq x (codes "__path__") ≡ true
+    → Has (shown_more s (e.GetVar mid x raw, r.Value v)).namespaces mid
+path_shown s mid x raw v is named = rw named (rw is (inl refl))
+
+pub replaces_safe : (path : names.Replaced) → SafeReplaced path → (s : Shown) (m : ModRef) (x : List ℕ) → (bytes_eq x (codes "__path__") ≡ true → Has s.namespaces m.mid) → SafeAt s (names.replaces path m x)
+replaces_safe path safe s m x shown = at (bytes_eq x (codes "__path__")) refl
   where
-    at : (layer : Value-F Value) → out-Value v ≡ layer → SafeAt s (names.member_at layer x)
-    at (Value-F.Module m) is = λ run st knows k safe.
-        let event : Event = e.GetVar m.mid x false in
-        steady s event (λ reply. names.member_read reply m.name x) (run, inr (m, module_in s v known.0 m is, refl)) (λ reply. refl) (λ reply. run) (member_read_safe s event m.name x) run st knows k safe
-    at (Value-F.Error error) is = error_member_safe error x s
-    at Value-F.SysModules is = fails_safe fault.NotBuilt s
-    at Value-F.SysPath is = fails_safe fault.NotBuilt s
-    at layer is = fails_safe fault.NotInProfile s
+    at : (b : Bool) → bytes_eq x (codes "__path__") ≡ b → SafeAt s (if b then path m else fails fault.NotInProfile)
+    at true named = safe s m (shown named)
+    at false named = fails_safe fault.NotInProfile s
+
+module _ (path : names.Replaced) (safe_path : SafeReplaced path) where
+  member_read_safe : (s : Shown) (m : ModRef) (x : List ℕ) (reply : Reply) → SafeAt (shown_more s (e.GetVar m.mid x false, reply)) (names.member_read path reply m x)
+  member_read_safe s m x (r.Value v) =
+      let event : Event = e.GetVar m.mid x false in
+      let next : Shown = shown_more s (event, r.Value v) in
+      value_or_safe next v (names.replaces path m x) (value_answered s event v) (λ is. replaces_safe path safe_path next m x (path_shown s m.mid x false v is))
+  member_read_safe s m x (r.Unset init) = fails_safe (fault.NoAttribute init m.name x) (shown_more s (e.GetVar m.mid x false, r.Unset init))
+  member_read_safe s m x r.Sleeping = fails_safe fault.NotBuilt (shown_more s (e.GetVar m.mid x false, r.Sleeping))
+  member_read_safe s m x reply = fails_safe fault.NotInProfile (shown_more s (e.GetVar m.mid x false, reply))
+
+  pub member_safe : (s : Shown) (v : Value) (x : List ℕ) → KnowsValue s v → SafeAt s (names.member path v x)
+  member_safe s v x known = at (out-Value v) refl
+    where
+      at : (layer : Value-F Value) → out-Value v ≡ layer → SafeAt s (names.member_at path layer x)
+      at (Value-F.Module m) is = λ run st knows k safe.
+          let event : Event = e.GetVar m.mid x false in
+          steady s event (λ reply. names.member_read path reply m x) (run, inr (m, module_in s v known.0 m is, refl)) (λ reply. refl) (λ reply. run) (member_read_safe s m x) run st knows k safe
+      at (Value-F.Error error) is = error_member_safe error x s
+      at Value-F.SysModules is = fails_safe fault.NotBuilt s
+      at Value-F.SysPath is = fails_safe fault.NotBuilt s
+      at layer is = fails_safe fault.NotInProfile s
 
 pub sets_member_safe : (s : Shown) (object : Value) (x : List ℕ) (v : Value) → KnowsValue s object → KnowsValue s v → SafeAt s (names.sets_member object x v)
 sets_member_safe s object x v object_known known = at (out-Value object) refl

@@ -78,6 +78,11 @@ behind s p q h each run st knows k safe =
     h run st knows (on_value k (λ v st'. q v st' k))
     (on_value_safe s k (λ v st'. q v st' k) safe (λ s' f v known st' knows'. each s' f.grows v known f.runs st' knows' k (on_later s s' k f safe)))
 
+-- goes on by how a piece ends
+pub flows_safe : (s : Shown) (p : Piece) (q : Flow → Piece) → SafeAt s p → ((s' : Shown) → Grows s s' → (flow : Flow) → KnowsFlow s' flow → SafeAt s' (q flow)) → SafeAt s (λ st k. p st (λ flow st'. q flow st' k))
+flows_safe s p q h each run st knows k safe =
+    h run st knows (λ flow st'. q flow st' k) (λ s' f flow known st' knows'. each s' f.grows flow known f.runs st' knows' k (on_later s s' k f safe))
+
 pub sized_on : (s : Shown) (k : Onward) → SafeOn s k → SafeOn s (sized k)
 sized_on s k safe s' f (Went v) known st knows = (f.runs, safe s' f (Went v) known st knows)
 sized_on s k safe s' f (Left leave) known st knows = safe s' f (Left leave) known st knows

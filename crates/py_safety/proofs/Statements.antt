@@ -7,13 +7,13 @@ use Rattle.py_syntax.specs.declared.stmt.Stmt.TheFolds.{fold-FuncDef, fold-roll-
 use Rattle.py_syntax.specs.declared.stmt.Branch.{Branch, fold-roll-Branch}
 use Rattle.py_syntax.specs.declared.stmt.FuncDef.{FuncDef}
 use Rattle.py_syntax.specs.declared.stmt.Handler.{Handler, fold-roll-Handler}
-use Rattle.py_faults.specs.declared.fault.Fault.TheVariants as fault
 use Rattle.py_meaning.specs.Pieces.{Piece, pay, most, in_order, gathers}
 use Rattle.py_meaning.specs.Operators.{Around, eval}
 use Rattle.py_meaning.specs.Statements.{BranchPiece, DefPiece, HandlerPiece, stmt_operands_at, performs_at, tries, paid_at, stmt_at, branch_at, eval_some, handler_at, def_at, run, branch, handler, run_all}
-use Rattle.py_safety.proofs.Pieces.{Always, AllSafe, fails_safe, pay_safe, gathers_safe, in_order_safe}
+use Rattle.py_safety.proofs.Pieces.{Always, AllSafe, pay_safe, gathers_safe, in_order_safe}
 use Rattle.py_safety.proofs.Expressions.{SafeAround, eval_safe}
-use Rattle.py_safety.proofs.Blocks.{SafeBranch, AllBranches, performs_safe, imports_all_safe, tests_safe, turns_safe, defines_safe}
+use Rattle.py_safety.proofs.Blocks.{SafeBranch, AllBranches, performs_safe, tests_safe, turns_safe, defines_safe}
+use Rattle.py_safety.proofs.ImportStatements.{imports_all_safe, from_import_safe}
 use Rattle.py_safety.proofs.Tries.{SomeSafe, SafeHandler, AllHandlers, tries_safe, guards_safe}
 
 module _ (around : Around) (safe_around : SafeAround around) where
@@ -69,7 +69,7 @@ module _ (around : Around) (safe_around : SafeAround around) where
 
   paid_safe : (y : Told) → Always (paid_at around (pieces (forms y)))
   paid_safe (Stmt-F.Import items) = imports_all_safe around safe_around items
-  paid_safe (Stmt-F.From dots parts names) = fails_safe fault.NotBuilt
+  paid_safe (Stmt-F.From dots parts names) = from_import_safe around safe_around dots parts names
   paid_safe (Stmt-F.If bs ss) = tests_safe (map (branch around) (map (λ e. e.0) bs)) (branches_safe bs) (in_order (block ss)) (ordered_safe ss)
   paid_safe (Stmt-F.Try ss hs es fs) =
       guards_safe (block fs) (block_safe fs) (tries (in_order (block ss)) (map (handler around) (map (λ e. e.0) hs)) (in_order (block es)))

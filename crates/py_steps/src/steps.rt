@@ -9,13 +9,19 @@ use base_types::NoMemory;
 use find_load::In;
 use machine_events::Reply;
 use py_blocks::{
-    begin_alias, begin_block, begin_branches, begin_imports, begin_statement, begin_test,
-    begin_turn, begun, go_on_block, go_on_decide, go_on_imports, go_on_loop, go_on_store,
-    go_on_test, perform,
+    begin_block, begin_branches, begin_imports, begin_statement, begin_test, begin_turn, begun,
+    go_on_block, go_on_decide, go_on_imports, go_on_loop, go_on_store, go_on_test, perform,
 };
 use py_bodies::{begin as begin_body, source_came, start};
 use py_calls::{call, come_back, give_default, tell};
 use py_frames::{Frame, Item, OnReply, Procedure, Want};
+use py_from::{
+    begin_alias, begin_ask_submodules, begin_binding, begin_bindings, begin_from,
+    begin_from_module, begin_star, begin_stars, begin_submodule, begin_submodules, go_on_bindings,
+    go_on_from, go_on_front, go_on_fronted, go_on_parts, go_on_stars, go_on_submodules,
+    go_on_tried_submodule, replied_all, replied_entry, replied_from_module, replied_if_package,
+    replied_missed, replied_names, replied_package, replied_submodule,
+};
 use py_imports::{
     begin_feed, begin_import, fed as fed_procedure, go_on_imported, go_on_open, replied_feed,
 };
@@ -54,8 +60,31 @@ pub fn begin(alloc: Global, item: Item, thread: &mut Thread) -> Result<Want, NoM
         Item::Begun { stmts, at } => begun(alloc, thread, stmts, at),
         Item::Imports { stmts, at, place } => begin_imports(thread, stmts, at, place),
         Item::Alias { stmts, at, place } => begin_alias(alloc, thread, &stmts, at, place),
-        Item::Import(name) => begin_import(alloc, name, thread),
-        Item::Feed(procedure, input) => begin_feed(procedure, input, thread),
+        Item::Import { name, is_parent } => begin_import(alloc, name, is_parent, thread),
+        Item::From { stmts, at } => begin_from(alloc, thread, stmts, at),
+        Item::FromModule {
+            module,
+            name,
+            is_bound,
+        } => begin_from_module(thread, module, name, is_bound),
+        Item::AskSubmodules { module, names } => begin_ask_submodules(alloc, thread, module, names),
+        Item::Submodules { module, names, at } => begin_submodules(thread, module, names, at),
+        Item::Submodule { module, name } => begin_submodule(thread, module, name),
+        Item::Bindings {
+            module,
+            stmts,
+            at,
+            place,
+        } => begin_bindings(thread, module, stmts, at, place),
+        Item::Binding {
+            module,
+            stmts,
+            at,
+            place,
+        } => begin_binding(alloc, thread, module, &stmts, at, place),
+        Item::Stars { module, names, at } => begin_stars(thread, module, names, at),
+        Item::Star { module, name } => begin_star(thread, module, name),
+        Item::Feed(procedure, input) => begin_feed(alloc, procedure, input, thread),
         Item::Start { mid, load, text } => start(alloc, thread, mid, load, text),
         Item::Begin { mid, load, text } => begin_body(alloc, thread, mid, load, text),
         Item::Branches {
@@ -119,8 +148,30 @@ pub fn go_on(alloc: Global, frame: Frame, flow: Flow, thread: &mut Thread) -> Re
         Frame::Resume(before) => Ok(go_on_resume(thread, before, flow)),
         Frame::Store(name) => Ok(go_on_store(thread, name, flow)),
         Frame::Imports { stmts, at, place } => { Ok(go_on_imports(thread, stmts, at, place, flow)) }
+        Frame::Front { stmts, at, place } => go_on_front(alloc, thread, stmts, at, place, flow),
+        Frame::Fronted { stmts, at, place } => {
+            go_on_fronted(alloc, thread, &stmts, at, place, flow)
+        }
+        Frame::Parts {
+            stmts,
+            at,
+            place,
+            part,
+        } => go_on_parts(alloc, thread, &stmts, at, place, part, flow),
+        Frame::From { stmts, at } => go_on_from(alloc, thread, &stmts, at, flow),
+        Frame::Submodules { module, names, at } => {
+            Ok(go_on_submodules(thread, module, names, at, flow))
+        }
+        Frame::TriedSubmodule(name) => go_on_tried_submodule(thread, name, flow),
+        Frame::Bindings {
+            module,
+            stmts,
+            at,
+            place,
+        } => Ok(go_on_bindings(thread, module, stmts, at, place, flow)),
+        Frame::Stars { module, names, at } => Ok(go_on_stars(thread, module, names, at, flow)),
         Frame::Imported(left) => Ok(go_on_imported(left, flow, thread)),
-        Frame::Open(procedure) => go_on_open(procedure, flow, thread),
+        Frame::Open(procedure) => go_on_open(alloc, procedure, flow, thread),
         Frame::Back { scope, left } => Ok(come_back(thread, scope, left, flow)),
         Frame::HasAttr => Ok(tell(thread, flow)),
         Frame::GetAttr(default) => Ok(give_default(thread, default, flow)),
@@ -159,7 +210,27 @@ pub fn replied(
             index,
             arguments,
         } => { source_came(alloc, thread, load, index, arguments, reply) }
-        OnReply::Feed(procedure) => replied_feed(procedure, reply, thread),
+        OnReply::Feed(procedure) => replied_feed(alloc, procedure, reply, thread),
+        OnReply::FromModule {
+            module,
+            name,
+            is_bound,
+        } => replied_from_module(alloc, thread, module, name, is_bound, reply),
+        OnReply::Entry {
+            module,
+            name,
+            is_initialising,
+        } => replied_entry(alloc, thread, module, name, is_initialising, reply),
+        OnReply::IfPackage { module, names } => {
+            replied_if_package(alloc, thread, module, names, reply)
+        }
+        OnReply::Submodule { module, name } => {
+            replied_submodule(alloc, thread, &module, &name, reply)
+        }
+        OnReply::Missed(error) => Ok(replied_missed(thread, error, reply)),
+        OnReply::All(module) => replied_all(alloc, thread, module, reply),
+        OnReply::Names(module) => replied_names(alloc, thread, module, reply),
+        OnReply::Package { stmts, at } => replied_package(alloc, thread, &stmts, at, reply),
     }
 }
 
@@ -173,6 +244,5 @@ pub fn fed(
 ) -> Result<Want, NoMemory>
     ensures { IfOk result (DoesIn sources thread.new (pieces (λ w d. meant.fed w d procedure input) thread.old sources)) }
 {
-    let _ = alloc;
-    fed_procedure(procedure, input, thread)
+    fed_procedure(alloc, procedure, input, thread)
 }

@@ -19,7 +19,7 @@ use Rattle.pyimport.specs.Prints.{out_text}
 use Rattle.pyimport.specs.Ends.{err_text, status_of}
 use Rattle.pyimport.specs.Sinks.{At, Leaves}
 use Rattle.pyimport.specs.Scripts.{IsScript, Opens, by_node, first_of}
-use Rattle.pyimport.specs.Alone.{opening_of, HasCause, IsRun}
+use Rattle.pyimport.specs.Alone.{opening_of, HasCause, IsRun, ListsBy}
 use Rattle.pyimport.specs.Answers.{Answers, Runs, ReadsBy, built}
 use Rattle.pyimport.specs.declared.open.Opened.{Opened}
 use Rattle.pyimport.specs.declared.open.Opened.TheVariants as opened
@@ -107,3 +107,10 @@ script_at (Some f) word path (Err e) s h = tt
 pub script_not : (tree : Option Files) (word : List ℕ) → ((path : Path) → Spells word path → ⊥) → IfSome tree (λ f. IsScript f word opened.Missing)
 script_not None word never = tt
 script_not (Some f) word never = IsScript.no_path never
+
+-- without a history nothing was listed, and with one as often as it tells, also from an earlier moment on
+pub lists_none : (r : Report) (old new : ℕ) → r.history ≡ None → new ≡ old → ListsBy r.history old new
+lists_none r old new none same = rw none (omega (arith, same))
+
+pub lists_since : (history : Option (List Entry)) (first old new : ℕ) → old ≡ first → ListsBy history old new → ListsBy history first new
+lists_since history first old new is l = subst (λ (n : ℕ). ListsBy history n new) is l

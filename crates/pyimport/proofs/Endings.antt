@@ -1,5 +1,5 @@
 -- How one script ended, by its pairs, and what is said of it.
-use Rattle.std.proofs.Common.{◌≡◌, ◌≤◌, ℕ, ◌+◌, max, List, [], ◌∷◌, ◌++◌, length, Option, Some, None, Result, Ok, Err, IfOk, IfSome, OnErr, refl, sym, subst, ◌∙◌, ap, arith, inr}
+use Rattle.std.proofs.Common.{◌≡◌, ◌≤◌, ℕ, ◌+◌, max, List, [], ◌∷◌, ◌++◌, length, Option, Some, None, Result, Ok, Err, IfOk, IfSome, OnOk, OnErr, refl, sym, subst, ◌∙◌, ap, arith, inr}
 use Rattle.std.proofs.Math.ListN.{get_or}
 use Rattle.std.proofs.lemmas.List.{append-nil}
 use Rattle.std.specs.Prelude.{slice_get}
@@ -24,7 +24,7 @@ use Rattle.thread_knowledge.specs.Own.{own, Ready}
 use Rattle.thread_knowledge.specs.Shown.{shown_first}
 use Rattle.meanings.specs.Runs.{Run, Safe}
 use Rattle.meanings.specs.Follows.{Follows}
-use Rattle.meanings.specs.Lists.{lists_in}
+use Rattle.meanings.specs.Lists.{lists_in, ends_in}
 use Rattle.script_end.specs.declared.end.Ending.{Ending}
 use Rattle.script_end.specs.declared.end.Ending.TheVariants as ending
 use Rattle.script_end.specs.Ending.{Ended, Broken, in_run, at_read, IsRead, outcome}
@@ -37,7 +37,7 @@ use Rattle.pyimport.specs.Ends.{end_of, line_of, line_at, err_text, number_of, n
 use Rattle.py_meaning.specs.Meaning.{meaning}
 use Rattle.py_sources.specs.Sources.{sources}
 use Rattle.pyimport.specs.Scripts.{first_of}
-use Rattle.pyimport.specs.Alone.{IsRun, HasCause, turn_of, lists_by}
+use Rattle.pyimport.specs.Alone.{IsRun, HasCause, turn_of, ListsBy}
 use Rattle.pyimport.specs.declared.alone.Ran.{Ran}
 
 end_last : (before : List (Event × Reply)) (how : Outcome) (k : ℕ) → end_of (before ++ (End how k, Done) ∷ []) ≡ Some how
@@ -155,8 +155,11 @@ first_by xs ys x e one is = is ∙ (ap (λ (zs : List (List ℕ)). get_or zs 0 x
 pub ran_has : (r : Ran) (status : ℕ) (h : List Entry) (P : List Entry → ℕ → Type 0) → r ≡ record { status = status; history = Some h } → P h status → IfSome r.history (λ x. P x r.status)
 ran_has r status h P e p = subst (λ (x : Ran). IfSome x.history (λ y. P y x.status)) (sym e) p
 
-pub lists_of_run : (r : Ran) (status : ℕ) (h : List Entry) (old new : ℕ) → r ≡ record { status = status; history = Some h } → new ≤ old + lists_in (own 0 h) → new ≤ old + lists_by r.history
-lists_of_run r status h old new e l = subst (λ (x : Ran). new ≤ old + lists_by x.history) (sym e) l
+-- the lists of a run that ended, or of one that was broken off and has no End
+pub lists_of_run : (r : Ran) (status : ℕ) (h : List Entry) (ran : Result Ending NoMemory) (old new : ℕ) → r ≡ record { status = status; history = Some h } → OnOk ran (new ≤ old + lists_in (own 0 h))
+    → OnErr ran (ends_in (own 0 h) ≡ 0) → ListsBy r.history old new
+lists_of_run r status h (Ok it) old new e l none = subst (λ (x : Ran). ListsBy x.history old new) (sym e) (λ ended. l)
+lists_of_run r status h (Err error) old new e l none = subst (λ (x : Ran). ListsBy x.history old new) (sym e) (λ ended. absurd (omega (arith, ended, none)))
 
 -- the one script of a machine waits for no earlier round
 pub ready_first : (rounds : List ℕ) (h : List Entry) → rounds ≡ 0 ∷ [] → Ready rounds h 0

@@ -1,5 +1,5 @@
 -- What the run of one script leaves as its history.
-use Rattle.std.specs.Prelude.{◌≡◌, ℕ, ◌+◌, List, [], ◌∷◌, ◌++◌, Option, Some, None}
+use Rattle.std.specs.Prelude.{◌≡◌, ◌≤◌, ℕ, ◌+◌, List, [], ◌∷◌, ◌++◌, Option, Some, None}
 use Rattle.tree_files.specs.Files.{Files}
 use Rattle.tree_files.specs.Count.{Rose}
 use Rattle.machine_events.specs.declared.event.Entry.{Entry}
@@ -7,7 +7,7 @@ use Rattle.machine_state.specs.declared.state.State.{State}
 use Rattle.machine_state.specs.Opening.{opening}
 use Rattle.thread_knowledge.specs.Own.{own}
 use Rattle.meanings.specs.Runs.{Run}
-use Rattle.meanings.specs.Lists.{lists_in}
+use Rattle.meanings.specs.Lists.{lists_in, ends_in}
 use Rattle.py_meaning.specs.Meaning.{meaning}
 use Rattle.py_sources.specs.Sources.{sources}
 use Rattle.solo_history.specs.Made.{Turn}
@@ -35,10 +35,11 @@ pub data IsRun (files : Files) (opened : State) (run : Run) (fuel : ℕ) (old ne
   part : (stop : Option ℕ) (rest : List Entry) → status ≡ 6 → IsSolo opened (turn_of files run stop ∷ []) fuel (history ++ rest)
       → HasCause stop old new → IsRun files opened run fuel old new history status
 
--- how often a call may list a directory: once for each listing that its history keeps
-abbrev pub lists_by : Option (List Entry) → ℕ
-lists_by None = 0
-lists_by (Some history) = lists_in (own 0 history)
+-- how often a call may list a directory: once for each listing that its history keeps, where its script came to its End; without
+-- a history not at all
+abbrev pub ListsBy : Option (List Entry) → ℕ → ℕ → Type 0
+ListsBy None old new = new ≤ old
+ListsBy (Some history) old new = ends_in (own 0 history) ≡ 1 → new ≤ old + lists_in (own 0 history)
 
 -- the turns of scripts, of which the first has the number t, by their files and texts, where no call of the tree fails
 abbrev pub turns_of : ℕ → List (Files × List ℕ) → List Turn

@@ -26,14 +26,9 @@ abbrev pub is_one : List Word → Bool
 is_one (script ∷ []) = true
 is_one scripts = false
 
--- the root alone
-abbrev pub is_root : List Word → Bool
-is_root ([] ∷ []) = true
-is_root path = false
-
--- what is built so far: one script that lies in the root, which is searched alone
+-- what is built so far: one script
 abbrev pub is_built : RunPlan → Bool
-is_built run = is_one run.scripts && (is_root run.path && (not run.bundles && not (is_some run.rounds)))
+is_built run = is_one run.scripts && (not run.bundles && not (is_some run.rounds))
 
 abbrev pub run_if : Bool → RunPlan → Option RunPlan
 run_if true run = Some run

@@ -1,5 +1,5 @@
 //! One script that runs alone.
-ghost use Rattle.std.specs.Prelude.{◌≡◌, ◌≤◌, ◌+◌, ◌∷◌, [], ℕ, List, Option, None, Some, IfOk, IfSome, OnErr, length};
+ghost use Rattle.std.specs.Prelude.{◌≡◌, ◌≤◌, ◌+◌, ◌∷◌, [], ℕ, List, Option, None, Some, IfOk, IfSome, OnOk, OnErr, length};
 ghost use Rattle.tree_files.specs.Count.{Rose};
 ghost use Rattle.tree_files.specs.Files.{Files};
 ghost use Rattle.machine_events.specs.declared.event.Outcome.TheVariants as o;
@@ -8,11 +8,11 @@ ghost use Rattle.machine_book.specs.Bound.{opened, CanOpen};
 ghost use Rattle.thread_knowledge.specs.Own.{own};
 ghost use Rattle.machine_book.specs.Outgo.{Kept};
 ghost use Rattle.meanings.specs.Follows.{Follows};
-ghost use Rattle.meanings.specs.Lists.{lists_in};
+ghost use Rattle.meanings.specs.Lists.{lists_in, ends_in};
 ghost use Rattle.script_end.specs.Ending.{Ended, Broken, IsRead, outcome};
 ghost use Rattle.py_meaning.specs.Meaning.{meaning};
 ghost use Rattle.py_sources.specs.Sources.{sources};
-ghost use Rattle.pyimport.specs.Alone.{opening_of, lists_by, IsRun};
+ghost use Rattle.pyimport.specs.Alone.{opening_of, ListsBy, IsRun};
 ghost use Rattle.pyimport.specs.Ends.{line_of, number_of, end_of, err_text, status_of};
 ghost use Rattle.pyimport.specs.Prints.{out_text};
 ghost use Rattle.pyimport.specs.Scripts.{first_of};
@@ -71,7 +71,8 @@ fn run_alone<T: Tree, O: Outlet>(
     requires one { it.opening.rounds ≡ 1 ∷ [] }
     ensures files { T.files tree.new ≡ T.files tree.old }
     ensures faults_grow { T.faults tree.old ≤ T.faults tree.new }
-    ensures lists { T.lists tree.new ≤ T.lists tree.old + lists_in (own 0 result.history) }
+    ensures lists { OnOk result.ran (T.lists tree.new ≤ T.lists tree.old + lists_in (own 0 result.history)) }
+    ensures goes_on { OnErr result.ran (ends_in (own 0 result.history) ≡ 0) }
     ensures legal { IsLegal (opened it.opening) result.history }
     ensures kept { Kept O.piece (O.out outlet) (O.out result.outlet) result.history }
     ensures ended { IfOk result.ran (λ ending. Ended (own 0 result.history) (outcome ending)) }
@@ -194,7 +195,7 @@ pub fn run_one<T: Tree, K: Sink>(
     requires text { length texts ≡ 1 }
     ensures files { T.files tree.new ≡ T.files tree.old }
     ensures faults_grow { T.faults tree.old ≤ T.faults tree.new }
-    ensures lists { T.lists tree.new ≤ T.lists tree.old + lists_by result.history }
+    ensures lists { ListsBy result.history (T.lists tree.old) (T.lists tree.new) }
     ensures out_faults { K.faults out.old ≤ K.faults out.new }
     ensures err_faults { K.faults err.old ≤ K.faults err.new }
     ensures short { result.history ≡ None → (result.status ≡ 6) × (K.written out.new ≡ K.written out.old) × (K.faults out.new ≡ K.faults out.old) × (K.written err.new ≡ K.written err.old) × (K.faults err.new ≡ K.faults err.old) }
@@ -236,7 +237,7 @@ pub fn solo<T: Tree, K: Sink>(
     ensures plan { result.plan ≡ None }
     ensures files { T.files tree.new ≡ T.files tree.old }
     ensures faults_grow { T.faults tree.old ≤ T.faults tree.new }
-    ensures lists { T.lists tree.new ≤ T.lists tree.old + lists_by result.history }
+    ensures lists { ListsBy result.history (T.lists tree.old) (T.lists tree.new) }
     ensures out_faults { K.faults out.old ≤ K.faults out.new }
     ensures err_faults { K.faults err.old ≤ K.faults err.new }
     ensures short { result.history ≡ None → (result.status ≡ 6) × (K.written out.new ≡ K.written out.old) × (K.faults out.new ≡ K.faults out.old) × (K.written err.new ≡ K.written err.old) × (K.faults err.new ≡ K.faults err.old) }

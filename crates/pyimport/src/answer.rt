@@ -5,8 +5,8 @@ ghost use Rattle.import_words.specs.Plans.{plan_of};
 ghost use Rattle.import_words.specs.declared.plan.Plan.TheVariants as plans;
 ghost use Rattle.import_words.specs.Words.{Word};
 ghost use Rattle.import_words.specs.Usage.{usage_of};
-ghost use Rattle.pyimport.specs.Alone.{lists_by};
-ghost use Rattle.pyimport.specs.Answers.{Answers, is_built, is_one, is_root, run_if, built};
+ghost use Rattle.pyimport.specs.Alone.{ListsBy};
+ghost use Rattle.pyimport.specs.Answers.{Answers, is_built, is_one, run_if, built};
 ghost use Rattle.pyimport.specs.Scripts.{Opens, first_of};
 ghost use Rattle.pyimport.specs.Sinks.{At, Leaves};
 ghost use Rattle.pyimport.specs.declared.open.Opened.TheVariants as opened;
@@ -20,27 +20,17 @@ use machine_book::Flow;
 use std::alloc::Global;
 use tree_files::{Sink, Tree, TreeFault};
 
-/// Whether the plan is built so far: one script that lies in the root, which is searched alone.
+/// Whether the plan is built so far: one script.
 fn is_built(run: &RunPlan) -> bool
     ensures { result ≡ is_built run.now }
 {
-    is_one(run.scripts.as_slice())
-        && (is_root(run.path.as_slice()) && (!run.bundles && !run.rounds.is_some()))
+    is_one(run.scripts.as_slice()) && (!run.bundles && !run.rounds.is_some())
 }
 
 fn is_one(scripts: &[Text]) -> bool
     ensures { result ≡ is_one scripts.now }
 {
     scripts.len() == 1
-}
-
-fn is_root(path: &[Text]) -> bool
-    ensures { result ≡ is_root path.now }
-{
-    match path {
-        [entry] => entry.len() == 0,
-        _ => false,
-    }
 }
 
 fn report(status: u8, plan: Option<Plan>) -> Report
@@ -91,7 +81,7 @@ fn play<T: Tree, K: Sink>(
     ensures answers { (words : List Word) (first : ℕ) → built (plan_of words) ≡ Some run → Opens (T.files tree.old) (first_of run.scripts) (opened.Text text) → first ≤ T.faults tree.old → Answers words (T.files tree.old) first (T.faults tree.new) (record { written = K.written out.old; faults = K.faults out.old }) (record { written = K.written out.new; faults = K.faults out.new }) (record { written = K.written err.old; faults = K.faults err.old }) (record { written = K.written err.new; faults = K.faults err.new }) result.status result.plan result.history }
     ensures files { T.files tree.new ≡ T.files tree.old }
     ensures faults_grow { T.faults tree.old ≤ T.faults tree.new }
-    ensures lists { T.lists tree.new ≤ T.lists tree.old + lists_by result.history }
+    ensures lists { ListsBy result.history (T.lists tree.old) (T.lists tree.new) }
     ensures out_faults { K.faults out.old ≤ K.faults out.new }
     ensures err_faults { K.faults err.old ≤ K.faults err.new }
 {
@@ -161,7 +151,7 @@ fn run_plan<T: Tree, K: Sink>(
     ensures answers { (words : List Word) → built (plan_of words) ≡ Some run → Answers words (T.files tree.old) (T.faults tree.old) (T.faults tree.new) (record { written = K.written out.old; faults = K.faults out.old }) (record { written = K.written out.new; faults = K.faults out.new }) (record { written = K.written err.old; faults = K.faults err.old }) (record { written = K.written err.new; faults = K.faults err.new }) result.status result.plan result.history }
     ensures files { T.files tree.new ≡ T.files tree.old }
     ensures faults_grow { T.faults tree.old ≤ T.faults tree.new }
-    ensures lists { T.lists tree.new ≤ T.lists tree.old + lists_by result.history }
+    ensures lists { ListsBy result.history (T.lists tree.old) (T.lists tree.new) }
     ensures out_faults { K.faults out.old ≤ K.faults out.new }
     ensures err_faults { K.faults err.old ≤ K.faults err.new }
 {
@@ -221,8 +211,8 @@ fn plan_for(alloc: Global, words: &[String]) -> Result<Option<RunPlan>, NoMemory
 /// Runs what the words of the command line ask for, over a tree, and writes what is to be written to
 /// the two sinks.
 ///
-/// What is built so far is `run SCRIPT` for one script that lies in the root of the tree; all other
-/// words are refused with the usage line.
+/// What is built so far is `run` for one script, with a search path, a budget and a trace as the
+/// words tell; all other words are refused with the usage line.
 pub fn pyimport<T: Tree, K: Sink>(
     alloc: Global,
     words: &[String],
@@ -233,7 +223,7 @@ pub fn pyimport<T: Tree, K: Sink>(
     ensures answers { Answers (map string_bytes words.now) (T.files tree.old) (T.faults tree.old) (T.faults tree.new) (record { written = K.written out.old; faults = K.faults out.old }) (record { written = K.written out.new; faults = K.faults out.new }) (record { written = K.written err.old; faults = K.faults err.old }) (record { written = K.written err.new; faults = K.faults err.new }) result.status result.plan result.history }
     ensures files { T.files tree.new ≡ T.files tree.old }
     ensures faults_grow { T.faults tree.old ≤ T.faults tree.new }
-    ensures lists { T.lists tree.new ≤ T.lists tree.old + lists_by result.history }
+    ensures lists { ListsBy result.history (T.lists tree.old) (T.lists tree.new) }
     ensures out_faults { K.faults out.old ≤ K.faults out.new }
     ensures err_faults { K.faults err.old ≤ K.faults err.new }
 {

@@ -1,12 +1,13 @@
 -- What a script holds is given up, one thing after the other.
-use Rattle.std.proofs.Common.{◌≡◌, ℕ, [], ◌∷◌, ◌++◌, sym, ◌∙◌, subst}
+use Rattle.std.proofs.Common.{◌≡◌, ◌≤◌, ℕ, ◌+◌, List, [], ◌∷◌, ◌++◌, sym, ◌∙◌, ap, subst, arith}
 use Rattle.machine_events.specs.declared.event.Event.{Event}
 use Rattle.machine_events.specs.declared.event.Event.TheVariants.{End}
 use Rattle.machine_events.specs.declared.event.Outcome.{Outcome}
 use Rattle.machine_events.specs.declared.event.Reply.{Reply}
 use Rattle.thread_knowledge.specs.Shown.{shown}
 use Rattle.thread_knowledge.specs.Knowing.{IsShown}
-use Rattle.meanings.specs.Runs.{gives}
+use Rattle.meanings.specs.Lists.{lists_in}
+use Rattle.meanings.specs.Runs.{gives, keeps}
 use Rattle.meanings.proofs.Stand.{may_give, gives_more, held_more, runs_more}
 use Rattle.script_port.specs.View.{View, Stays, Gains}
 use Rattle.script_holds.specs.Holds.{holding_of, held_in}
@@ -40,3 +41,18 @@ gave_given first old new h event reply before after is stays gains idle popped g
 -- where nothing is held the End may be made
 pub end_idle : {S : Type 0} (v : View S) (held : Held) (outcome : Outcome) (paid : ℕ) → Idle v held → held_in held ≡ [] → IsShown (shown v.number v.mine) (End outcome paid)
 end_idle v held outcome paid idle none = (idle.runs, sym idle.holds ∙ none)
+
+-- one more event keeps one more listing, or none
+pub lists_more : (mine : List (Event × Reply)) (p : Event × Reply) → lists_in (mine ++ p ∷ []) ≡ lists_in mine + keeps p.0
+lists_more [] p = omega arith
+lists_more (q ∷ mine) p = let rest = lists_more mine p in omega (arith, rest)
+
+pub lists_grow : (mine mine' : List (Event × Reply)) (event : Event) (reply : Reply) → mine' ≡ mine ++ (event, reply) ∷ [] → lists_in mine ≤ lists_in mine'
+lists_grow mine mine' event reply is =
+    let one : lists_in mine' ≡ lists_in mine + keeps event = ap lists_in is ∙ lists_more mine (event, reply) in
+    omega (arith, one)
+
+pub lists_then : (first mine mine' : List (Event × Reply)) (event : Event) (reply : Reply) → lists_in first ≤ lists_in mine → mine' ≡ mine ++ (event, reply) ∷ [] → lists_in first ≤ lists_in mine'
+lists_then first mine mine' event reply grew is =
+    let more = lists_grow mine mine' event reply is in
+    omega (arith, grew, more)

@@ -1,10 +1,11 @@
 //! How a script ends: what it holds is given up, and its End event is made.
-ghost use Rattle.std.specs.Prelude.{◌≡◌, ◌∷◌, ◌++◌, [], IfOk, OnOk, OnErr};
+ghost use Rattle.std.specs.Prelude.{◌≡◌, ◌≤◌, ◌∷◌, ◌++◌, [], IfOk, OnOk, OnErr};
 ghost use Rattle.machine_events.specs.declared.event.Event.TheVariants as ev;
 ghost use Rattle.machine_events.specs.declared.event.Outcome.TheVariants as outcomes;
 ghost use Rattle.machine_events.specs.declared.event.Reply.TheVariants.{Done};
 ghost use Rattle.thread_knowledge.specs.Shown.{shown};
 ghost use Rattle.thread_knowledge.specs.Knowing.{IsShown};
+ghost use Rattle.meanings.specs.Lists.{lists_in};
 ghost use Rattle.meanings.specs.Runs.{gives};
 ghost use Rattle.script_port.specs.View.{View, Stays};
 ghost use Rattle.script_holds.specs.Holds.{holding_of, held_in};
@@ -47,6 +48,7 @@ fn give_up<P: Port>(port: &mut P, held: &mut Held) -> Result<(), Halt>
     requires idle { Idle (P.view port.old) held.old }
     ensures stays { Stays (P.view port.old) (P.view port.new) }
     ensures gave { Gave (P.view port.old).number (P.view port.old).mine (P.view port.new).mine }
+    ensures grows { lists_in (P.view port.old).mine ≤ lists_in (P.view port.new).mine }
     ensures idle { OnOk result (Idle (P.view port.new) held.new) }
     ensures free { OnOk result (held_in held.new ≡ []) }
 {
@@ -65,6 +67,7 @@ fn end<P: Port>(port: &mut P, how: Outcome, spent: u64) -> Result<(), Halt>
     requires knows { IsShown (shown (P.view port.old).number (P.view port.old).mine) (ev.End how spent) }
     ensures stays { Stays (P.view port.old) (P.view port.new) }
     ensures ends { OnOk result ((P.view port.new).mine ≡ (P.view port.old).mine ++ (ev.End how spent, Done) ∷ []) }
+    ensures grows { OnOk result (lists_in (P.view port.old).mine ≤ lists_in (P.view port.new).mine) }
     ensures err { OnErr result ((P.view port.new).mine ≡ (P.view port.old).mine) }
 {
     let event = Event::End {
@@ -105,6 +108,7 @@ pub fn came<P: Port>(port: &mut P, flow: Flow, fuel: u64) -> Result<Ending, Halt
     ensures stays { Stays (P.view port.old) (P.view port.new) }
     ensures ends { IfOk result (λ ending. (outcome ending ≡ meant.outcome_of flow) × ((P.view port.new).mine ≡ (P.view port.old).mine ++ (ev.End (meant.outcome_of flow) fuel, Done) ∷ [])) }
     ensures read { IfOk result (λ ending. IsRead ending → ⊥) }
+    ensures grows { OnOk result (lists_in (P.view port.old).mine ≤ lists_in (P.view port.new).mine) }
     ensures err { OnErr result ((P.view port.new).mine ≡ (P.view port.old).mine) }
 {
     let (ending, how) = match ending_of(flow) {
@@ -125,6 +129,7 @@ fn broke<P: Port>(port: &mut P, held: &mut Held, how: Outcome, spent: u64) -> Re
     requires idle { Idle (P.view port.old) held.old }
     ensures stays { Stays (P.view port.old) (P.view port.new) }
     ensures ends { OnOk result (GaveAll (P.view port.old).number (P.view port.old).mine (P.view port.new).mine how spent) }
+    ensures grows { OnOk result (lists_in (P.view port.old).mine ≤ lists_in (P.view port.new).mine) }
     ensures part { OnErr result (Gave (P.view port.old).number (P.view port.old).mine (P.view port.new).mine) }
 {
     match give_up(port, held) {
@@ -145,6 +150,7 @@ pub fn spent<P: Port>(port: &mut P, held: &mut Held, fuel: u64) -> Result<Ending
     ensures stays { Stays (P.view port.old) (P.view port.new) }
     ensures ends { IfOk result (λ ending. (outcome ending ≡ outcomes.Fuel) × GaveAll (P.view port.old).number (P.view port.old).mine (P.view port.new).mine outcomes.Fuel fuel) }
     ensures read { IfOk result (λ ending. IsRead ending → ⊥) }
+    ensures grows { OnOk result (lists_in (P.view port.old).mine ≤ lists_in (P.view port.new).mine) }
     ensures part { OnErr result (Gave (P.view port.old).number (P.view port.old).mine (P.view port.new).mine) }
 {
     match broke(port, held, Outcome::Fuel, fuel) {
@@ -159,6 +165,7 @@ pub fn unread<P: Port>(port: &mut P, held: &mut Held, paid: u64) -> Result<Endin
     requires idle { Idle (P.view port.old) held.old }
     ensures stays { Stays (P.view port.old) (P.view port.new) }
     ensures ends { IfOk result (λ ending. (outcome ending ≡ outcomes.Read) × GaveAll (P.view port.old).number (P.view port.old).mine (P.view port.new).mine outcomes.Read paid) }
+    ensures grows { OnOk result (lists_in (P.view port.old).mine ≤ lists_in (P.view port.new).mine) }
     ensures part { OnErr result (Gave (P.view port.old).number (P.view port.old).mine (P.view port.new).mine) }
 {
     match broke(port, held, Outcome::Read, paid) {

@@ -6,6 +6,7 @@ use Rattle.py_value.specs.declared.value.Value.{Value}
 use Rattle.machine_events.specs.declared.event.Event.{Event}
 use Rattle.machine_events.specs.declared.event.Event.TheVariants as e
 use Rattle.machine_events.specs.declared.event.Reply.{Reply}
+use Rattle.machine_events.specs.declared.event.Reply.TheVariants as r
 use Rattle.thread_knowledge.specs.Shown.{Shown, Running, shown_more, named, numbered, load_numbered}
 use Rattle.thread_knowledge.specs.Knowing.{Has}
 use Rattle.spec_core.specs.Names.{tail_of}
@@ -19,7 +20,9 @@ use Rattle.path_finder.specs.Steps as search
 use Rattle.path_finder.specs.declared.words.Probe.{Probe}
 use Rattle.path_finder.specs.declared.words.Found.{Found}
 use Rattle.meanings.specs.Runs.{Run, Safe, due}
-use Rattle.search_meaning.specs.Searches.{searches_in, probe_of, IsKeeping, KeepsAll, Same}
+use Rattle.meanings.specs.Costs.{after_reply}
+use Rattle.search_meaning.specs.Searches.{searches_in, probe_of, IsNamed, IsKeeping, KeepsAll, Same}
+use Rattle.search_meaning.proofs.Naming.{AllNamed, searches_named}
 
 -- ---- each listing of a search is kept at once
 
@@ -113,24 +116,36 @@ is_due (search.Asks dir part next) k keeping = absurd keeping
 is_due (search.Stamps path next) k keeping = absurd keeping
 is_due (search.Lists dir next) k keeping = absurd keeping
 
-pub safe_searches : (it : Search) → KeepsAll it → (s : Shown) (k : Option Found → Run) → s.doing ≡ Running → ((later : Shown) → Same s later → (answer : Option Found) → Safe later (k answer)) → Safe s (searches_in it k)
-safe_searches (search.Ends answer) all s k runs after = after s (same_first s runs) answer
-safe_searches (search.Pays of_tree next) all s k runs after = (runs, safe_searches next all s k runs after)
-safe_searches (search.Asks dir part next) all s k runs after = (
+-- what is paid for a reply changes nothing
+safe_reply : (s : Shown) (reply : Reply) (next : Run) → s.doing ≡ Running → Safe s next → Safe s (after_reply reply next)
+safe_reply s (r.Wait l) next runs h = h
+safe_reply s reply next runs h = (runs, h)
+
+-- the rest is safe behind an answer of this name, while what is held stays
+abbrev pub SafeBehind : List ℕ → Shown → (Option Found → Run) → Type 0
+SafeBehind name s k = (later : Shown) → Same s later → (answer : Option Found) → IsNamed name answer → Safe later (k answer)
+
+safe_searches : (name : List ℕ) (it : Search) → KeepsAll it → AllNamed name it → (s : Shown) (k : Option Found → Run) → s.doing ≡ Running → SafeBehind name s k → Safe s (searches_in it k)
+safe_searches name (search.Ends answer) all named s k runs after = after s (same_first s runs) answer named
+safe_searches name (search.Pays of_tree next) all named s k runs after = (runs, safe_searches name next all named s k runs after)
+safe_searches name (search.Asks dir part next) all named s k runs after = (
   runs,
   (
     (runs, tt),
     λ reply.
-        safe_searches (next (probe_of reply)) (all (probe_of reply)) (shown_more s (e.DirGet dir part, reply)) k runs (λ later same. after later (got s later dir part reply same)),
+        safe_reply (shown_more s (e.DirGet dir part, reply)) reply (searches_in (next (probe_of reply)) k) runs
+        (safe_searches name (next (probe_of reply)) (all (probe_of reply)) (named (probe_of reply)) (shown_more s (e.DirGet dir part, reply)) k runs
+        (λ later same. after later (got s later dir part reply same))),
   ),
 )
-safe_searches (search.Keeps dir listing next) all s k runs after = (
+safe_searches name (search.Keeps dir listing next) all named s k runs after = (
   (runs, tt),
-  λ reply. (runs, safe_searches next all (shown_more s (e.DirSet dir listing, reply)) k runs (λ later same. after later (kept s later dir listing reply same))),
+  λ reply.
+      (runs, safe_searches name next all named (shown_more s (e.DirSet dir listing, reply)) k runs (λ later same. after later (kept s later dir listing reply same))),
 )
-safe_searches (search.Stamps path next) all s k runs after = (runs, λ stamp. safe_searches (next stamp) (all stamp) s k runs after)
-safe_searches (search.Lists dir next) all s k runs after = (runs, λ names. (is_due (next names) k (all names).0, safe_searches (next names) (all names).1 s k runs after))
+safe_searches name (search.Stamps path next) all named s k runs after = (runs, λ stamp. safe_searches name (next stamp) (all stamp) (named stamp) s k runs after)
+safe_searches name (search.Lists dir next) all named s k runs after =
+    (runs, λ names. (is_due (next names) k (all names).0, safe_searches name (next names) (all names).1 (named names) s k runs after))
 
-pub safe_search : (name : List ℕ) (path : List Value) (portions : List (List ℕ)) (s : Shown) (k : Option Found → Run) → s.doing ≡ Running
-    → ((later : Shown) → Same s later → (answer : Option Found) → Safe later (k answer)) → Safe s (searches_in (searches name path portions) k)
-safe_search name path portions s k runs after = safe_searches (searches name path portions) (searches_keep name path portions) s k runs after
+pub safe_search : (name : List ℕ) (path : List Value) (portions : List (List ℕ)) (s : Shown) (k : Option Found → Run) → s.doing ≡ Running → SafeBehind name s k → Safe s (searches_in (searches name path portions) k)
+safe_search name path portions s k runs after = safe_searches name (searches name path portions) (searches_keep name path portions) (searches_named name path portions) s k runs after

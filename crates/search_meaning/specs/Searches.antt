@@ -1,7 +1,5 @@
 -- A search as a part of a run: the tree of its steps with the payments, events and questions of a script.
-use Rattle.std.specs.Prelude.{◌≡◌, ℕ, ◌-◌, ◌^◌, min, List, map, Option, Some, None, false}
-use Rattle.py_value.specs.Measures.{size_of}
-use Rattle.py_value.specs.declared.value.Value.TheVariants as values
+use Rattle.std.specs.Prelude.{◌≡◌, ℕ, List, Option, Some, None}
 use Rattle.machine_events.specs.declared.event.Event.TheVariants as e
 use Rattle.machine_events.specs.declared.event.Reply.{Reply}
 use Rattle.machine_events.specs.declared.event.Reply.TheVariants as r
@@ -13,25 +11,29 @@ use Rattle.path_finder.specs.Steps.{Search}
 use Rattle.path_finder.specs.Steps as search
 use Rattle.path_finder.specs.declared.words.Probe.{Probe}
 use Rattle.path_finder.specs.declared.words.Found.{Found}
-use Rattle.meanings.specs.Runs.{Run, Pays, Looks, Makes, StampOf, NamesOf, make}
+use Rattle.path_finder.specs.declared.words.Found.TheVariants as found
+use Rattle.meanings.specs.Runs.{Run, Pays, Looks, Makes, StampOf, NamesOf}
+use Rattle.meanings.specs.Costs.{pay, texts_units, calls}
 
 -- what a listing's reply tells; any other tells of none
 abbrev pub probe_of : Reply → Option Probe
 probe_of (r.Listing time bare file) = Some (record { time = time; bare = bare; file = file })
 probe_of reply = None
 
--- what is paid for names: their number and their sizes, as for a list of texts
-abbrev pub names_units : List (List ℕ) → ℕ
-names_units names = min (size_of (values.List (map (λ (name : List ℕ). values.Text name) names))) (2 ^ 64 - 1)
-
 -- the run that makes the search and goes on by its answer. An event is paid for but DirSet, after which its names are
 abbrev pub searches_in : Search → (Option Found → Run) → Run
 searches_in (search.Ends answer) k = k answer
 searches_in (search.Pays of_tree next) k = Pays of_tree 1 (searches_in next k)
-searches_in (search.Asks dir part next) k = make (e.DirGet dir part) (λ reply. searches_in (next (probe_of reply)) k)
-searches_in (search.Keeps dir listing next) k = Makes (e.DirSet dir listing) (λ _. Pays false (names_units listing.names) (searches_in next k))
+searches_in (search.Asks dir part next) k = calls (e.DirGet dir part) (λ reply. searches_in (next (probe_of reply)) k)
+searches_in (search.Keeps dir listing next) k = Makes (e.DirSet dir listing) (λ _. pay (texts_units listing.names) (searches_in next k))
 searches_in (search.Stamps path next) k = Looks (StampOf path) (λ stamp. searches_in (next stamp) k)
 searches_in (search.Lists dir next) k = Looks (NamesOf dir) (λ names. searches_in (next names) k)
+
+-- an answer that is a module or a regular package has this name
+abbrev pub IsNamed : List ℕ → Option Found → Type 0
+IsNamed name None = Unit {0}
+IsNamed name (Some (found.Spec spec)) = spec.name ≡ name
+IsNamed name (Some (found.Portions portions)) = Unit {0}
 
 -- the search is about to have a listing kept
 abbrev pub IsKeeping : Search → Type 0

@@ -15,12 +15,12 @@ ghost use Rattle.path_finder.specs.declared.words.LookIn.{LookIn};
 ghost use Rattle.path_finder.specs.declared.words.LookWant.{LookWant};
 ghost use Rattle.meanings.specs.Runs.{Run, Safe, Stands};
 ghost use Rattle.meanings.specs.Lists.{Listed};
-ghost use Rattle.search_meaning.specs.Searches.{searches_in, Same};
+ghost use Rattle.search_meaning.specs.Searches.{searches_in, IsNamed, Same};
 
-/// A search for a name on a path is safe where what follows it is.
+/// A search for a name on a path is safe where what follows it is, for an answer of that name.
 pub fn searches_are_safe()
     ensures { (name : List ℕ) (path : List Value) (portions : List (List ℕ)) (s : Shown) (k : Option Found → Run) → s.doing ≡ Running
-        → ((later : Shown) → Same s later → (answer : Option Found) → Safe later (k answer)) → Safe s (searches_in (searches name path portions) k) }
+        → ((later : Shown) → Same s later → (answer : Option Found) → IsNamed name answer → Safe later (k answer)) → Safe s (searches_in (searches name path portions) k) }
 {}
 
 /// What a search reads in the tree leads the script on.

@@ -1,7 +1,7 @@
 use Rattle.std.proofs.Common.{refl, ap, List, length, slice_get, arith}
 use Rattle.py_syntax.specs.declared.stmt.Stmt.{Stmt}
 use Rattle.py_meaning.specs.Meaning.{around_at}
-use Rattle.py_meaning.specs.Statements.{imports_one}
+use Rattle.py_meaning.specs.ImportStatements.{imports_one}
 use Rattle.py_frames.specs.Does.{aliases_of, imports_some}
 use Rattle.py_blocks.proofs.Parts.{ends, goes}
 use Rattle.py_blocks.proofs.imports.begin_imports.Goals as goal

@@ -7,7 +7,7 @@ use Rattle.py_meaning.specs.Meaning.{meaning}
 use Rattle.py_sources.specs.Sources.{sources}
 use Rattle.py_drive.specs.Turns.{After, Counts}
 use Rattle.py_drive.specs.declared.course.Turn.{Turn}
-use Rattle.py_drive.proofs.Turning.{begins, holds_first, stood, after_turn, parted, refused_at, asked_refl, asked_trans, rose_later}
+use Rattle.py_drive.proofs.Turning.{begins, holds_first, stood, after_turn, parted, refused_at, asked_refl, asked_trans, kept_refl, kept_trans, rose_later}
 use Rattle.py_drive.proofs.drive.run.Goals as goal
 
 pub turns-init : goal.turns-init
@@ -15,7 +15,8 @@ turns-init g c = record {
   stays = stays_refl _;
   holds = holds_first (g.P.Port.view c.args.port.now) c.args.script c.args.fuel c.args.course.now c.requires.begun.first c.requires.fresh;
   at = begins (g.T.Tree.files c.args.tree.now) c.args.script c.args.fuel c.args.text (g.P.Port.view c.args.port.now).mine c.args.course.now c.requires.begun.first c.requires.fresh;
-  asked = asked_refl _ _ _;
+  asked = asked_refl _ _;
+  kept = kept_refl _ _;
 }
 
 pub give-requires : goal.give-requires
@@ -51,6 +52,7 @@ turns-preserved g c =
       at = subst (λ (t : Turn). After files whole c.args.fuel mine' c.give.new.course t) c.in-On.is
           (after_turn files (g.T.Tree.files c.turns.tree) whole c.args.fuel _ _ (g.P.Port.view c.turns.port).mine mine' c.turns.course c.give.new.course c.turns.want c.in-Ok.turn c.turns.invariant.asked.files c.turns.invariant.at c.in-Ok.ensures.turned);
       asked = asked_trans c.turns.invariant.asked c.in-Ok.ensures.asked;
+      kept = kept_trans _ _ _ (g.P.Port.view c.args.port.now).mine (g.P.Port.view c.turns.port).mine mine' c.turns.invariant.kept c.in-Ok.ensures.kept;
     }
 
 pub returns-in-Came-clause-over : goal.returns-in-Came-clause-over

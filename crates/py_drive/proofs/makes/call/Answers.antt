@@ -1,5 +1,6 @@
 use Rattle.std.proofs.Common.{◌≡◌, Err, ap}
 use Rattle.thread_knowledge.specs.Shown.{shown}
+use Rattle.script_end.proofs.Giving.{lists_grow}
 use Rattle.script_port.specs.declared.port.Halt.TheVariants.{Refused}
 use Rattle.py_drive.proofs.Holding.{knows_made}
 use Rattle.py_drive.proofs.Making.{at_made, in_made, refused_here}
@@ -25,3 +26,6 @@ pub returns-in-Err-call-clause-refused : goal.returns-in-Err-call-clause-refused
 returns-in-Err-call-clause-refused g c = λ is files whole fuel a.
     let same : c.in-Err-call.halt ≡ Refused = cc in
     refused_here (g.P.Port.view c.call.new.self) files whole fuel (g.P.Port.view c.args.port.now).mine c.pay.new.self c.args.event _ (c.in-Err-call.ensures.refused (ap Err same)) c.in-Err-call.ensures.err (c.if-not-pay.ensures files whole fuel _ _ a)
+
+pub returns-in-Ok-change-clause-grows : goal.returns-in-Ok-change-clause-grows
+returns-in-Ok-change-clause-grows g c = lists_grow (g.P.Port.view c.args.port.now).mine (g.P.Port.view c.call.new.self).mine c.args.event c.in-Ok-call.reply c.in-Ok-call.ensures.ok.mine

@@ -1,5 +1,6 @@
 use Rattle.std.proofs.Common.{◌≡◌, Err, ap}
 use Rattle.machine_events.specs.declared.event.Event.TheVariants as e
+use Rattle.script_end.proofs.Giving.{lists_grow}
 use Rattle.script_port.specs.declared.port.Halt.TheVariants.{Refused}
 use Rattle.py_drive.proofs.Making.{at_made, in_at, refused_here, holds_woken}
 use Rattle.py_drive.proofs.makes.wait.Goals as goal
@@ -20,3 +21,6 @@ pub returns-in-Err-clause-refused : goal.returns-in-Err-clause-refused
 returns-in-Err-clause-refused g c = λ is files whole fuel a.
     let same : c.in-Err.halt ≡ Refused = cc in
     refused_here (g.P.Port.view c.wait.new.self) files whole fuel (g.P.Port.view c.args.port.now).mine c.args.course.now.purse e.Wake _ (c.in-Err.ensures.refused (ap Err same)) c.in-Err.ensures.err a
+
+pub returns-in-Ok-clause-grows : goal.returns-in-Ok-clause-grows
+returns-in-Ok-clause-grows g c = lists_grow (g.P.Port.view c.args.port.now).mine (g.P.Port.view c.wait.new.self).mine e.Wake c.in-Ok.reply c.in-Ok.ensures.ok.mine

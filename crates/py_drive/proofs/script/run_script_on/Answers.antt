@@ -1,11 +1,15 @@
 use Rattle.std.proofs.Common.{◌≡◌, ◌-◌, ℕ, Option, Some, ◌∙◌, subst}
 use Rattle.std.proofs.lemmas.Result.{IfOk-weaker}
+use Rattle.machine_events.specs.declared.event.Event.TheVariants as ev
+use Rattle.machine_events.specs.declared.event.Reply.TheVariants.{Done}
 use Rattle.tree_files.specs.Files.{Files}
 use Rattle.machine_events.specs.declared.event.Outcome.TheVariants as o
 use Rattle.meanings.specs.Runs.{Run, Stands, StandsIn, IsSpent, IsUnread}
 use Rattle.meanings.proofs.Stand.{in_some}
 use Rattle.script_port.proofs.Staying.{stays_trans}
 use Rattle.script_end.specs.Ending.{GaveAll, Gave}
+use Rattle.script_end.proofs.Giving.{lists_grow}
+use Rattle.py_meaning.specs.Meaning.{outcome_of}
 use Rattle.py_meaning.specs.Meaning.{meaning}
 use Rattle.py_sources.specs.Sources.{sources}
 use Rattle.py_drive.specs.Turns.{ended}
@@ -13,7 +17,7 @@ use Rattle.py_drive.specs.Overs.{Overs}
 use Rattle.py_drive.specs.declared.drive.Over.{Over}
 use Rattle.py_drive.specs.declared.drive.Over.TheVariants as over
 use Rattle.py_drive.proofs.Results.{on_err_then, if_ok}
-use Rattle.py_drive.proofs.Whole.{follows_came, follows_out, follows_read, broken_in, broken_out, broken_read, came_shown, spent_idle, unread_idle, unread_left}
+use Rattle.py_drive.proofs.Whole.{follows_came, follows_out, follows_read, broken_in, broken_out, broken_read, no_end_in, no_end_out, no_end_read, lists_whole, came_shown, spent_idle, unread_idle, unread_left}
 use Rattle.py_drive.proofs.script.run_script_on.Goals as goal
 
 pub returns-in-Err-clause-part : goal.returns-in-Err-clause-part
@@ -162,3 +166,53 @@ returns-clause-read g c =
     let lost : Overs files (g.T.Tree.faults c.args.tree.now) (g.T.Tree.faults c.run.new.tree) whole c.args.fuel v.mine (over.Unread c.in-Unread.left) =
     subst (λ (o : Over). Overs files (g.T.Tree.faults c.args.tree.now) (g.T.Tree.faults c.run.new.tree) whole c.args.fuel v.mine o) c.in-Unread.is c.in-Ok.ensures.over in
     if_ok c.unread.result (λ ending is. lost.1)
+
+pub returns-in-Err-clause-goes_on : goal.returns-in-Err-clause-goes_on
+returns-in-Err-clause-goes_on g c = no_end_in c.args.script (meaning sources c.args.script c.args.text) c.args.fuel _ c.in-Err.ensures.part c.requires.safe
+
+pub returns-in-Came-clause-goes_on : goal.returns-in-Came-clause-goes_on
+returns-in-Came-clause-goes_on g c =
+    let whole : Run = meaning sources c.args.script c.args.text in
+    let files = g.T.Tree.files c.args.tree.now in
+    let v = g.P.Port.view c.run.new.port in
+    let came : Overs files (g.T.Tree.faults c.args.tree.now) (g.T.Tree.faults c.run.new.tree) whole c.args.fuel v.mine (over.Came c.in-Came.flow) =
+    subst (λ (o : Over). Overs files (g.T.Tree.faults c.args.tree.now) (g.T.Tree.faults c.run.new.tree) whole c.args.fuel v.mine o) c.in-Came.is c.in-Ok.ensures.over in
+    on_err_then c.came.result c.came.ensures.err (λ same. rw same (no_end_in c.args.script whole c.args.fuel v.mine (in_some came.1) c.requires.safe))
+
+pub returns-in-Came-clause-lists : goal.returns-in-Came-clause-lists
+returns-in-Came-clause-lists g c =
+    let v = g.P.Port.view c.run.new.port in
+    IfOk-weaker c.came.result _ _ (λ ending ends. lists_whole _ _ (g.P.Port.view c.args.port.now).mine v.mine _ c.requires.begun.first c.in-Ok.ensures.kept
+    (lists_grow v.mine _ (ev.End (outcome_of c.in-Came.flow) c.args.fuel) Done ends.1)) c.came.ensures.ends
+
+pub returns-in-Out-clause-goes_on : goal.returns-in-Out-clause-goes_on
+returns-in-Out-clause-goes_on g c =
+    let whole : Run = meaning sources c.args.script c.args.text in
+    let files = g.T.Tree.files c.args.tree.now in
+    let v = g.P.Port.view c.run.new.port in
+    let mine' = (g.P.Port.view c.spent.new.port).mine in
+    let out : Overs files (g.T.Tree.faults c.args.tree.now) (g.T.Tree.faults c.run.new.tree) whole c.args.fuel v.mine over.Out =
+    subst (λ (o : Over). Overs files (g.T.Tree.faults c.args.tree.now) (g.T.Tree.faults c.run.new.tree) whole c.args.fuel v.mine o) c.in-Out.is c.in-Ok.ensures.over in
+    let number : v.number ≡ c.args.script = c.run.ensures.stays.number ∙ c.requires.begun.number in
+    on_err_then c.spent.result c.spent.ensures.part (λ gave. no_end_out c.args.script whole c.args.fuel out.0 v.mine mine' out.1 c.requires.safe (subst (λ (t : ℕ). Gave t v.mine mine') number gave))
+
+pub returns-in-Out-clause-lists : goal.returns-in-Out-clause-lists
+returns-in-Out-clause-lists g c =
+    let v = g.P.Port.view c.run.new.port in
+    IfOk-weaker c.spent.result _ _ (λ ending grew. lists_whole _ _ (g.P.Port.view c.args.port.now).mine v.mine _ c.requires.begun.first c.in-Ok.ensures.kept grew) c.spent.ensures.grows
+
+pub returns-clause-goes_on : goal.returns-clause-goes_on
+returns-clause-goes_on g c =
+    let whole : Run = meaning sources c.args.script c.args.text in
+    let files = g.T.Tree.files c.args.tree.now in
+    let v = g.P.Port.view c.run.new.port in
+    let mine' = (g.P.Port.view c.unread.new.port).mine in
+    let lost : Overs files (g.T.Tree.faults c.args.tree.now) (g.T.Tree.faults c.run.new.tree) whole c.args.fuel v.mine (over.Unread c.in-Unread.left) =
+    subst (λ (o : Over). Overs files (g.T.Tree.faults c.args.tree.now) (g.T.Tree.faults c.run.new.tree) whole c.args.fuel v.mine o) c.in-Unread.is c.in-Ok.ensures.over in
+    let number : v.number ≡ c.args.script = c.run.ensures.stays.number ∙ c.requires.begun.number in
+    on_err_then c.unread.result c.unread.ensures.part (λ gave. no_end_read c.args.script whole c.args.fuel c.in-Unread.left v.mine mine' lost.0 c.requires.safe (subst (λ (t : ℕ). Gave t v.mine mine') number gave))
+
+pub returns-clause-lists : goal.returns-clause-lists
+returns-clause-lists g c =
+    let v = g.P.Port.view c.run.new.port in
+    IfOk-weaker c.unread.result _ _ (λ ending grew. lists_whole _ _ (g.P.Port.view c.args.port.now).mine v.mine _ c.requires.begun.first c.in-Ok.ensures.kept grew) c.unread.ensures.grows

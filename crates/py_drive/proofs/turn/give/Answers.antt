@@ -49,12 +49,17 @@ returns-in-Wait-clause-part g c = on_err_then c.wait.result c.wait.ensures.part 
 pub returns-in-Wait-clause-refused : goal.returns-in-Wait-clause-refused
 returns-in-Wait-clause-refused g c = λ is whole fuel a. c.wait.ensures.refused is (g.T.Tree.files c.args.tree.now) whole fuel (at_want c.args.course.now c.args.want (wants.Wait c.in-Wait.item) c.in-Wait.is a)
 
-pub returns-in-Ok-stamp-clause-turned : goal.returns-in-Ok-stamp-clause-turned
-returns-in-Ok-stamp-clause-turned g c =
-    turned_at (g.T.Tree.files c.args.tree.now) (g.T.Tree.faults c.args.tree.now) (g.T.Tree.faults c.stamp.new.tree) (g.P.Port.view c.args.port.now).mine _ c.args.course.now c.stamp.new.course c.args.want (wants.Stamp c.in-Stamp.path c.in-Stamp.procedure) c.in-Ok-stamp.turn c.in-Stamp.is
-    (c.in-Ok-stamp.ensures.turned (g.P.Port.view c.args.port.now).mine)
-
 pub returns-in-Ok-file-clause-turned : goal.returns-in-Ok-file-clause-turned
 returns-in-Ok-file-clause-turned g c =
     turned_at (g.T.Tree.files c.args.tree.now) (g.T.Tree.faults c.args.tree.now) (g.T.Tree.faults c.file.new.tree) (g.P.Port.view c.args.port.now).mine _ c.args.course.now c.file.new.course c.args.want (wants.File c.in-File.path c.in-File.procedure) c.in-Ok-file.turn c.in-File.is
     (c.in-Ok-file.ensures.turned (g.P.Port.view c.args.port.now).mine)
+
+pub returns-in-Find-clause-turned : goal.returns-in-Find-clause-turned
+returns-in-Find-clause-turned g c = IfOk-weaker c.find.result _ _ (λ turn turned.
+    turned_at (g.T.Tree.files c.args.tree.now) (g.T.Tree.faults c.args.tree.now) (g.T.Tree.faults c.find.new.tree) (g.P.Port.view c.args.port.now).mine _ c.args.course.now c.find.new.course c.args.want (wants.Find c.in-Find.name c.in-Find.path c.in-Find.procedure) turn c.in-Find.is turned) c.find.ensures.turned
+
+pub returns-in-Find-clause-part : goal.returns-in-Find-clause-part
+returns-in-Find-clause-part g c = on_err_then c.find.result c.find.ensures.part (λ parted. λ whole fuel a. parted whole fuel (at_want c.args.course.now c.args.want (wants.Find c.in-Find.name c.in-Find.path c.in-Find.procedure) c.in-Find.is a))
+
+pub returns-in-Find-clause-refused : goal.returns-in-Find-clause-refused
+returns-in-Find-clause-refused g c = λ is whole fuel a. c.find.ensures.refused is whole fuel (at_want c.args.course.now c.args.want (wants.Find c.in-Find.name c.in-Find.path c.in-Find.procedure) c.in-Find.is a)

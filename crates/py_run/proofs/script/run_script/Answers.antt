@@ -1,6 +1,7 @@
-use Rattle.std.proofs.Common.{List, ℕ, refl, sym, subst}
+use Rattle.std.proofs.Common.{List, ℕ, refl, sym, ap, subst}
 use Rattle.machine_book.proofs.Keeping.{continues_refl}
 use Rattle.meanings.specs.Follows.{Follows}
+use Rattle.meanings.specs.Lists.{ends_in}
 use Rattle.script_end.specs.Ending.{Broken, outcome}
 use Rattle.py_meaning.specs.Meaning.{meaning}
 use Rattle.py_sources.specs.Sources.{sources}
@@ -51,3 +52,18 @@ returns-in-Err-run_script_on-clause-part g c = λ files e.
     let mine = (g.D.Desk.sight c.run_script_on.new.port.desk.now).mine in
     rw same (subst (λ (text : List ℕ). Broken files c.args.script (meaning sources c.args.script text) c.args.fuel mine (g.T.Tree.faults c.args.tree.now) (g.T.Tree.faults c.run_script_on.new.tree)) c.in-Ok.ensures
     (c.in-Err-run_script_on.ensures.part files e))
+
+pub returns-in-Err-clause-goes_on : goal.returns-in-Err-clause-goes_on
+returns-in-Err-clause-goes_on g c = ap ends_in c.requires.first
+
+pub returns-in-Ok-run_script_on-clause-lists : goal.returns-in-Ok-run_script_on-clause-lists
+returns-in-Ok-run_script_on-clause-lists g c =
+    let l = c.run_script_on.ensures.stays.later c.run_script_on.new.port (continues_refl _, refl) in
+    let same = c.desk-1.given.1 (sym l.1) in
+    rw same c.in-Ok-run_script_on.ensures.lists
+
+pub returns-in-Err-run_script_on-clause-goes_on : goal.returns-in-Err-run_script_on-clause-goes_on
+returns-in-Err-run_script_on-clause-goes_on g c =
+    let l = c.run_script_on.ensures.stays.later c.run_script_on.new.port (continues_refl _, refl) in
+    let same = c.desk-1.given.1 (sym l.1) in
+    rw same c.in-Err-run_script_on.ensures.goes_on

@@ -41,3 +41,8 @@ pub returns-clause-lists : goal.returns-clause-lists
 returns-clause-lists g c =
     let left = c.book-2-1.given.1 (sym (ap (λ p. p.name) (c.run_script-ran.ensures.continues.place ∙ c.new-desk.ensures.place))) in
     search rules
+
+pub returns-clause-goes_on : goal.returns-clause-goes_on
+returns-clause-goes_on g c =
+    let left = c.book-2-1.given.1 (sym (ap (λ p. p.name) (c.run_script-ran.ensures.continues.place ∙ c.new-desk.ensures.place))) in
+    search rules

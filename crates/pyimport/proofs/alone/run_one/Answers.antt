@@ -23,7 +23,7 @@ returns-clause-run g c =
     (run_told files c.in-Ok.it.opening opened _ (first_of c.args.texts) c.args.plan.now.fuel old new _ _ c.run_alone-alone.result.ran c.in-Ok.ensures.can_open c.in-Ok.ensures.one c.in-Ok.ensures.opening c.in-Ok.ensures.text c.run_alone-alone.ensures.legal (c.run_alone-alone.ensures.follows files e) (c.run_alone-alone.ensures.part files e) c.run_alone-alone.ensures.read c.finish-status.ensures.short))
 
 pub returns-clause-lists : goal.returns-clause-lists
-returns-clause-lists g c = lists_of_run c.of_run.result _ _ _ _ c.of_run.ensures c.run_alone-alone.ensures.lists
+returns-clause-lists g c = lists_of_run c.of_run.result _ _ c.run_alone-alone.result.ran _ _ c.of_run.ensures c.run_alone-alone.ensures.lists c.run_alone-alone.ensures.goes_on
 
 pub returns-clause-leaves : goal.returns-clause-leaves
 returns-clause-leaves g c =

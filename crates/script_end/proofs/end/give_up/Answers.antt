@@ -1,5 +1,5 @@
 use Rattle.script_port.proofs.Staying.{stays_trans}
-use Rattle.script_end.proofs.Giving.{gives_shown, idle_given, gave_given}
+use Rattle.script_end.proofs.Giving.{gives_shown, idle_given, gave_given, lists_then}
 use Rattle.script_end.proofs.end.give_up.Goals as goal
 
 pub call-requires-clause-knows : goal.call-requires-clause-knows
@@ -14,4 +14,5 @@ loop-hold-preserved g c =
       stays = stays_trans _ _ _ c.loop-hold.invariant.stays c.call.ensures.stays;
       idle = idle_given old new c.in-Some.hold c.event_of.result c.in-Ok.reply c.loop-hold.held c.pop.new.self c.event_of.ensures c.call.ensures.stays c.in-Ok.ensures.ok c.loop-hold.invariant.idle c.in-Some.ensures;
       gave = gave_given first old new c.in-Some.hold c.event_of.result c.in-Ok.reply c.loop-hold.held c.pop.new.self c.event_of.ensures c.loop-hold.invariant.stays c.in-Ok.ensures.ok c.loop-hold.invariant.idle c.in-Some.ensures c.loop-hold.invariant.gave;
+      grows = lists_then first.mine old.mine new.mine c.event_of.result c.in-Ok.reply c.loop-hold.invariant.grows c.in-Ok.ensures.ok.mine;
     }

@@ -1,4 +1,5 @@
-use Rattle.std.proofs.Common.{length}
+use Rattle.std.proofs.Common.{◌≤◌, length}
+use Rattle.meanings.specs.Lists.{lists_in}
 use Rattle.script_port.specs.View.{Stays}
 use Rattle.script_holds.specs.Holds.{held_in}
 use Rattle.script_end.specs.Ending.{Idle, Gave}
@@ -9,6 +10,7 @@ invariant-loop-hold g l = record {
   stays : Stays (g.P.Port.view l.fn.port) (g.P.Port.view l.port);
   idle : Idle (g.P.Port.view l.port) l.held;
   gave : Gave (g.P.Port.view l.fn.port).number (g.P.Port.view l.fn.port).mine (g.P.Port.view l.port).mine;
+  grows : lists_in (g.P.Port.view l.fn.port).mine ≤ lists_in (g.P.Port.view l.port).mine;
 }
 
 abbrev pub decreases-loop-hold : goal.decreases-loop-hold

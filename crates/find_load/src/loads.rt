@@ -1,0 +1,187 @@
+//! What was found is made a module, and its body runs.
+ghost use Rattle.std.specs.Prelude.{IfOk};
+ghost use Rattle.py_meaning.specs.Imports.{adds, adds_namespace, has_text, loads, namespace_made, reads_file};
+ghost use Rattle.find_load.specs.Means.{Goes};
+ghost use Rattle.find_load.specs.UnderWay.{again, does_at, namespace_stage};
+ghost use Rattle.find_load.specs.declared.import.Stage.TheVariants as stages;
+ghost use Rattle.find_load.specs.declared.words.In.TheVariants as ins;
+
+use crate::files::path_of;
+use crate::import::{Importer, Stage};
+use crate::looks::ask;
+use crate::raises::{
+    give_back, give_back_misfit, give_back_not_found, lost, lost_parent, misfit_reply,
+};
+use crate::words::Want;
+use base_types::{Exact, NoMemory, Seq, Texts, TreePath};
+use machine_events::{Event, Reply};
+use path_finder::Found;
+use py_faults::Fault;
+use py_state::Flow;
+use py_value::{Items, NsState};
+use spec_core::{Spec, SpecKind};
+
+/// The file of the spec is to be read. A text that is no tree path names no file.
+fn read_file(p: &mut Importer, spec: Spec, file: Option<TreePath>) -> Result<Want, NoMemory>
+    ensures goes { IfOk result (Goes (λ inside. reads_file inside (again p.old inside) p.old.name spec file) p.new) }
+{
+    match file {
+        Some(file) => {
+            p.stage = Stage::File(spec);
+            Ok(Want::File(file))
+        }
+        None => give_back_not_found(p),
+    }
+}
+
+/// A spec was found.
+fn load(p: &mut Importer, found: Spec) -> Result<Want, NoMemory>
+    ensures goes { IfOk result (Goes (λ inside. loads inside (again p.old inside) p.old.name found found.kind) p.new) }
+{
+    let file = match &found.kind {
+        SpecKind::Source { file } => path_of(file)?,
+        SpecKind::Package { file, .. } => path_of(file)?,
+        _ => {
+            drop(found);
+            return give_back(p, Fault::NotInProfile);
+        }
+    };
+    read_file(p, found, file)
+}
+
+/// A namespace is made of the portions that were found.
+fn add_namespace(
+    p: &mut Importer,
+    epoch: u64,
+    path: Items,
+    portions: Texts,
+) -> Result<Want, NoMemory>
+    ensures goes { IfOk result (Goes (λ inside. adds_namespace (again p.old inside) p.old.name epoch path portions) p.new) }
+{
+    let name = p.name.copy()?;
+    let text = Seq::new(name.alloc());
+    let kind = SpecKind::Namespace {
+        path: portions.copy()?,
+    };
+    p.stage = Stage::NamespaceAdded {
+        epoch,
+        path,
+        portions,
+    };
+    Ok(Want::Call(Event::Add {
+        spec: Spec { name, kind },
+        text,
+    }))
+}
+
+/// What the search came to, on this path.
+pub(crate) fn discover(
+    p: &mut Importer,
+    epoch: u64,
+    path: Items,
+    answer: Option<Found>,
+) -> Result<Want, NoMemory>
+    ensures goes { IfOk result (Goes (does_at p.old (stages.Searched epoch path) (ins.Found answer)) p.new) }
+{
+    match answer {
+        None => give_back_not_found(p),
+        Some(Found::Spec(found)) => load(p, found),
+        Some(Found::Portions(portions)) => add_namespace(p, epoch, path, portions),
+    }
+}
+
+/// The module of a file is made.
+fn add(p: &mut Importer, spec: Spec, text: Seq<u8>) -> Result<Want, NoMemory>
+    ensures goes { IfOk result (Goes (λ inside. adds inside (again p.old inside) p.old.name spec text) p.new) }
+{
+    let kept = text.copy()?;
+    p.stage = Stage::Added(kept);
+    Ok(Want::Call(Event::Add { spec, text }))
+}
+
+/// The text of a file was read, if it is not too long for a source.
+fn has_text(p: &mut Importer, spec: Spec, text: Option<Seq<u8>>) -> Result<Want, NoMemory>
+    ensures goes { IfOk result (Goes (λ inside. has_text inside (again p.old inside) p.old.name spec text) p.new) }
+{
+    match text {
+        Some(text) => add(p, spec, text),
+        None => give_back(p, Fault::TooLong),
+    }
+}
+
+/// The file was opened, if one stands there.
+pub(crate) fn opened(
+    p: &mut Importer,
+    spec: Spec,
+    text: Option<Option<Seq<u8>>>,
+) -> Result<Want, NoMemory>
+    ensures goes { IfOk result (Goes (does_at p.old (stages.File spec) (ins.Opened text)) p.new) }
+{
+    match text {
+        Some(text) => has_text(p, spec, text),
+        None => give_back_not_found(p),
+    }
+}
+
+/// The module was made: its body runs.
+pub(crate) fn added(p: &mut Importer, text: Seq<u8>, reply: Reply) -> Result<Want, NoMemory>
+    ensures goes { IfOk result (Goes (does_at p.old (stages.Added text) (ins.Replied reply)) p.new) }
+{
+    match reply {
+        Reply::Load(load, mid) => {
+            p.stage = Stage::Running(load);
+            Ok(Want::Body { mid, load, text })
+        }
+        other => give_back_misfit(p, other),
+    }
+}
+
+/// The namespace was made: the path that it was found on is kept.
+pub(crate) fn namespace_added(
+    p: &mut Importer,
+    state: NsState,
+    reply: Reply,
+) -> Result<Want, NoMemory>
+    ensures goes { IfOk result (Goes (does_at p.old (namespace_stage state) (ins.Replied reply)) p.new) }
+{
+    match reply {
+        Reply::Load(load, mid) => {
+            p.stage = Stage::NamespaceKept(load);
+            Ok(Want::Call(Event::NsSet { mid, state }))
+        }
+        other => give_back_misfit(p, other),
+    }
+}
+
+/// The load ends well. A namespace's does without a body.
+pub(crate) fn finish(p: &mut Importer, load: u32) -> Want
+    ensures goes { Goes (λ inside. namespace_made (again p.old inside) p.old.name load) p.new result }
+{
+    p.stage = Stage::Finished;
+    Want::Call(Event::Finish { load, good: true })
+}
+
+/// The body of the module ended.
+pub(crate) fn ended(p: &mut Importer, load: u32, flow: Flow) -> Want
+    ensures goes { Goes (does_at p.old (stages.Running load) (ins.Ended flow)) p.new result }
+{
+    match flow {
+        Flow::Went(_) => finish(p, load),
+        Flow::Left(leave) => {
+            p.stage = Stage::Left(Flow::Left(leave));
+            Want::Call(Event::Finish { load, good: false })
+        }
+    }
+}
+
+/// After a good body the entry is looked up again, unless it or its parent's is lost.
+pub(crate) fn finished(p: &mut Importer, reply: Reply) -> Result<Want, NoMemory>
+    ensures goes { IfOk result (Goes (does_at p.old stages.Finished (ins.Replied reply)) p.new) }
+{
+    match reply {
+        Reply::Kept(_) => ask(p, false),
+        Reply::Lost => lost(p),
+        Reply::LostParent => lost_parent(p),
+        other => misfit_reply(p, other),
+    }
+}

@@ -1,0 +1,76 @@
+//! The reading of a module's path (Language Reference 5.4.5).
+ghost use Rattle.std.specs.Prelude.{◌≡◌};
+ghost use Rattle.py_meaning.specs.Pieces as pieces;
+ghost use Rattle.module_paths.specs.declared.reader.Stage.TheVariants as stages;
+
+use find_load::most;
+use py_value::{Items, ModRef, NsState};
+use spec_core::Dotted;
+
+/// A namespace whose state was read: its name, its state, and the epoch of the machine.
+#[derive(Drop)]
+pub struct Namespace {
+    pub name: Dotted,
+    pub state: NsState,
+    pub epoch: u64,
+}
+
+/// What the reading of a path waits for.
+#[derive(Drop)]
+pub enum Stage {
+    /// Its start.
+    Begins,
+    /// The module's `__path__`.
+    Read,
+    /// Its start, where that is known to be the path of a namespace.
+    Replaces,
+    /// The state of the namespace.
+    StateRead,
+    /// The search path.
+    AtTop(Namespace),
+    /// The entry of the parent.
+    AtEntry(Namespace),
+    /// The path of the module that stands there.
+    Above(Namespace),
+    /// What is found on this path.
+    Searched {
+        state: NsState,
+        epoch: u64,
+        path: Items,
+    },
+    /// That this state is kept.
+    Kept(NsState),
+}
+
+/// A path that is read: the module's, how many more modules may stand one above the other, and what it
+/// waits for.
+#[derive(Drop)]
+pub struct PathReader {
+    pub module: ModRef,
+    pub turns: u64,
+    pub stage: Stage,
+}
+
+impl PathReader {
+    /// The path of a module, before its `__path__` is read.
+    pub fn start(module: ModRef, turns: u64) -> PathReader
+        ensures { result ≡ record { «module» = «module»; turns = turns; stage = stages.Begins } }
+    {
+        PathReader {
+            module,
+            turns,
+            stage: Stage::Begins,
+        }
+    }
+
+    /// The path of a namespace, whose `__path__` was read.
+    pub fn replacing(module: ModRef) -> PathReader
+        ensures { result ≡ record { «module» = «module»; turns = pieces.most; stage = stages.Replaces } }
+    {
+        PathReader {
+            module,
+            turns: most(),
+            stage: Stage::Replaces,
+        }
+    }
+}

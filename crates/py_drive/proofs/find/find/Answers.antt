@@ -1,0 +1,38 @@
+use Rattle.std.proofs.Common.{◌≡◌, Option, Err, ap}
+use Rattle.meanings.specs.Runs.{Run}
+use Rattle.path_finder.specs.declared.words.Found.{Found}
+use Rattle.find_load.specs.declared.words.In.TheVariants as given
+use Rattle.script_port.specs.declared.port.Halt.TheVariants.{Refused}
+use Rattle.py_drive.specs.Turns.{feeds}
+use Rattle.py_drive.proofs.Finding.{in_sought}
+use Rattle.py_drive.proofs.find.find.Goals as goal
+
+pub seek-requires-clause-ready : goal.seek-requires-clause-ready
+seek-requires-clause-ready g c = c.requires.stood.ready
+
+pub seek-requires-clause-safe : goal.seek-requires-clause-safe
+seek-requires-clause-safe g c = ((λ answer. feeds c.args.course.now c.args.procedure (given.Found answer)), c.requires.stood.safe)
+
+pub returns-in-Ok-found-clause-turned : goal.returns-in-Ok-found-clause-turned
+returns-in-Ok-found-clause-turned g c =
+    let k : Option Found → Run = λ answer. feeds c.args.course.now c.args.procedure (given.Found answer) in
+    record {
+      moves = λ whole fuel a. c.in-Ok-found.ensures.after (g.T.Tree.files c.args.tree.now) whole fuel (g.P.Port.view c.seek.new.port).mine (c.in-Ok.ensures.searched.moves k whole fuel a);
+      counts = c.in-Ok-found.ensures.counts _ _ c.in-Ok.ensures.searched.counts;
+    }
+
+pub returns-in-Err-found-clause-part : goal.returns-in-Err-found-clause-part
+returns-in-Err-found-clause-part g c = λ whole fuel a.
+    let k : Option Found → Run = λ answer. feeds c.args.course.now c.args.procedure (given.Found answer) in
+    in_sought c.seek.new.purse k c.in-Ok.sought (c.in-Ok.ensures.searched.moves k whole fuel a)
+
+pub returns-in-Err-clause-part : goal.returns-in-Err-clause-part
+returns-in-Err-clause-part g c = λ whole fuel a. c.in-Err.ensures.part (λ answer. feeds c.args.course.now c.args.procedure (given.Found answer)) whole fuel a
+
+pub returns-in-Err-clause-refused : goal.returns-in-Err-clause-refused
+returns-in-Err-clause-refused g c = λ is whole fuel a.
+    let same : c.in-Err.halt ≡ Refused = cc in
+    c.in-Err.ensures.refused (ap Err same) (λ answer. feeds c.args.course.now c.args.procedure (given.Found answer)) whole fuel a
+
+pub returns-in-Ok-found-clause-holds : goal.returns-in-Ok-found-clause-holds
+returns-in-Ok-found-clause-holds g c = rw c.found.ensures.held (c.in-Ok.ensures.holds c.args.course.now.held c.requires.stood.holds)

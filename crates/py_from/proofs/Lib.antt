@@ -1,0 +1,4 @@
+pub mod Parts
+pub mod Levels
+pub mod Lifts
+pub mod Lists

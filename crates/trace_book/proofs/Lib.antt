@@ -1,5 +1,0 @@
-pub mod Beginnings
-pub mod Owns
-pub mod Keeps
-pub mod Passes
-pub mod Moves

@@ -1,0 +1,3 @@
+import shop.till
+
+print(shop.till.total(3))

@@ -1,0 +1,3 @@
+from .prices import apple
+
+print("shop is open")

@@ -1,0 +1,2 @@
+apple = 2
+print("prices are known")

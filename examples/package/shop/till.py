@@ -1,0 +1,7 @@
+from . import apple
+
+print("till is open")
+
+
+def total(count):
+    return count * apple
