@@ -4,10 +4,10 @@ use Rattle.std.specs.Prelude.{ℕ, Bool, true, false, ◌==◌, nat_eq, List, []
 use Rattle.std.specs.List.{list_any}
 use Rattle.std.specs.Option.{option_map, option_or, option_and_then}
 use Rattle.std.specs.Cmp.Lexicographic.{pointwise}
-use Rattle.import_words.specs.declared.option.Setting.{Setting}
-use Rattle.import_words.specs.declared.option.Setting.TheVariants as setting
-use Rattle.import_words.specs.declared.option.Settings.{Settings}
-use Rattle.import_words.specs.declared.option.Front.{Front}
+use Rattle.command_words.specs.Setting.{Setting}
+use Rattle.command_words.specs.Setting as setting
+use Rattle.command_words.specs.declared.found.Settings.{Settings}
+use Rattle.command_words.specs.declared.found.Front.{Front}
 
 abbrev pub Word : Type 0
 Word = List ℕ
