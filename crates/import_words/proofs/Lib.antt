@@ -1,4 +1,5 @@
-mod Narrowed
+mod Fronts
+mod Options
 mod Slashes
 mod Cuts
 mod Digits

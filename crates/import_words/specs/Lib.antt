@@ -1,2 +1,3 @@
 pub mod Plans
 pub mod Usage
+pub mod Words

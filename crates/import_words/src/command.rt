@@ -4,7 +4,17 @@ ghost use Rattle.std.specs.String.{string_bytes};
 ghost use Rattle.import_words.specs.Plans.{command_of};
 ghost use Rattle.import_words.specs.Usage.{usage_by, usage_of};
 
-use command_words::Command;
+/// A command of the program.
+#[derive(Clone, Copy)]
+pub enum Command {
+    Run,
+    Gen,
+    Check,
+    Convert,
+    Module,
+    Report,
+    Bundle,
+}
 
 /// The command that a word names.
 pub(crate) fn command_of(word: &str) -> Option<Command>

@@ -3,6 +3,7 @@
 
 mod command;
 mod number;
+mod option;
 mod path;
 mod plan;
 mod read;

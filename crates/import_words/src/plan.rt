@@ -1,6 +1,5 @@
 //! What a command line asks for.
 use base_types::{NoMemory, Text, Texts};
-use thiserror::Error;
 
 /// A run of scripts, or of modules as programs.
 #[derive(Drop)]
@@ -53,12 +52,10 @@ pub enum Plan {
 }
 
 /// Why there is no plan.
-#[derive(Clone, Copy, Debug, Error)]
+#[derive(Drop)]
 pub enum WordsError {
     /// The words are refused.
-    #[error("the words are refused")]
     Usage,
-    #[error("out of memory")]
     NoMemory,
 }
 

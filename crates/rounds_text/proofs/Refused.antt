@@ -237,5 +237,5 @@ one_list a b bytes f g = let same : Ok a ≡ Ok b = sym (file_found a bytes f) �
 -- what reading line by line answers, said by the grammar
 pub says_from : (bytes : List ℕ) (r : Result Rounds RoundsError) → Reads (rounds_in bytes) r → Says bytes r
 says_from bytes (Ok rounds) h = file_only rounds.list bytes h
-says_from bytes (Err (error.At line)) h = refused_at line bytes h
+says_from bytes (Err (error.At line)) (n, is, number) = (n, refused_at n bytes is, number)
 says_from bytes (Err error.NoMemory) h = tt

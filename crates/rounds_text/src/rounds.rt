@@ -1,6 +1,5 @@
 //! What a rounds file says.
 use base_types::{NoMemory, Seq, Texts};
-use thiserror::Error;
 use tree_files::Edit;
 
 /// The edits that are made before a round, in order, and the scripts that run in it.
@@ -18,12 +17,10 @@ pub struct Rounds {
 }
 
 /// Why there are no rounds.
-#[derive(Clone, Copy, Debug, Error)]
+#[derive(Drop)]
 pub enum RoundsError {
-    /// The first line, counted from 1, at which no rounds file goes on.
-    #[error("no rounds file goes on with line {line}")]
+    /// The first line, counted from 1, at which no rounds file goes on. The count stands still at 2 ^ 32 - 1.
     At { line: u32 },
-    #[error("out of memory")]
     NoMemory,
 }
 
