@@ -5,4 +5,3 @@ pub mod Alone
 pub mod Asking
 pub mod Missing
 pub mod Lifts
-pub mod Listed

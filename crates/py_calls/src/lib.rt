@@ -6,9 +6,7 @@ mod callees;
 mod few;
 mod functions;
 mod kinds;
-mod loading;
 mod natives;
-mod operands;
 mod print;
 
 pub use attributes::{give_default, tell};

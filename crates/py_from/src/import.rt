@@ -41,7 +41,6 @@ fn import_alias(
         let item = Item::Import {
             name: part,
             is_parent: false,
-            is_lazy: false,
         };
         return Ok(Want::Both(item, Frame::Store(bound)));
     }
@@ -50,7 +49,6 @@ fn import_alias(
     let item = Item::Import {
         name,
         is_parent: false,
-        is_lazy: false,
     };
     Ok(Want::Both(item, Frame::Front { stmts, at, place }))
 }
@@ -88,7 +86,6 @@ fn import_front(
     let item = Item::Import {
         name,
         is_parent: false,
-        is_lazy: false,
     };
     Ok(Want::Both(item, Frame::Fronted { stmts, at, place }))
 }
