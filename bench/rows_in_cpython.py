@@ -234,8 +234,8 @@ def search_rows():
 
 OWN_TEXTS = "# Texts of this project's own"
 # Runs a script as CPython runs one that it is given, with these entries alone as search path. (`unicodedata` gives names
-# their normal form, and would be looked for on the search path.)
-RUNNER = """import sys, unicodedata
+# their normal form, and would be looked for on the search path, as `importlib` would.)
+RUNNER = """import sys, importlib, unicodedata
 entries, script = sys.argv[1:]
 sys.argv[1:] = []
 sys.path[:] = entries.split(":")
@@ -244,7 +244,7 @@ names = vars(sys.modules["__main__"])
 with open(script, "rb") as source:
     code = compile(source.read(), script, "exec")
 names["__file__"] = script
-for name in ("sys", "unicodedata", "entries", "script", "source", "name"):
+for name in ("sys", "importlib", "unicodedata", "entries", "script", "source", "name"):
     names.pop(name, None)
 exec(code, names)
 """

@@ -4,23 +4,27 @@ use Rattle.py_value.specs.declared.value.NsState.{NsState}
 use Rattle.py_value.specs.declared.value.Value.{Value}
 use Rattle.py_meaning.specs.Pieces.{Piece}
 use Rattle.py_meaning.specs.Imports.{Inside, asks, finds}
-use Rattle.find_load.specs.Means.{does}
+use Rattle.find_load.specs.Means.{does, lazily}
 use Rattle.find_load.specs.declared.words.In.{In}
 use Rattle.find_load.specs.declared.import.Stage.{Stage}
 use Rattle.find_load.specs.declared.import.Stage.TheVariants as stage
 use Rattle.find_load.specs.declared.import.Importer.{Importer}
 
+-- what it goes into
+abbrev pub within : Importer → Inside → Inside
+within p inside = lazily p.is_lazy inside
+
 -- what it does at a stage by what it is fed
 abbrev pub does_at : Importer → Stage → In → Inside → Piece
-does_at p at input inside = does inside p.turns p.name at input
+does_at p at input inside = does (within p inside) p.turns p.name at input
 
 -- its next turn: a look into the cache and what follows
 abbrev pub again : Importer → Inside → Piece
-again p inside = asks inside p.turns false p.name
+again p inside = asks (within p inside) p.turns false p.name
 
 -- the search for its name on a path and what follows, with the epoch of its lock
 abbrev pub found_on : Importer → ℕ → Inside → List Value → Piece
-found_on p epoch inside = finds inside (again p inside) p.name epoch
+found_on p epoch inside = finds (within p inside) (again p inside) p.name epoch
 
 -- the stage at which the namespace with this state is made
 abbrev pub namespace_stage : NsState → Stage

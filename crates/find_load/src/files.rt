@@ -5,7 +5,7 @@ ghost use Rattle.path_finder.specs.Entries.{path_of};
 use base_types::{NoMemory, Text, TreePath};
 
 /// The tree path that a text spells, if it is one.
-pub(crate) fn path_of(text: &Text) -> Result<Option<TreePath>, NoMemory>
+pub fn path_of(text: &Text) -> Result<Option<TreePath>, NoMemory>
     ensures { IfOk result (λ it. it ≡ path_of text.now) }
 {
     TreePath::read(text)

@@ -43,6 +43,8 @@ pub enum Stage {
     File(Spec),
     /// The module, whose body has this text.
     Added(Seq<u8>),
+    /// The module that is loaded at its first use.
+    AddedLazy,
     /// The end of the body of this load.
     Running(u32),
     /// The namespace that these portions make, found on this path.
@@ -61,11 +63,13 @@ pub enum Stage {
     Left(Flow),
 }
 
-/// An import that is under way: its name, how many more turns it may take, and what it waits for.
+/// An import that is under way: its name, how many more turns it may take, whether the module is to be
+/// loaded at its first use only, and what it waits for.
 #[derive(Drop)]
 pub struct Importer {
     pub name: Dotted,
     pub turns: u64,
+    pub is_lazy: bool,
     pub stage: Stage,
 }
 
@@ -78,13 +82,14 @@ pub fn most() -> u64
 
 impl Importer {
     /// The import of a name, before its first look into the cache; whether the name is the parent of
-    /// one that is imported.
-    pub fn start(name: Dotted, is_parent: bool) -> Importer
-        ensures { result ≡ record { name = name; turns = pieces.most; stage = stages.Begins is_parent } }
+    /// one that is imported, and whether its module is loaded at its first use only.
+    pub fn start(name: Dotted, is_parent: bool, is_lazy: bool) -> Importer
+        ensures { result ≡ record { name = name; turns = pieces.most; is_lazy = is_lazy; stage = stages.Begins is_parent } }
     {
         Importer {
             name,
             turns: most(),
+            is_lazy,
             stage: Stage::Begins(is_parent),
         }
     }

@@ -11,6 +11,8 @@ mod raises;
 mod steps;
 mod words;
 
+pub use files::path_of;
 pub use import::{Importer, Stage, most};
+pub use raises::parent_of;
 pub use steps::next;
 pub use words::{In, Want};

@@ -1,14 +1,15 @@
 //! What was found is made a module, and its body runs.
 ghost use Rattle.std.specs.Prelude.{IfOk};
-ghost use Rattle.py_meaning.specs.Imports.{adds, adds_namespace, has_text, loads, namespace_made, reads_file};
+ghost use Rattle.py_meaning.specs.Imports.{adds, adds_lazy, adds_namespace, has_text, loads, makes, namespace_made, reads_file};
+ghost use Rattle.machine_events.specs.declared.event.Reply.TheVariants as replies;
 ghost use Rattle.find_load.specs.Means.{Goes};
-ghost use Rattle.find_load.specs.UnderWay.{again, does_at, namespace_stage};
+ghost use Rattle.find_load.specs.UnderWay.{again, does_at, namespace_stage, within};
 ghost use Rattle.find_load.specs.declared.import.Stage.TheVariants as stages;
 ghost use Rattle.find_load.specs.declared.words.In.TheVariants as ins;
 
 use crate::files::path_of;
 use crate::import::{Importer, Stage};
-use crate::looks::ask;
+use crate::looks::{answer, ask};
 use crate::raises::{
     give_back, give_back_misfit, give_back_not_found, lost, lost_parent, misfit_reply,
 };
@@ -23,7 +24,7 @@ use spec_core::{Spec, SpecKind};
 
 /// The file of the spec is to be read. A text that is no tree path names no file.
 fn read_file(p: &mut Importer, spec: Spec, file: Option<TreePath>) -> Result<Want, NoMemory>
-    ensures goes { IfOk result (Goes (λ inside. reads_file inside (again p.old inside) p.old.name spec file) p.new) }
+    ensures goes { IfOk result (Goes (λ inside. reads_file (within p.old inside) (again p.old inside) p.old.name spec file) p.new) }
 {
     match file {
         Some(file) => {
@@ -36,7 +37,7 @@ fn read_file(p: &mut Importer, spec: Spec, file: Option<TreePath>) -> Result<Wan
 
 /// A spec was found.
 fn load(p: &mut Importer, found: Spec) -> Result<Want, NoMemory>
-    ensures goes { IfOk result (Goes (λ inside. loads inside (again p.old inside) p.old.name found found.kind) p.new) }
+    ensures goes { IfOk result (Goes (λ inside. loads (within p.old inside) (again p.old inside) p.old.name found found.kind) p.new) }
 {
     let file = match &found.kind {
         SpecKind::Source { file } => path_of(file)?,
@@ -92,19 +93,37 @@ pub(crate) fn discover(
 
 /// The module of a file is made.
 fn add(p: &mut Importer, spec: Spec, text: Seq<u8>) -> Result<Want, NoMemory>
-    ensures goes { IfOk result (Goes (λ inside. adds inside (again p.old inside) p.old.name spec text) p.new) }
+    ensures goes { IfOk result (Goes (λ inside. adds (within p.old inside) (again p.old inside) p.old.name spec text) p.new) }
 {
     let kept = text.copy()?;
     p.stage = Stage::Added(kept);
     Ok(Want::Call(Event::Add { spec, text }))
 }
 
+/// A lazy module of a file is made: the machine alone keeps its text.
+fn add_lazy(p: &mut Importer, spec: Spec, text: Seq<u8>) -> Want
+    ensures goes { Goes (λ inside. adds_lazy p.old.name spec text) p.new result }
+{
+    p.stage = Stage::AddedLazy;
+    Want::Call(Event::AddLazy { spec, text })
+}
+
+/// The module of a file is made, whose body runs now, or at its first use.
+fn make(p: &mut Importer, spec: Spec, text: Seq<u8>) -> Result<Want, NoMemory>
+    ensures goes { IfOk result (Goes (λ inside. makes (within p.old inside) (again p.old inside) p.old.name spec text) p.new) }
+{
+    if p.is_lazy {
+        return Ok(add_lazy(p, spec, text));
+    }
+    add(p, spec, text)
+}
+
 /// The text of a file was read, if it is not too long for a source.
 fn has_text(p: &mut Importer, spec: Spec, text: Option<Seq<u8>>) -> Result<Want, NoMemory>
-    ensures goes { IfOk result (Goes (λ inside. has_text inside (again p.old inside) p.old.name spec text) p.new) }
+    ensures goes { IfOk result (Goes (λ inside. has_text (within p.old inside) (again p.old inside) p.old.name spec text) p.new) }
 {
     match text {
-        Some(text) => add(p, spec, text),
+        Some(text) => make(p, spec, text),
         None => give_back(p, Fault::TooLong),
     }
 }
@@ -123,16 +142,37 @@ pub(crate) fn opened(
     }
 }
 
+/// The body of the module runs.
+fn run_body(p: &mut Importer, mid: u32, load: u32, text: Seq<u8>) -> Result<Want, NoMemory>
+    ensures goes { IfOk result (Goes (does_at p.old (stages.Added text) (ins.Replied (replies.Load load mid))) p.new) }
+{
+    let name = p.name.owned()?;
+    p.stage = Stage::Running(load);
+    Ok(Want::Body {
+        mid,
+        load,
+        name,
+        text,
+    })
+}
+
 /// The module was made: its body runs.
 pub(crate) fn added(p: &mut Importer, text: Seq<u8>, reply: Reply) -> Result<Want, NoMemory>
     ensures goes { IfOk result (Goes (does_at p.old (stages.Added text) (ins.Replied reply)) p.new) }
 {
     match reply {
-        Reply::Load(load, mid) => {
-            p.stage = Stage::Running(load);
-            Ok(Want::Body { mid, load, text })
-        }
+        Reply::Load(load, mid) => run_body(p, mid, load, text),
         other => give_back_misfit(p, other),
+    }
+}
+
+/// The lazy module was made, and is the answer.
+pub(crate) fn added_lazy(p: &mut Importer, reply: Reply) -> Result<Want, NoMemory>
+    ensures goes { IfOk result (Goes (does_at p.old stages.AddedLazy (ins.Replied reply)) p.new) }
+{
+    match reply {
+        Reply::Module(module) => Ok(answer(p, module)),
+        other => misfit_reply(p, other),
     }
 }
 

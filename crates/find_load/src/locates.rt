@@ -4,7 +4,7 @@ ghost use Rattle.machine_events.specs.declared.module.Slot.TheVariants as slots;
 ghost use Rattle.py_state.specs.declared.flow.Flow.TheVariants as flows;
 ghost use Rattle.py_meaning.specs.Imports.{has_lock, on_parent, reads_path};
 ghost use Rattle.find_load.specs.Means.{Goes};
-ghost use Rattle.find_load.specs.UnderWay.{again, does_at, found_on};
+ghost use Rattle.find_load.specs.UnderWay.{again, does_at, found_on, within};
 ghost use Rattle.find_load.specs.declared.import.Stage.TheVariants as stages;
 ghost use Rattle.find_load.specs.declared.words.In.TheVariants as ins;
 
@@ -21,7 +21,7 @@ use spec_core::Dotted;
 
 /// The entry of the parent is read.
 fn read_entry(p: &mut Importer, epoch: u64, parent: Dotted) -> Result<Want, NoMemory>
-    ensures goes { IfOk result (Goes (λ inside. reads_path (found_on p.old epoch inside) p.old.name (Some parent)) p.new) }
+    ensures goes { IfOk result (Goes (λ inside. reads_path (within p.old inside) (found_on p.old epoch inside) p.old.name (Some parent)) p.new) }
 {
     let event = Event::TabGet(parent.copy()?);
     p.stage = Stage::ParentEntry { epoch, parent };
@@ -30,7 +30,7 @@ fn read_entry(p: &mut Importer, epoch: u64, parent: Dotted) -> Result<Want, NoMe
 
 /// The search path is read.
 fn read_search_path(p: &mut Importer, epoch: u64) -> Want
-    ensures goes { Goes (λ inside. reads_path (found_on p.old epoch inside) p.old.name None) p.new result }
+    ensures goes { Goes (λ inside. reads_path (within p.old inside) (found_on p.old epoch inside) p.old.name None) p.new result }
 {
     p.stage = Stage::SearchPath(epoch);
     Want::Call(Event::PathGet)
@@ -39,7 +39,7 @@ fn read_search_path(p: &mut Importer, epoch: u64) -> Want
 /// With the lock the path is read: for a name without a dot the search path, for any other that of the module
 /// which the cache has for its parent.
 pub(crate) fn locate(p: &mut Importer, epoch: u64) -> Result<Want, NoMemory>
-    ensures goes { IfOk result (Goes (λ inside. has_lock inside (again p.old inside) p.old.name epoch) p.new) }
+    ensures goes { IfOk result (Goes (λ inside. has_lock (within p.old inside) (again p.old inside) p.old.name epoch) p.new) }
 {
     match parent_of(&p.name)? {
         Some(parent) => read_entry(p, epoch, parent),
@@ -69,7 +69,7 @@ pub(crate) fn on_search_path(p: &mut Importer, epoch: u64, reply: Reply) -> Resu
 
 /// The path of the module that stands in the parent's entry is wanted.
 fn read_path(p: &mut Importer, epoch: u64, parent: Dotted, module: ModRef) -> Want
-    ensures goes { Goes (λ inside. on_parent (found_on p.old epoch inside) p.old.name parent (slots.Module «module»)) p.new result }
+    ensures goes { Goes (λ inside. on_parent (within p.old inside) (found_on p.old epoch inside) p.old.name parent (slots.Module «module»)) p.new result }
 {
     p.stage = Stage::ParentPath { epoch, parent };
     Want::Path {
@@ -80,7 +80,7 @@ fn read_path(p: &mut Importer, epoch: u64, parent: Dotted, module: ModRef) -> Wa
 
 /// What stands in the parent's entry.
 fn on_parent(p: &mut Importer, epoch: u64, parent: Dotted, slot: Slot) -> Result<Want, NoMemory>
-    ensures goes { IfOk result (Goes (λ inside. on_parent (found_on p.old epoch inside) p.old.name parent slot) p.new) }
+    ensures goes { IfOk result (Goes (λ inside. on_parent (within p.old inside) (found_on p.old epoch inside) p.old.name parent slot) p.new) }
 {
     match slot {
         Slot::Absent => give_back_lost(p, parent),

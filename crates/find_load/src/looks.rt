@@ -4,7 +4,7 @@ ghost use Rattle.machine_events.specs.declared.event.Event.TheVariants as ev;
 ghost use Rattle.meanings.specs.Runs.{Makes};
 ghost use Rattle.py_meaning.specs.Imports.{answers, asks, halts, met, misses, takes};
 ghost use Rattle.find_load.specs.Means.{Goes};
-ghost use Rattle.find_load.specs.UnderWay.{again, does_at};
+ghost use Rattle.find_load.specs.UnderWay.{again, does_at, within};
 ghost use Rattle.find_load.specs.declared.import.Stage.TheVariants as stages;
 ghost use Rattle.find_load.specs.declared.words.In.TheVariants as ins;
 
@@ -19,7 +19,7 @@ use py_value::{ModRef, Value};
 
 /// No turn is left: more is to be paid than any budget has.
 fn overspend(p: &mut Importer, is_parent: bool) -> Want
-    ensures goes { Goes (λ inside. asks inside 0 is_parent p.old.name) p.new result }
+    ensures goes { Goes (λ inside. asks (within p.old inside) 0 is_parent p.old.name) p.new result }
 {
     p.stage = Stage::Begins(is_parent);
     Want::Pay {
@@ -31,7 +31,7 @@ fn overspend(p: &mut Importer, is_parent: bool) -> Want
 /// A turn is taken: a look into the cache.
 fn look(p: &mut Importer, is_parent: bool) -> Result<Want, NoMemory>
     requires { 0 < p.old.turns }
-    ensures goes { IfOk result (Goes (λ inside. asks inside p.old.turns is_parent p.old.name) p.new) }
+    ensures goes { IfOk result (Goes (λ inside. asks (within p.old inside) p.old.turns is_parent p.old.name) p.new) }
 {
     let event = Event::Ask(p.name.copy()?);
     p.turns -= 1;
@@ -41,7 +41,7 @@ fn look(p: &mut Importer, is_parent: bool) -> Result<Want, NoMemory>
 
 /// The next turn; whether it is the first of a parent.
 pub(crate) fn ask(p: &mut Importer, is_parent: bool) -> Result<Want, NoMemory>
-    ensures goes { IfOk result (Goes (λ inside. asks inside p.old.turns is_parent p.old.name) p.new) }
+    ensures goes { IfOk result (Goes (λ inside. asks (within p.old inside) p.old.turns is_parent p.old.name) p.new) }
 {
     if p.turns == 0 {
         return Ok(overspend(p, is_parent));
@@ -50,7 +50,7 @@ pub(crate) fn ask(p: &mut Importer, is_parent: bool) -> Result<Want, NoMemory>
 }
 
 /// The import is answered by the module that the cache has.
-fn answer(p: &mut Importer, module: ModRef) -> Want
+pub(crate) fn answer(p: &mut Importer, module: ModRef) -> Want
     ensures goes { Goes (λ inside. answers «module») p.new result }
 {
     Want::End(Flow::Went(Value::Module(module)))
@@ -90,7 +90,7 @@ fn halt(p: &mut Importer, is_parent: bool) -> Result<Want, NoMemory>
 
 /// The lock is asked for.
 pub(crate) fn take(p: &mut Importer) -> Result<Want, NoMemory>
-    ensures goes { IfOk result (Goes (λ inside. takes inside (again p.old inside) p.old.name) p.new) }
+    ensures goes { IfOk result (Goes (λ inside. takes (within p.old inside) (again p.old inside) p.old.name) p.new) }
 {
     let event = Event::Take(p.name.copy()?);
     p.stage = Stage::Taken;
@@ -99,7 +99,7 @@ pub(crate) fn take(p: &mut Importer) -> Result<Want, NoMemory>
 
 /// The name is not in the cache: its parent is imported, before its own lock is asked for.
 fn miss(p: &mut Importer) -> Result<Want, NoMemory>
-    ensures goes { IfOk result (Goes (λ inside. misses inside (again p.old inside) p.old.name) p.new) }
+    ensures goes { IfOk result (Goes (λ inside. misses (within p.old inside) (again p.old inside) p.old.name) p.new) }
 {
     match parent_of(&p.name)? {
         Some(parent) => {

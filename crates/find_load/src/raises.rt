@@ -65,7 +65,7 @@ pub(crate) fn lost(p: &mut Importer) -> Result<Want, NoMemory>
 }
 
 /// The parent of a name, if it has one.
-pub(crate) fn parent_of(name: &Dotted) -> Result<Option<Dotted>, NoMemory>
+pub fn parent_of(name: &Dotted) -> Result<Option<Dotted>, NoMemory>
     ensures { IfOk result (λ it. it ≡ parent_of name.now) }
 {
     match name.parent() {

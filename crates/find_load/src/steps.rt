@@ -6,7 +6,7 @@ ghost use Rattle.find_load.specs.declared.import.Stage.TheVariants as stages;
 ghost use Rattle.find_load.specs.declared.words.In.TheVariants as ins;
 
 use crate::import::{Importer, Stage};
-use crate::loads::{added, discover, ended, finish, finished, namespace_added, opened};
+use crate::loads::{added, added_lazy, discover, ended, finish, finished, namespace_added, opened};
 use crate::locates::{on_entry, on_parent_path, on_search_path};
 use crate::looks::{ask, asked, take, taken};
 use crate::raises::{fail, misfit};
@@ -142,6 +142,16 @@ fn after_add(p: &mut Importer, text: Seq<u8>, input: In) -> Result<Want, NoMemor
     }
 }
 
+/// The reply to the making of a lazy module.
+fn after_add_lazy(p: &mut Importer, input: In) -> Result<Want, NoMemory>
+    ensures goes { IfOk result (Goes (does_at p.old stages.AddedLazy input) p.new) }
+{
+    match input {
+        In::Replied(reply) => added_lazy(p, reply),
+        other => misfit(p, other),
+    }
+}
+
 /// The body has ended.
 fn after_body(p: &mut Importer, load: u32, input: In) -> Result<Want, NoMemory>
     ensures goes { IfOk result (Goes (does_at p.old (stages.Running load) input) p.new) }
@@ -219,6 +229,7 @@ pub fn next(p: &mut Importer, input: In) -> Result<Want, NoMemory>
         Stage::Searched { epoch, path } => after_search(p, epoch, path, input),
         Stage::File(spec) => after_file(p, spec, input),
         Stage::Added(text) => after_add(p, text, input),
+        Stage::AddedLazy => after_add_lazy(p, input),
         Stage::Running(load) => after_body(p, load, input),
         Stage::NamespaceAdded {
             epoch,

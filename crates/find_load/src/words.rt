@@ -1,5 +1,5 @@
 //! What a procedure is fed, and what it wants.
-use base_types::{Seq, TreePath};
+use base_types::{Seq, Text, TreePath};
 use machine_events::{Event, Reply};
 use path_finder::Found;
 use py_state::Flow;
@@ -32,17 +32,33 @@ pub enum Want {
     /// A wait for a lock, which is free.
     Wait,
     /// Units, for a call of the tree or not.
-    Pay { of_tree: bool, units: u64 },
+    Pay {
+        of_tree: bool,
+        units: u64,
+    },
     /// A search for a name on a path.
-    Find { name: Dotted, path: Items },
+    Find {
+        name: Dotted,
+        path: Items,
+    },
     /// The text of a file, if one stands there: a unit is paid for that.
     File(TreePath),
     /// The body of a module.
-    Body { mid: u32, load: u32, text: Seq<u8> },
+    Body {
+        mid: u32,
+        load: u32,
+        name: Text,
+        text: Seq<u8>,
+    },
     /// The import of a parent.
     Import(Dotted),
     /// The path of a module, at most so many modules one above the other.
-    Path { module: ModRef, turns: u64 },
+    Path {
+        module: ModRef,
+        turns: u64,
+    },
+    /// The first use of a module, which is lazy.
+    Rouse(ModRef),
     /// Nothing more: it ended in this way.
     End(Flow),
 }

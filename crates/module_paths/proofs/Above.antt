@@ -5,17 +5,20 @@ use Rattle.py_state.specs.declared.flow.Flow.{Flow}
 use Rattle.py_state.specs.declared.flow.Flow.TheVariants.{Went, Left}
 use Rattle.py_state.specs.declared.thread.State.{State}
 use Rattle.py_meaning.specs.Pieces.{Onward, on_value}
-use Rattle.py_meaning.specs.Paths.{paths, below_value}
+use Rattle.py_meaning.specs.Imports.{Inside}
+use Rattle.py_meaning.specs.Paths.{below_value}
 use Rattle.find_load.specs.declared.words.In.TheVariants as given
-use Rattle.module_paths.specs.Means.{does, named}
+use Rattle.module_paths.specs.Means.{above as paths_above, does, named}
 use Rattle.module_paths.specs.declared.reader.Namespace.{Namespace}
 use Rattle.module_paths.specs.declared.reader.Stage.TheVariants as stage
 
-ended : (turns : ℕ) (m : ModRef) (namespace : Namespace) (k : Onward) (flow : Flow) (s : State)
-    → does turns m (stage.Above namespace) (given.Ended flow) s k ≡ on_value k (λ v s. below_value (named m namespace) namespace.state namespace.epoch v s k) flow s
-ended turns m namespace k (Went v) s = refl
-ended turns m namespace k (Left leave) s = refl
+ended : (inside : Inside) (turns : ℕ) (m : ModRef) (namespace : Namespace) (k : Onward) (flow : Flow) (s : State)
+    → does inside turns m (stage.Above namespace) (given.Ended flow) s k
+    ≡ on_value k (λ v s. below_value (named m namespace) namespace.state namespace.epoch v s k) flow s
+ended inside turns m namespace k (Went v) s = refl
+ended inside turns m namespace k (Left leave) s = refl
 
-pub above : (turns : ℕ) (p m : ModRef) (namespace : Namespace) (s : State) (k : Onward)
-    → paths turns p s (λ flow s. does turns m (stage.Above namespace) (given.Ended flow) s k) ≡ paths turns p s (on_value k (λ v s. below_value (named m namespace) namespace.state namespace.epoch v s k))
-above turns p m namespace s k = ap (paths turns p s) (λ i flow s. ended turns m namespace k flow s i)
+pub above : (inside : Inside) (turns : ℕ) (p m : ModRef) (namespace : Namespace) (s : State) (k : Onward)
+    → paths_above inside turns p s (λ flow s. does inside turns m (stage.Above namespace) (given.Ended flow) s k)
+    ≡ paths_above inside turns p s (on_value k (λ v s. below_value (named m namespace) namespace.state namespace.epoch v s k))
+above inside turns p m namespace s k = ap (paths_above inside turns p s) (λ i flow s. ended inside turns m namespace k flow s i)

@@ -1,11 +1,13 @@
 -- What the reading of a path does from each stage on.
-use Rattle.std.specs.Prelude.{ℕ}
+use Rattle.std.specs.Prelude.{ℕ, codes, true, false}
 use Rattle.py_value.specs.declared.value.ModRef.{ModRef}
+use Rattle.machine_events.specs.declared.event.Event.TheVariants as e
 use Rattle.namespace_path.specs.Recompute.{recomputed}
 use Rattle.py_faults.specs.declared.fault.Fault.TheVariants as fault
 use Rattle.py_state.specs.declared.flow.Flow.TheVariants.{Went, Left}
-use Rattle.py_meaning.specs.Pieces.{Piece, fails}
-use Rattle.py_meaning.specs.Paths.{paths, path_read, namespace_path, has_state, below_top, below_entry, below_value, keeps_state, has_portions}
+use Rattle.py_meaning.specs.Pieces.{Piece, calls, fails}
+use Rattle.py_meaning.specs.Imports.{Inside, roused}
+use Rattle.py_meaning.specs.Paths.{Space, paths, path_read, path_came, namespace_path, has_state, below_top, below_entry, below_value, keeps_state, has_portions}
 use Rattle.find_load.specs.Means.{GoesOn}
 use Rattle.find_load.specs.declared.words.In.{In}
 use Rattle.find_load.specs.declared.words.In.TheVariants as given
@@ -15,27 +17,44 @@ use Rattle.module_paths.specs.declared.reader.Stage.{Stage}
 use Rattle.module_paths.specs.declared.reader.Stage.TheVariants as stage
 use Rattle.module_paths.specs.declared.reader.PathReader.{PathReader}
 
--- the module under the dotted name that its own was read as
-abbrev pub named : ModRef → Namespace → ModRef
-named m namespace = record m { name = namespace.name }
+-- the namespace of a module
+abbrev pub space : ModRef → Space
+space m = record { mid = m.mid; name = m.name }
+
+-- the same under the dotted name that its own was read as
+abbrev pub named : ModRef → Namespace → Space
+named m namespace = record { mid = m.mid; name = namespace.name }
+
+-- the paths of modules, of which so many more may stand above
+abbrev pub above : Inside → ℕ → ModRef → Piece
+above inside turns = paths (roused inside) turns
+
+-- the path of a lazy module that was loaded
+abbrev pub reads_raw : Inside → ℕ → ModRef → Piece
+reads_raw inside turns m s k =
+    calls (e.GetVar m.mid (codes "__path__") true) (λ r. path_read (above inside turns) m r s k)
 
 -- from a stage on, by what is fed, where so many more modules may stand above
-abbrev pub does : ℕ → ModRef → Stage → In → Piece
-does turns m stage.Begins given.Start = paths turns m
-does turns m stage.Read (given.Replied r) = path_read (paths turns) m r
-does turns m stage.Replaces given.Start = namespace_path (paths turns) m
-does turns m stage.StateRead (given.Replied r) = has_state (paths turns) m r
-does turns m (stage.AtTop namespace) (given.Replied r) = below_top (named m namespace) namespace.state namespace.epoch r
-does turns m (stage.AtEntry namespace) (given.Replied r) = below_entry (paths turns) (named m namespace) namespace.state namespace.epoch r
-does turns m (stage.Above namespace) (given.Ended (Went v)) = below_value (named m namespace) namespace.state namespace.epoch v
-does turns m (stage.Above namespace) (given.Ended (Left leave)) = λ s k. k (Left leave) s
-does turns m (stage.Searched state epoch path) (given.Found answer) = keeps_state m (recomputed state path epoch answer)
-does turns m (stage.Kept state) (given.Replied r) = has_portions state
-does turns m other input = fails fault.NotInProfile
+abbrev pub does : Inside → ℕ → ModRef → Stage → In → Piece
+does inside turns m stage.Begins given.Start = above inside turns m
+does inside turns m stage.Read (given.Replied r) = path_came (roused inside) (above inside turns) false m r
+does inside turns m stage.Roused (given.Ended (Went v)) = reads_raw inside turns m
+does inside turns m stage.Roused (given.Ended (Left leave)) = λ s k. k (Left leave) s
+does inside turns m stage.ReadRaw (given.Replied r) = path_read (above inside turns) m r
+does inside turns m stage.Replaces given.Start = namespace_path (above inside turns) (space m)
+does inside turns m stage.StateRead (given.Replied r) = has_state (above inside turns) (space m) r
+does inside turns m (stage.AtTop namespace) (given.Replied r) = below_top (named m namespace) namespace.state namespace.epoch r
+does inside turns m (stage.AtEntry namespace) (given.Replied r) =
+    below_entry (above inside turns) (named m namespace) namespace.state namespace.epoch r
+does inside turns m (stage.Above namespace) (given.Ended (Went v)) = below_value (named m namespace) namespace.state namespace.epoch v
+does inside turns m (stage.Above namespace) (given.Ended (Left leave)) = λ s k. k (Left leave) s
+does inside turns m (stage.Searched state epoch path) (given.Found answer) = keeps_state (space m) (recomputed state path epoch answer)
+does inside turns m (stage.Kept state) (given.Replied r) = has_portions state
+does inside turns m other input = fails fault.NotInProfile
 
-abbrev pub means : PathReader → In → Piece
-means p = does p.turns p.module p.stage
+abbrev pub means : Inside → PathReader → In → Piece
+means inside p = does inside p.turns p.module p.stage
 
 -- the run goes on by what is wanted, from what the reading means after it
-pub record Goes (run : Piece) (after : PathReader) (w : Want) : Type 0 where
-  pub goes : GoesOn (λ _. run) (λ _. means after) w
+pub record Goes (run : Inside → Piece) (after : PathReader) (w : Want) : Type 0 where
+  pub goes : GoesOn run (λ inside. means inside after) w

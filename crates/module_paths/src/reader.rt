@@ -2,9 +2,11 @@
 ghost use Rattle.std.specs.Prelude.{◌≡◌};
 ghost use Rattle.py_meaning.specs.Pieces as pieces;
 ghost use Rattle.module_paths.specs.declared.reader.Stage.TheVariants as stages;
+ghost use Rattle.py_value.specs.declared.value.Place.TheVariants as places;
 
+use base_types::Text;
 use find_load::most;
-use py_value::{Items, ModRef, NsState};
+use py_value::{Items, ModRef, NsState, Place};
 use spec_core::Dotted;
 
 /// A namespace whose state was read: its name, its state, and the epoch of the machine.
@@ -22,6 +24,10 @@ pub enum Stage {
     Begins,
     /// The module's `__path__`.
     Read,
+    /// The first use of the module, which is lazy.
+    Roused,
+    /// Its `__path__` once it is loaded.
+    ReadRaw,
     /// Its start, where that is known to be the path of a namespace.
     Replaces,
     /// The state of the namespace.
@@ -63,12 +69,13 @@ impl PathReader {
         }
     }
 
-    /// The path of a namespace, whose `__path__` was read.
-    pub fn replacing(module: ModRef) -> PathReader
-        ensures { result ≡ record { «module» = «module»; turns = pieces.most; stage = stages.Replaces } }
+    /// The path of a namespace, whose `__path__` was read, by the number and the name of its module.
+    pub fn replacing(mid: u32, name: Text) -> PathReader
+        ensures { result ≡ record { «module» = record { mid = mid; name = name; place = places.Namespace }; turns = pieces.most; stage = stages.Replaces } }
     {
+        let place = Place::Namespace;
         PathReader {
-            module,
+            module: ModRef { mid, name, place },
             turns: most(),
             stage: Stage::Replaces,
         }

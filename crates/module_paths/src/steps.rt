@@ -1,20 +1,20 @@
 //! What the reading of a path wants next.
-ghost use Rattle.std.specs.Prelude.{◌≡◌, IfOk, map, if◌then◌else◌, codes, false};
-ghost use Rattle.spec_core.specs.Identifiers.{is_dotted};
+ghost use Rattle.std.specs.Prelude.{◌≡◌, IfOk};
 ghost use Rattle.spec_core.specs.Names.{parent_of};
 ghost use Rattle.machine_events.specs.declared.event.Reply.TheVariants as replies;
 ghost use Rattle.find_load.specs.declared.words.In.TheVariants as ins;
-ghost use Rattle.namespace_path.specs.Recompute.{recomputed};
 ghost use Rattle.py_faults.specs.declared.fault.Fault.TheVariants as faults;
+ghost use Rattle.py_state.specs.declared.flow.Flow.TheVariants as flows;
 ghost use Rattle.py_meaning.specs.Pieces.{fails};
 ghost use Rattle.py_meaning.specs.Paths as spec;
-ghost use Rattle.py_meaning.specs.Paths.{paths, has_path, has_none, has_portions};
-ghost use Rattle.module_paths.specs.Means.{Goes, means, does, named};
+ghost use Rattle.py_meaning.specs.Paths.{has_path, has_none, has_portions};
+ghost use Rattle.module_paths.specs.Means.{Goes, means, reads_raw, space};
+ghost use Rattle.module_paths.specs.UnderWay.{below_entry, below_name, below_path, does_at, searched_below};
 ghost use Rattle.module_paths.specs.declared.reader.Stage.TheVariants as stages;
 
 use crate::reader::{Namespace, PathReader, Stage};
 use base_types::{Exact, NoMemory, Seq, Text, Texts};
-use find_load::{In, Want, most};
+use find_load::{In, Want, most, parent_of};
 use machine_events::{Event, Reply, Slot};
 use namespace_path::{fresh, recomputed};
 use path_finder::Found;
@@ -25,7 +25,7 @@ use spec_core::Dotted;
 
 /// An error is raised.
 fn fail(p: &mut PathReader, fault: Fault) -> Result<Want, NoMemory>
-    ensures goes { IfOk result (Goes (fails fault) p.new) }
+    ensures goes { IfOk result (Goes (λ inside. fails fault) p.new) }
 {
     let error = raised(p.module.name.alloc(), fault)?;
     Ok(Want::End(Flow::Left(Leave::Raised(error))))
@@ -33,7 +33,7 @@ fn fail(p: &mut PathReader, fault: Fault) -> Result<Want, NoMemory>
 
 /// The input is none that the stage waits for.
 fn misfit(p: &mut PathReader, input: In) -> Result<Want, NoMemory>
-    ensures goes { IfOk result (Goes (fails faults.NotInProfile) p.new) }
+    ensures goes { IfOk result (Goes (λ inside. fails faults.NotInProfile) p.new) }
 {
     drop(input);
     fail(p, Fault::NotInProfile)
@@ -41,7 +41,7 @@ fn misfit(p: &mut PathReader, input: In) -> Result<Want, NoMemory>
 
 /// The reply is none that the event can have.
 fn misfit_reply(p: &mut PathReader, reply: Reply) -> Result<Want, NoMemory>
-    ensures goes { IfOk result (Goes (fails faults.NotInProfile) p.new) }
+    ensures goes { IfOk result (Goes (λ inside. fails faults.NotInProfile) p.new) }
 {
     drop(reply);
     fail(p, Fault::NotInProfile)
@@ -49,18 +49,18 @@ fn misfit_reply(p: &mut PathReader, reply: Reply) -> Result<Want, NoMemory>
 
 /// The path that these entries are.
 fn has_path(p: &mut PathReader, items: Items) -> Want
-    ensures goes { Goes (has_path items) p.new result }
+    ensures goes { Goes (λ inside. has_path items) p.new result }
 {
     let _ = p;
     Want::End(Flow::Went(Value::List(items)))
 }
 
-/// The module has no path.
-fn has_none(p: &mut PathReader) -> Want
-    ensures goes { Goes has_none p.new result }
+/// The module has no path: whether it is initialising stands in its place.
+fn has_none(p: &mut PathReader, is_initialising: bool) -> Want
+    ensures goes { Goes (λ inside. has_none is_initialising) p.new result }
 {
     let _ = p;
-    Want::End(Flow::Went(Value::Nothing))
+    Want::End(Flow::Went(Value::Bool(is_initialising)))
 }
 
 /// The texts as values.
@@ -77,7 +77,7 @@ fn texts_of(texts: &Texts) -> Result<Items, NoMemory>
 
 /// The path of a namespace with this state: its portions.
 fn has_portions(p: &mut PathReader, state: &NsState) -> Result<Want, NoMemory>
-    ensures goes { IfOk result (Goes (has_portions state.now) p.new) }
+    ensures goes { IfOk result (Goes (λ inside. has_portions state.now) p.new) }
 {
     let items = texts_of(&state.portions)?;
     Ok(has_path(p, items))
@@ -85,7 +85,7 @@ fn has_portions(p: &mut PathReader, state: &NsState) -> Result<Want, NoMemory>
 
 /// The module's `__path__` is read, where another module may stand above.
 fn read(p: &mut PathReader) -> Result<Want, NoMemory>
-    ensures goes { IfOk result (Goes (paths p.old.turns p.old.module) p.new) }
+    ensures goes { IfOk result (Goes (does_at p.old stages.Begins ins.Start) p.new) }
 {
     if p.turns == 0 {
         p.stage = Stage::Begins;
@@ -106,7 +106,7 @@ fn read(p: &mut PathReader) -> Result<Want, NoMemory>
 
 /// The state of the namespace is read.
 fn read_state(p: &mut PathReader) -> Want
-    ensures goes { Goes (spec.namespace_path (paths p.old.turns) p.old.module) p.new result }
+    ensures goes { Goes (does_at p.old stages.Replaces ins.Start) p.new result }
 {
     p.stage = Stage::StateRead;
     Want::Call(Event::NsGet(p.module.mid))
@@ -114,7 +114,7 @@ fn read_state(p: &mut PathReader) -> Want
 
 /// The path that a module's `__path__` is.
 fn path_at(p: &mut PathReader, value: Value) -> Result<Want, NoMemory>
-    ensures goes { IfOk result (Goes (spec.path_read (paths p.old.turns) p.old.module (replies.Value value)) p.new) }
+    ensures goes { IfOk result (Goes (does_at p.old stages.ReadRaw (ins.Replied (replies.Value value))) p.new) }
 {
     match value {
         Value::List(items) => Ok(has_path(p, items)),
@@ -129,19 +129,61 @@ fn path_at(p: &mut PathReader, value: Value) -> Result<Want, NoMemory>
 
 /// What the read of a module's `__path__` leads to.
 fn path_read(p: &mut PathReader, reply: Reply) -> Result<Want, NoMemory>
-    ensures goes { IfOk result (Goes (spec.path_read (paths p.old.turns) p.old.module reply) p.new) }
+    ensures goes { IfOk result (Goes (does_at p.old stages.ReadRaw (ins.Replied reply)) p.new) }
 {
     match reply {
         Reply::Value(value) => path_at(p, value),
-        Reply::Unset(_) => Ok(has_none(p)),
-        Reply::Sleeping => fail(p, Fault::NotBuilt),
+        Reply::Unset(is_initialising) => Ok(has_none(p, is_initialising)),
         other => misfit_reply(p, other),
+    }
+}
+
+/// The module is lazy, and is loaded first.
+#[tactic(auto, using(crate::proofs::Roused::rouses))]
+fn rouse(p: &mut PathReader) -> Result<Want, NoMemory>
+    ensures goes { IfOk result (Goes (does_at p.old stages.Read (ins.Replied replies.Sleeping)) p.new) }
+{
+    let module = p.module.copy()?;
+    p.stage = Stage::Roused;
+    Ok(Want::Rouse(module))
+}
+
+/// What the read of a module's `__path__` leads to where the module may be lazy.
+fn path_came(p: &mut PathReader, reply: Reply) -> Result<Want, NoMemory>
+    ensures goes { IfOk result (Goes (does_at p.old stages.Read (ins.Replied reply)) p.new) }
+{
+    match reply {
+        Reply::Sleeping => rouse(p),
+        other => path_read(p, other),
+    }
+}
+
+/// The `__path__` of the lazy module is read once that is loaded.
+fn read_raw(p: &mut PathReader) -> Result<Want, NoMemory>
+    ensures goes { IfOk result (Goes (λ inside. reads_raw inside p.old.turns p.old.module) p.new) }
+{
+    let name = Text::from_str(p.module.name.alloc(), "__path__")?;
+    p.stage = Stage::ReadRaw;
+    Ok(Want::Call(Event::GetVar {
+        mid: p.module.mid,
+        name,
+        raw: true,
+    }))
+}
+
+/// The first use of the lazy module has ended.
+fn roused(p: &mut PathReader, flow: Flow) -> Result<Want, NoMemory>
+    ensures goes { IfOk result (Goes (does_at p.old stages.Roused (ins.Ended flow)) p.new) }
+{
+    match flow {
+        Flow::Went(_) => read_raw(p),
+        Flow::Left(leave) => Ok(Want::End(Flow::Left(leave))),
     }
 }
 
 /// The state of a namespace is kept, and then its portions are the path.
 fn keep(p: &mut PathReader, state: NsState) -> Result<Want, NoMemory>
-    ensures goes { IfOk result (Goes (spec.keeps_state p.old.module state) p.new) }
+    ensures goes { IfOk result (Goes (λ inside. spec.keeps_state (space p.old.module) state) p.new) }
 {
     let kept = state.copy()?;
     let mid = p.module.mid;
@@ -151,7 +193,7 @@ fn keep(p: &mut PathReader, state: NsState) -> Result<Want, NoMemory>
 
 /// The portions are searched again, on this parent path.
 fn compute_again(p: &mut PathReader, namespace: Namespace, above: Items) -> Result<Want, NoMemory>
-    ensures goes { IfOk result (Goes (spec.computes_again (named p.old.module namespace) namespace.state namespace.epoch above) p.new) }
+    ensures goes { IfOk result (Goes (searched_below p.old namespace above) p.new) }
 {
     let path = above.copy()?;
     let Namespace { name, state, epoch } = namespace;
@@ -161,7 +203,7 @@ fn compute_again(p: &mut PathReader, namespace: Namespace, above: Items) -> Resu
 
 /// The path of a namespace below this parent path.
 fn below(p: &mut PathReader, namespace: Namespace, above: Items) -> Result<Want, NoMemory>
-    ensures goes { IfOk result (Goes (spec.below (named p.old.module namespace) namespace.state namespace.epoch above) p.new) }
+    ensures goes { IfOk result (Goes (below_path p.old namespace above) p.new) }
 {
     if fresh(&namespace.state, &above, namespace.epoch) {
         has_portions(p, &namespace.state)
@@ -172,7 +214,7 @@ fn below(p: &mut PathReader, namespace: Namespace, above: Items) -> Result<Want,
 
 /// The path of a namespace below what the path of the module above is.
 fn below_value(p: &mut PathReader, namespace: Namespace, value: Value) -> Result<Want, NoMemory>
-    ensures goes { IfOk result (Goes (spec.below_value (named p.old.module namespace) namespace.state namespace.epoch value) p.new) }
+    ensures goes { IfOk result (Goes (does_at p.old (stages.Above namespace) (ins.Ended (flows.Went value))) p.new) }
 {
     match value {
         Value::List(above) => below(p, namespace, above),
@@ -185,7 +227,7 @@ fn below_value(p: &mut PathReader, namespace: Namespace, value: Value) -> Result
 
 /// The path of a namespace without a dot in its name.
 fn below_top(p: &mut PathReader, namespace: Namespace, reply: Reply) -> Result<Want, NoMemory>
-    ensures goes { IfOk result (Goes (spec.below_top (named p.old.module namespace) namespace.state namespace.epoch reply) p.new) }
+    ensures goes { IfOk result (Goes (does_at p.old (stages.AtTop namespace) (ins.Replied reply)) p.new) }
 {
     match reply {
         Reply::Path(above) => below(p, namespace, above),
@@ -199,7 +241,7 @@ fn below_top(p: &mut PathReader, namespace: Namespace, reply: Reply) -> Result<W
 /// The path of a namespace whose parent has this entry.
 #[tactic(auto, using(crate::proofs::Above::above))]
 fn below_slot(p: &mut PathReader, namespace: Namespace, slot: Slot) -> Result<Want, NoMemory>
-    ensures goes { IfOk result (Goes (spec.below_slot (paths p.old.turns) (named p.old.module namespace) namespace.state namespace.epoch slot) p.new) }
+    ensures goes { IfOk result (Goes (below_entry p.old namespace slot) p.new) }
 {
     match slot {
         Slot::Module(module) => {
@@ -214,7 +256,7 @@ fn below_slot(p: &mut PathReader, namespace: Namespace, slot: Slot) -> Result<Wa
 
 /// What the read of the parent's entry leads to.
 fn below_entry(p: &mut PathReader, namespace: Namespace, reply: Reply) -> Result<Want, NoMemory>
-    ensures goes { IfOk result (Goes (spec.below_entry (paths p.old.turns) (named p.old.module namespace) namespace.state namespace.epoch reply) p.new) }
+    ensures goes { IfOk result (Goes (does_at p.old (stages.AtEntry namespace) (ins.Replied reply)) p.new) }
 {
     match reply {
         Reply::Slot(slot) => below_slot(p, namespace, slot),
@@ -225,19 +267,9 @@ fn below_entry(p: &mut PathReader, namespace: Namespace, reply: Reply) -> Result
     }
 }
 
-/// The name of the parent, if there is one.
-fn parent_of(name: &Dotted) -> Result<Option<Dotted>, NoMemory>
-    ensures { IfOk result (λ parent. parent ≡ parent_of name.now) }
-{
-    match name.parent() {
-        None => Ok(None),
-        Some(parent) => Ok(Some(parent.own()?)),
-    }
-}
-
 /// What stands above the namespace is read: the search path, or the entry of its parent.
 fn below_parent(p: &mut PathReader, namespace: Namespace) -> Result<Want, NoMemory>
-    ensures goes { IfOk result (Goes (spec.below_parent (paths p.old.turns) (named p.old.module namespace) namespace.state namespace.epoch (parent_of namespace.name)) p.new) }
+    ensures goes { IfOk result (Goes (below_name p.old namespace (parent_of namespace.name)) p.new) }
 {
     match parent_of(&namespace.name)? {
         None => {
@@ -253,7 +285,7 @@ fn below_parent(p: &mut PathReader, namespace: Namespace) -> Result<Want, NoMemo
 
 /// What the state of the namespace leads to.
 fn with_state(p: &mut PathReader, state: NsState, epoch: u64) -> Result<Want, NoMemory>
-    ensures goes { IfOk result (Goes (spec.has_state (paths p.old.turns) p.old.module (replies.Ns state epoch)) p.new) }
+    ensures goes { IfOk result (Goes (does_at p.old stages.StateRead (ins.Replied (replies.Ns state epoch))) p.new) }
 {
     match Dotted::read(&p.module.name)? {
         None => {
@@ -266,7 +298,7 @@ fn with_state(p: &mut PathReader, state: NsState, epoch: u64) -> Result<Want, No
 
 /// What the read of the namespace's state leads to.
 fn has_state(p: &mut PathReader, reply: Reply) -> Result<Want, NoMemory>
-    ensures goes { IfOk result (Goes (spec.has_state (paths p.old.turns) p.old.module reply) p.new) }
+    ensures goes { IfOk result (Goes (does_at p.old stages.StateRead (ins.Replied reply)) p.new) }
 {
     match reply {
         Reply::Ns(state, epoch) => with_state(p, state, epoch),
@@ -282,7 +314,7 @@ fn searched(
     path: Items,
     answer: Option<Found>,
 ) -> Result<Want, NoMemory>
-    ensures goes { IfOk result (Goes (spec.keeps_state p.old.module (recomputed state path epoch answer)) p.new) }
+    ensures goes { IfOk result (Goes (does_at p.old (stages.Searched state epoch path) (ins.Found answer)) p.new) }
 {
     let state = recomputed(&state, &path, epoch, &answer)?;
     keep(p, state)
@@ -290,7 +322,7 @@ fn searched(
 
 /// The path of the module above has ended.
 fn above(p: &mut PathReader, namespace: Namespace, flow: Flow) -> Result<Want, NoMemory>
-    ensures goes { IfOk result (Goes (does p.old.turns p.old.module (stages.Above namespace) (ins.Ended flow)) p.new) }
+    ensures goes { IfOk result (Goes (does_at p.old (stages.Above namespace) (ins.Ended flow)) p.new) }
 {
     match flow {
         Flow::Went(value) => below_value(p, namespace, value),
@@ -303,7 +335,7 @@ fn above(p: &mut PathReader, namespace: Namespace, flow: Flow) -> Result<Want, N
 
 /// The reading begins.
 fn begin(p: &mut PathReader, input: In) -> Result<Want, NoMemory>
-    ensures goes { IfOk result (Goes (does p.old.turns p.old.module stages.Begins input) p.new) }
+    ensures goes { IfOk result (Goes (does_at p.old stages.Begins input) p.new) }
 {
     match input {
         In::Start => read(p),
@@ -313,7 +345,27 @@ fn begin(p: &mut PathReader, input: In) -> Result<Want, NoMemory>
 
 /// The module's `__path__` was read.
 fn after_read(p: &mut PathReader, input: In) -> Result<Want, NoMemory>
-    ensures goes { IfOk result (Goes (does p.old.turns p.old.module stages.Read input) p.new) }
+    ensures goes { IfOk result (Goes (does_at p.old stages.Read input) p.new) }
+{
+    match input {
+        In::Replied(reply) => path_came(p, reply),
+        other => misfit(p, other),
+    }
+}
+
+/// The lazy module is loaded.
+fn after_rouse(p: &mut PathReader, input: In) -> Result<Want, NoMemory>
+    ensures goes { IfOk result (Goes (does_at p.old stages.Roused input) p.new) }
+{
+    match input {
+        In::Ended(flow) => roused(p, flow),
+        other => misfit(p, other),
+    }
+}
+
+/// The `__path__` of the lazy module was read.
+fn after_raw_read(p: &mut PathReader, input: In) -> Result<Want, NoMemory>
+    ensures goes { IfOk result (Goes (does_at p.old stages.ReadRaw input) p.new) }
 {
     match input {
         In::Replied(reply) => path_read(p, reply),
@@ -323,7 +375,7 @@ fn after_read(p: &mut PathReader, input: In) -> Result<Want, NoMemory>
 
 /// The reading begins where the path is known to be that of a namespace.
 fn replace(p: &mut PathReader, input: In) -> Result<Want, NoMemory>
-    ensures goes { IfOk result (Goes (does p.old.turns p.old.module stages.Replaces input) p.new) }
+    ensures goes { IfOk result (Goes (does_at p.old stages.Replaces input) p.new) }
 {
     match input {
         In::Start => Ok(read_state(p)),
@@ -333,7 +385,7 @@ fn replace(p: &mut PathReader, input: In) -> Result<Want, NoMemory>
 
 /// The state of the namespace was read.
 fn after_state(p: &mut PathReader, input: In) -> Result<Want, NoMemory>
-    ensures goes { IfOk result (Goes (does p.old.turns p.old.module stages.StateRead input) p.new) }
+    ensures goes { IfOk result (Goes (does_at p.old stages.StateRead input) p.new) }
 {
     match input {
         In::Replied(reply) => has_state(p, reply),
@@ -343,7 +395,7 @@ fn after_state(p: &mut PathReader, input: In) -> Result<Want, NoMemory>
 
 /// The search path was read.
 fn after_path(p: &mut PathReader, namespace: Namespace, input: In) -> Result<Want, NoMemory>
-    ensures goes { IfOk result (Goes (does p.old.turns p.old.module (stages.AtTop namespace) input) p.new) }
+    ensures goes { IfOk result (Goes (does_at p.old (stages.AtTop namespace) input) p.new) }
 {
     match input {
         In::Replied(reply) => below_top(p, namespace, reply),
@@ -356,7 +408,7 @@ fn after_path(p: &mut PathReader, namespace: Namespace, input: In) -> Result<Wan
 
 /// The entry of the parent was read.
 fn after_entry(p: &mut PathReader, namespace: Namespace, input: In) -> Result<Want, NoMemory>
-    ensures goes { IfOk result (Goes (does p.old.turns p.old.module (stages.AtEntry namespace) input) p.new) }
+    ensures goes { IfOk result (Goes (does_at p.old (stages.AtEntry namespace) input) p.new) }
 {
     match input {
         In::Replied(reply) => below_entry(p, namespace, reply),
@@ -369,7 +421,7 @@ fn after_entry(p: &mut PathReader, namespace: Namespace, input: In) -> Result<Wa
 
 /// The path of the module above was read.
 fn after_above(p: &mut PathReader, namespace: Namespace, input: In) -> Result<Want, NoMemory>
-    ensures goes { IfOk result (Goes (does p.old.turns p.old.module (stages.Above namespace) input) p.new) }
+    ensures goes { IfOk result (Goes (does_at p.old (stages.Above namespace) input) p.new) }
 {
     match input {
         In::Ended(flow) => above(p, namespace, flow),
@@ -388,7 +440,7 @@ fn after_search(
     path: Items,
     input: In,
 ) -> Result<Want, NoMemory>
-    ensures goes { IfOk result (Goes (does p.old.turns p.old.module (stages.Searched state epoch path) input) p.new) }
+    ensures goes { IfOk result (Goes (does_at p.old (stages.Searched state epoch path) input) p.new) }
 {
     match input {
         In::Found(answer) => searched(p, state, epoch, path, answer),
@@ -402,7 +454,7 @@ fn after_search(
 
 /// The state of the namespace is kept.
 fn after_keep(p: &mut PathReader, state: NsState, input: In) -> Result<Want, NoMemory>
-    ensures goes { IfOk result (Goes (does p.old.turns p.old.module (stages.Kept state) input) p.new) }
+    ensures goes { IfOk result (Goes (does_at p.old (stages.Kept state) input) p.new) }
 {
     match input {
         In::Replied(reply) => {
@@ -419,12 +471,14 @@ fn after_keep(p: &mut PathReader, state: NsState, input: In) -> Result<Want, NoM
 /// What the reading of a path wants next, by what it is fed. An input that its stage does not wait for
 /// raises ProfileError.
 pub fn next(p: &mut PathReader, input: In) -> Result<Want, NoMemory>
-    ensures goes { IfOk result (Goes (means p.old input) p.new) }
+    ensures goes { IfOk result (Goes (λ inside. means inside p.old input) p.new) }
 {
     let stage = std::mem::replace(&mut p.stage, Stage::Begins);
     match stage {
         Stage::Begins => begin(p, input),
         Stage::Read => after_read(p, input),
+        Stage::Roused => after_rouse(p, input),
+        Stage::ReadRaw => after_raw_read(p, input),
         Stage::Replaces => replace(p, input),
         Stage::StateRead => after_state(p, input),
         Stage::AtTop(namespace) => after_path(p, namespace, input),

@@ -1,3 +1,6 @@
+pub mod Counted
 pub mod Drops
 pub mod Forms
+pub mod OnLists
+pub mod Others
 pub mod Parts

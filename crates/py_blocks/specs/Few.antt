@@ -9,7 +9,6 @@ abbrev pub pair : {X : Type 0} → List X → Option (X × X)
 pair (a ∷ b ∷ []) = Some (a, b)
 pair xs = None
 
--- the first two of three
-abbrev pub triple : {X : Type 0} → List X → Option (X × X)
-triple (a ∷ b ∷ c ∷ []) = Some (a, b)
+abbrev pub triple : {X : Type 0} → List X → Option (X × X × X)
+triple (a ∷ b ∷ c ∷ []) = Some (a, b, c)
 triple xs = None

@@ -1,20 +1,21 @@
 //! `if` (Language Reference 8.1).
-ghost use Rattle.std.specs.Prelude.{◌≡◌, ◌<◌, IfOk, drop, length, suc};
+ghost use Rattle.std.specs.Prelude.{◌≡◌, ◌<◌, IfOk, length, true};
 ghost use Rattle.py_meaning.specs.Meaning.{around_at};
-ghost use Rattle.py_meaning.specs.Statements.{run_all, tests};
-ghost use Rattle.py_frames.specs.Does as words;
+ghost use Rattle.py_state.specs.declared.flow.Flow.TheVariants.{Went};
+ghost use Rattle.py_names.specs.Listing.{is_listed};
+ghost use Rattle.py_blocks.specs.Known.{acts, behind, picked};
 ghost use Rattle.py_frames.specs.Does.{Does, begins, goes_on, pieces};
 ghost use Rattle.py_frames.specs.declared.work.Frame.TheVariants as frames;
 ghost use Rattle.py_frames.specs.declared.work.Item.TheVariants as items;
 
-use crate::few::is_unbuilt;
+use crate::few::is_cache;
 use base_types::{NoMemory, Seq};
 use py_faults::Fault;
 use py_frames::{Frame, Item, Want};
-use py_names::fail;
+use py_names::{fail, is_listed};
 use py_state::{Flow, Thread};
 use py_syntax::{Branch, Stmt};
-use py_value::truth;
+use py_value::{Value, truth};
 use shared::Shared;
 use std::alloc::Global;
 
@@ -55,7 +56,7 @@ fn pass_branch(
     otherwise: Shared<Seq<Stmt>>,
 ) -> Want
     requires { at < length branches }
-    ensures { Does thread.now (pieces (λ w d. tests (words.branches (around_at w d) (drop (suc at) branches)) (run_all (around_at w d) otherwise)) thread.now) result }
+    ensures { Does thread.now (pieces (λ w d. behind (around_at w d) branches at otherwise) thread.now) result }
 {
     let _ = thread;
     let count = branches.get().len();
@@ -65,6 +66,59 @@ fn pass_branch(
         at: at + 1,
         otherwise,
     })
+}
+
+/// The test of a branch has a value of its own: its block comes, or the next branches.
+fn pick_branch(
+    alloc: Global,
+    thread: &Thread,
+    branches: Shared<Seq<Branch>>,
+    at: usize,
+    otherwise: Shared<Seq<Stmt>>,
+    value: Value,
+) -> Result<Want, NoMemory>
+    ensures { IfOk result (Does thread.now (acts (λ a. picked a branches at otherwise value) thread.now)) }
+{
+    match branches.get().get(at) {
+        None => fail(alloc, thread, Fault::NotInProfile),
+        Some(branch) => {
+            if truth(&value) {
+                return Ok(Want::Then(Item::Block {
+                    stmts: branch.body.share()?,
+                    at: 0,
+                }));
+            }
+            Ok(pass_branch(thread, branches, at, otherwise))
+        }
+    }
+}
+
+/// A list comes in place of the value of a test, or it is none.
+fn wait_test(
+    alloc: Global,
+    thread: &Thread,
+    branches: Shared<Seq<Branch>>,
+    at: usize,
+    otherwise: Shared<Seq<Stmt>>,
+    value: Value,
+) -> Result<Want, NoMemory>
+    requires listed { is_listed value ≡ true }
+    ensures { IfOk result (Does thread.now (goes_on (frames.Test branches at otherwise) (Went value) thread.now)) }
+{
+    match branches.get().get(at) {
+        None => fail(alloc, thread, Fault::NotInProfile),
+        Some(_) => {
+            if is_cache(&value) {
+                return fail(alloc, thread, Fault::NotInProfile);
+            }
+            let test = Frame::Test {
+                branches,
+                at,
+                otherwise,
+            };
+            Ok(Want::Both(Item::SearchPath, test))
+        }
+    }
 }
 
 /// The test of a branch has a value: its block comes, or the next branches.
@@ -82,19 +136,8 @@ pub fn go_on_test(
         Flow::Left(leave) => return Ok(Want::Go(Flow::Left(leave))),
         Flow::Went(value) => value,
     };
-    match branches.get().get(at) {
-        None => fail(alloc, thread, Fault::NotInProfile),
-        Some(branch) => {
-            if is_unbuilt(&value) {
-                return fail(alloc, thread, Fault::NotBuilt);
-            }
-            if truth(&value) {
-                return Ok(Want::Then(Item::Block {
-                    stmts: branch.body.share()?,
-                    at: 0,
-                }));
-            }
-            Ok(pass_branch(thread, branches, at, otherwise))
-        }
+    if is_listed(&value) {
+        return wait_test(alloc, thread, branches, at, otherwise, value);
     }
+    pick_branch(alloc, thread, branches, at, otherwise, value)
 }

@@ -1,8 +1,7 @@
-//! Lists of exactly so many values, and values that are no operands.
+//! Lists of exactly so many values, and what stands for the cache.
 ghost use Rattle.std.specs.Prelude.{◌≡◌, ◌∷◌, [], Some};
-ghost use Rattle.std.specs.List.{list_any};
-ghost use Rattle.value_operators.specs.Outcomes.{is_special};
 ghost use Rattle.py_blocks.specs.Few.{only, pair, triple};
+ghost use Rattle.py_blocks.specs.Known as spec;
 
 use base_types::Seq;
 use py_value::Value;
@@ -31,24 +30,36 @@ pub fn pair(values: Seq<Value>) -> Option<(Value, Value)>
     Some((first, second))
 }
 
-/// The first two values of a list of three.
-pub fn triple(values: Seq<Value>) -> Option<(Value, Value)>
+/// The values of a list of three.
+pub fn triple(values: Seq<Value>) -> Option<(Value, Value, Value)>
     ensures { result ≡ triple values }
 {
     if values.len() != 3 {
         return None;
     }
     let mut values = values;
-    drop(values.pop());
-    pair(values)
+    let third = values.pop()?;
+    let second = values.pop()?;
+    let first = values.pop()?;
+    Some((first, second, third))
 }
 
-/// Whether a value stands for something in the machine, which is no operand so far.
-pub fn is_unbuilt(value: &Value) -> bool
-    ensures { result ≡ list_any is_special (value.now ∷ []) }
+/// Whether a value stands for the cache.
+pub fn is_cache(value: &Value) -> bool
+    ensures { result ≡ spec.is_cache value.now }
 {
     match value {
-        Value::SysModules | Value::SysPath | Value::NsPath => true,
+        Value::SysModules => true,
+        _ => false,
+    }
+}
+
+/// Whether a value stands for the search path.
+pub fn is_path(value: &Value) -> bool
+    ensures { result ≡ spec.is_path value.now }
+{
+    match value {
+        Value::SysPath => true,
         _ => false,
     }
 }

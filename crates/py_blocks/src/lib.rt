@@ -7,6 +7,7 @@ mod branches;
 mod few;
 mod imports;
 mod loops;
+mod placing;
 mod raising;
 mod simple;
 mod targets;

@@ -1,15 +1,19 @@
 //! `while` (Language Reference 8.2).
-ghost use Rattle.std.specs.Prelude.{◌≡◌, IfOk};
+ghost use Rattle.std.specs.Prelude.{◌≡◌, IfOk, true};
 ghost use Rattle.py_meaning.specs.Pieces.{most};
-ghost use Rattle.py_frames.specs.Does.{Does, begins, goes_on};
+ghost use Rattle.py_meaning.specs.Meaning.{around_at};
+ghost use Rattle.py_state.specs.declared.flow.Flow.TheVariants.{Went};
+ghost use Rattle.py_names.specs.Listing.{is_listed};
+ghost use Rattle.py_blocks.specs.Known.{loops};
+ghost use Rattle.py_frames.specs.Does.{Does, begins, goes_on, pieces};
 ghost use Rattle.py_frames.specs.declared.work.Frame.TheVariants as frames;
 ghost use Rattle.py_frames.specs.declared.work.Item.TheVariants as items;
 
-use crate::few::is_unbuilt;
+use crate::few::is_cache;
 use base_types::{NoMemory, Seq};
 use py_faults::Fault;
 use py_frames::{Frame, Item, Want};
-use py_names::fail;
+use py_names::{fail, is_listed};
 use py_state::{Flow, Leave, Thread};
 use py_syntax::{Expr, Stmt};
 use py_value::{Value, truth};
@@ -62,6 +66,45 @@ pub fn begin_test(
     ))
 }
 
+/// The test of a loop has a value of its own: its block comes, or its end.
+fn take_turn(
+    thread: &Thread,
+    test: Shared<Expr>,
+    body: Shared<Seq<Stmt>>,
+    turns: u64,
+    value: Value,
+) -> Result<Want, NoMemory>
+    ensures { IfOk result (Does thread.now (pieces (λ w d. loops (around_at w d) test body turns value) thread.now)) }
+{
+    let _ = thread;
+    if !truth(&value) {
+        return Ok(Want::Go(Flow::Went(Value::Nothing)));
+    }
+    let block = Item::Block {
+        stmts: body.share()?,
+        at: 0,
+    };
+    Ok(Want::Both(block, Frame::Loop { test, body, turns }))
+}
+
+/// A list comes in place of the value of a test, or it is none.
+fn wait_decide(
+    alloc: Global,
+    thread: &Thread,
+    test: Shared<Expr>,
+    body: Shared<Seq<Stmt>>,
+    turns: u64,
+    value: Value,
+) -> Result<Want, NoMemory>
+    requires listed { is_listed value ≡ true }
+    ensures { IfOk result (Does thread.now (goes_on (frames.Decide test body turns) (Went value) thread.now)) }
+{
+    if is_cache(&value) {
+        return fail(alloc, thread, Fault::NotInProfile);
+    }
+    Ok(Want::Both(Item::SearchPath, Frame::Decide { test, body, turns }))
+}
+
 /// The test of a loop has a value: its block comes, or its end.
 pub fn go_on_decide(
     alloc: Global,
@@ -77,17 +120,10 @@ pub fn go_on_decide(
         Flow::Left(leave) => return Ok(Want::Go(Flow::Left(leave))),
         Flow::Went(value) => value,
     };
-    if is_unbuilt(&value) {
-        return fail(alloc, thread, Fault::NotBuilt);
+    if is_listed(&value) {
+        return wait_decide(alloc, thread, test, body, turns, value);
     }
-    if !truth(&value) {
-        return Ok(Want::Go(Flow::Went(Value::Nothing)));
-    }
-    let block = Item::Block {
-        stmts: body.share()?,
-        at: 0,
-    };
-    Ok(Want::Both(block, Frame::Loop { test, body, turns }))
+    take_turn(thread, test, body, turns, value)
 }
 
 /// The block of a loop came to its end: the next turns follow, unless it was left for good.

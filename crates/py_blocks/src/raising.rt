@@ -1,10 +1,11 @@
 //! `return` and `raise` (Language Reference 7.6 and 7.8).
 ghost use Rattle.std.specs.Prelude.{◌≡◌, IfOk, ◌∷◌, []};
 ghost use Rattle.py_value.specs.declared.value.Value.{out-Value};
-ghost use Rattle.py_meaning.specs.Statements.{raises, raises_again, raises_at, raises_value, returns};
+ghost use Rattle.py_meaning.specs.Statements.{raises_again, raises_at, returns};
+ghost use Rattle.py_blocks.specs.Known.{raises_known};
 ghost use Rattle.py_frames.specs.Does.{Does, pieces};
 
-use crate::few::{is_unbuilt, only};
+use crate::few::only;
 use base_types::{Exact, NoMemory, Seq, Text};
 use py_faults::Fault;
 use py_frames::Want;
@@ -57,24 +58,15 @@ fn raise_error(alloc: Global, thread: &Thread, value: Value) -> Result<Want, NoM
     }
 }
 
-fn raise_value(alloc: Global, thread: &Thread, value: Value) -> Result<Want, NoMemory>
-    ensures { IfOk result (Does thread.now (pieces (λ w d. raises_value value) thread.now)) }
-{
-    if is_unbuilt(&value) {
-        return fail(alloc, thread, Fault::NotBuilt);
-    }
-    raise_error(alloc, thread, value)
-}
-
-/// `raise`, with or without what is to be raised.
+/// `raise`, with or without what is to be raised, which has a value of its own.
 pub fn raise(alloc: Global, thread: &Thread, values: Seq<Value>) -> Result<Want, NoMemory>
-    ensures { IfOk result (Does thread.now (pieces (λ w d. raises values) thread.now)) }
+    ensures { IfOk result (Does thread.now (pieces (λ w d. raises_known values) thread.now)) }
 {
     if values.is_empty() {
         return raise_again(alloc, thread);
     }
     match only(values) {
         None => fail(alloc, thread, Fault::NotInProfile),
-        Some(value) => raise_value(alloc, thread, value),
+        Some(value) => raise_error(alloc, thread, value),
     }
 }

@@ -1,16 +1,17 @@
 //! Simple statements on the values of their operands (Language Reference chapter 7).
-ghost use Rattle.std.specs.Prelude.{◌≡◌, IfOk};
-ghost use Rattle.py_syntax.specs.declared.stmt.Stmt.{out-Stmt};
-ghost use Rattle.py_meaning.specs.Statements.{performs_at};
+ghost use Rattle.std.specs.Prelude.{◌≡◌, IfOk, Some, slice_get};
+ghost use Rattle.py_meaning.specs.Meaning.{around_at};
+ghost use Rattle.py_blocks.specs.Known.{acts, performs, performs_some, place_some};
 ghost use Rattle.py_frames.specs.Does.{Does, begins, pieces};
 ghost use Rattle.py_frames.specs.declared.work.Item.TheVariants as items;
 
+use crate::placing::place_of;
 use crate::raising::{raise, return_value};
 use crate::targets::{assign, remove};
 use base_types::{Exact, NoMemory, Seq};
 use py_faults::Fault;
 use py_frames::{Item, Want};
-use py_names::{fail, went};
+use py_names::{fail, list_operand, went};
 use py_state::{Flow, Leave, Thread};
 use py_syntax::Stmt;
 use py_value::Value;
@@ -24,7 +25,7 @@ fn perform_form(
     stmt: &Stmt,
     values: Seq<Value>,
 ) -> Result<Want, NoMemory>
-    ensures { IfOk result (Does thread.new (pieces (λ w d. performs_at (out-Stmt stmt.now) values) thread.old)) }
+    ensures { IfOk result (Does thread.new (pieces (λ w d. performs (around_at w d) stmt.now values) thread.old)) }
 {
     match stmt {
         Stmt::Evaluate(_) | Stmt::Pass => Ok(went(thread, Value::Nothing)),
@@ -43,8 +44,49 @@ fn perform_form(
         Stmt::Continue => Ok(Want::Go(Flow::Left(Leave::Continue))),
         Stmt::Return(_) => return_value(alloc, thread, values),
         Stmt::Raise(_) => raise(alloc, thread, values),
-        _ => fail(alloc, thread, Fault::NotBuilt),
+        _ => fail(alloc, thread, Fault::NotInProfile),
     }
+}
+
+/// A simple statement, at its place in its block, on operands that have values of their own.
+fn perform_known(
+    alloc: Global,
+    thread: &mut Thread,
+    stmts: &Seq<Stmt>,
+    at: usize,
+    values: Seq<Value>,
+) -> Result<Want, NoMemory>
+    ensures { IfOk result (Does thread.new (acts (λ a. performs_some a (slice_get stmts.now at) values) thread.old)) }
+{
+    match stmts.get(at) {
+        None => fail(alloc, thread, Fault::NotInProfile),
+        Some(stmt) => perform_form(alloc, thread, stmt, values),
+    }
+}
+
+/// A list comes in place of the operand at this place, or it is none.
+fn perform_listed(
+    alloc: Global,
+    thread: &Thread,
+    stmts: Shared<Seq<Stmt>>,
+    at: usize,
+    values: Seq<Value>,
+    place: usize,
+) -> Result<Want, NoMemory>
+    requires place { place_some (slice_get stmts at) values ≡ Some place }
+    ensures { IfOk result (Does thread.now (begins (items.Perform stmts at values) thread.now)) }
+{
+    let value = match values.get(place) {
+        None => return fail(alloc, thread, Fault::NotInProfile),
+        Some(value) => value.copy()?,
+    };
+    list_operand(
+        alloc,
+        thread,
+        Item::Perform { stmts, at, values },
+        place,
+        value,
+    )
 }
 
 /// A simple statement, at its place in its block, on the values of its operands.
@@ -57,8 +99,8 @@ pub fn perform(
 ) -> Result<Want, NoMemory>
     ensures { IfOk result (Does thread.new (begins (items.Perform stmts at values) thread.old)) }
 {
-    match stmts.get().get(at) {
-        None => fail(alloc, thread, Fault::NotInProfile),
-        Some(stmt) => perform_form(alloc, thread, stmt, values),
+    match place_of(stmts.get(), at, &values) {
+        None => perform_known(alloc, thread, stmts.get(), at, values),
+        Some(place) => perform_listed(alloc, thread, stmts, at, values, place),
     }
 }

@@ -1,18 +1,20 @@
 //! Assignments and deletions (Language Reference 7.2 and 7.5).
 ghost use Rattle.std.specs.Prelude.{◌≡◌, IfOk};
-ghost use Rattle.py_meaning.specs.Names.{changes_item, deletes_member, sets_member, stores};
-ghost use Rattle.py_meaning.specs.Pieces.{with_one, with_three, with_two};
-ghost use Rattle.py_meaning.specs.Statements.{assigns, removes};
+ghost use Rattle.py_meaning.specs.Meaning.{around_at};
+ghost use Rattle.py_meaning.specs.Names.{stores};
+ghost use Rattle.py_meaning.specs.Pieces.{with_one, with_two};
+ghost use Rattle.py_meaning.specs.Statements.{refuses_item};
+ghost use Rattle.py_blocks.specs.Known.{acts, assigns, assigns_item, assigns_member, deletes_known, removes, removes_member, sets_known};
 ghost use Rattle.py_frames.specs.Does.{Does, pieces};
 
-use crate::few::{only, pair, triple};
+use crate::few::{is_cache, only, pair, triple};
 use base_types::{Exact, NoMemory, Seq, Text};
 use py_faults::Fault;
 use py_frames::{Item, Want};
-use py_names::{change_item, delete_member, delete_name, fail, set_member};
+use py_names::{delete_member, delete_name, fail, set_member};
 use py_state::Thread;
 use py_syntax::Expr;
-use py_value::Value;
+use py_value::{Value, type_of};
 use std::alloc::Global;
 
 fn assign_name(
@@ -38,7 +40,7 @@ fn assign_member(
     name: &Text,
     values: Seq<Value>,
 ) -> Result<Want, NoMemory>
-    ensures { IfOk result (Does thread.now (pieces (λ w d. with_two values (λ v o. sets_member o name.now v)) thread.now)) }
+    ensures { IfOk result (Does thread.now (acts (λ a. assigns_member a name.now values) thread.now)) }
 {
     match pair(values) {
         None => fail(alloc, thread, Fault::NotInProfile),
@@ -46,15 +48,38 @@ fn assign_member(
     }
 }
 
+/// Items of a list are not in the profile, and no other value has any that can be set or deleted.
+fn refuse_item(alloc: Global, thread: &Thread, object: &Value) -> Result<Want, NoMemory>
+    ensures { IfOk result (Does thread.now (pieces (λ w d. refuses_item object.now) thread.now)) }
+{
+    match object {
+        Value::List(_) => fail(alloc, thread, Fault::NotInProfile),
+        _ => fail(alloc, thread, Fault::NoItemAssignment(type_of(object))),
+    }
+}
+
+/// An entry of the cache is set; no other value has any.
+fn set_item(
+    alloc: Global,
+    thread: &Thread,
+    object: &Value,
+    index: Value,
+    value: Value,
+) -> Result<Want, NoMemory>
+    ensures { IfOk result (Does thread.now (pieces (λ w d. sets_known object.now index value) thread.now)) }
+{
+    if is_cache(object) {
+        return Ok(Want::Then(Item::SetEntry { key: index, value }));
+    }
+    refuse_item(alloc, thread, object)
+}
+
 fn assign_item(alloc: Global, thread: &Thread, values: Seq<Value>) -> Result<Want, NoMemory>
-    ensures { IfOk result (Does thread.now (pieces (λ w d. with_three values (λ v o i. changes_item o)) thread.now)) }
+    ensures { IfOk result (Does thread.now (pieces (λ w d. assigns_item values) thread.now)) }
 {
     match triple(values) {
         None => fail(alloc, thread, Fault::NotInProfile),
-        Some((value, object)) => {
-            drop(value);
-            change_item(alloc, thread, &object)
-        }
+        Some((value, object, index)) => set_item(alloc, thread, &object, index, value),
     }
 }
 
@@ -65,7 +90,7 @@ pub fn assign(
     target: &Expr,
     values: Seq<Value>,
 ) -> Result<Want, NoMemory>
-    ensures { IfOk result (Does thread.now (pieces (λ w d. assigns target.now values) thread.now)) }
+    ensures { IfOk result (Does thread.now (pieces (λ w d. assigns (around_at w d) target.now values) thread.now)) }
 {
     match target {
         Expr::Name(name) => assign_name(alloc, thread, name, values),
@@ -81,7 +106,7 @@ fn remove_member(
     name: &Text,
     values: Seq<Value>,
 ) -> Result<Want, NoMemory>
-    ensures { IfOk result (Does thread.now (pieces (λ w d. with_one values (λ o. deletes_member o name.now)) thread.now)) }
+    ensures { IfOk result (Does thread.now (acts (λ a. removes_member a name.now values) thread.now)) }
 {
     match only(values) {
         None => fail(alloc, thread, Fault::NotInProfile),
@@ -89,15 +114,27 @@ fn remove_member(
     }
 }
 
+/// An entry of the cache is deleted; no other value has any.
+fn delete_item(
+    alloc: Global,
+    thread: &Thread,
+    object: &Value,
+    index: Value,
+) -> Result<Want, NoMemory>
+    ensures { IfOk result (Does thread.now (pieces (λ w d. deletes_known object.now index) thread.now)) }
+{
+    if is_cache(object) {
+        return Ok(Want::Then(Item::DeleteEntry(index)));
+    }
+    refuse_item(alloc, thread, object)
+}
+
 fn remove_item(alloc: Global, thread: &Thread, values: Seq<Value>) -> Result<Want, NoMemory>
-    ensures { IfOk result (Does thread.now (pieces (λ w d. with_two values (λ o i. changes_item o)) thread.now)) }
+    ensures { IfOk result (Does thread.now (pieces (λ w d. with_two values deletes_known) thread.now)) }
 {
     match pair(values) {
         None => fail(alloc, thread, Fault::NotInProfile),
-        Some((object, index)) => {
-            drop(index);
-            change_item(alloc, thread, &object)
-        }
+        Some((object, index)) => delete_item(alloc, thread, &object, index),
     }
 }
 
@@ -108,7 +145,7 @@ pub fn remove(
     target: &Expr,
     values: Seq<Value>,
 ) -> Result<Want, NoMemory>
-    ensures { IfOk result (Does thread.new (pieces (λ w d. removes target.now values) thread.old)) }
+    ensures { IfOk result (Does thread.new (pieces (λ w d. removes (around_at w d) target.now values) thread.old)) }
 {
     match target {
         Expr::Name(name) => delete_name(alloc, thread, name.copy()?),

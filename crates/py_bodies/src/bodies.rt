@@ -8,7 +8,7 @@ ghost use Rattle.py_frames.specs.Does.{Does, DoesIn, pieces, begins};
 ghost use Rattle.py_frames.specs.declared.work.Item.TheVariants as items;
 
 use crate::parsing::parsing_of;
-use base_types::{NoMemory, Seq};
+use base_types::{NoMemory, Seq, Text};
 use boxed::Boxed;
 use py_faults::Fault;
 use py_frames::{Frame, Item, Want};
@@ -28,9 +28,10 @@ pub fn start(
     thread: &Thread,
     mid: u32,
     load: u32,
+    name: Text,
     text: Seq<u8>,
 ) -> Result<Want, NoMemory>
-    ensures { IfOk result (Does thread.now (begins (items.Start mid load text) thread.now)) }
+    ensures { IfOk result (Does thread.now (begins (items.Start mid load name text) thread.now)) }
 {
     if thread.left == 0 {
         return fail(alloc, thread, Fault::TooDeep);
@@ -39,23 +40,31 @@ pub fn start(
     Ok(Want::Pay {
         of_tree: false,
         units: units as u64,
-        item: Item::Begin { mid, load, text },
+        item: Item::Begin {
+            mid,
+            load,
+            name,
+            text,
+        },
     })
 }
 
-/// The statements of a script come next, in their own place.
+/// The statements of a script come next, in their own place. The thread keeps the script under the
+/// name of its module.
 fn run(
     alloc: Global,
     thread: &mut Thread,
     mid: u32,
     load: u32,
+    name: Text,
     program: Program,
 ) -> Result<Want, NoMemory>
     requires { 0 < thread.old.left }
-    ensures { IfOk result (Does thread.new (pieces (λ w d. spec.starts (spec.around_at w (d - 1)) mid load (parsings.Parsed program)) thread.old)) }
+    ensures { IfOk result (Does thread.new (pieces (λ w d. spec.starts (spec.around_at w (d - 1)) mid load name (parsings.Parsed program)) thread.old)) }
 {
     let body = program.body()?;
-    thread.state.kept.insert(load, Source { mid, program })?;
+    let source = Source { mid, name, program };
+    thread.state.kept.insert(load, source)?;
     let place = Scope {
         mid,
         load,
@@ -77,9 +86,10 @@ fn begin_parsed(
     thread: &mut Thread,
     mid: u32,
     load: u32,
+    name: Text,
     parsing: Parsing,
 ) -> Result<Want, NoMemory>
-    ensures { IfOk result (Does thread.new (pieces (λ w d. depth.starts_at w d mid load parsing) thread.old)) }
+    ensures { IfOk result (Does thread.new (pieces (λ w d. depth.starts_at w d mid load name parsing) thread.old)) }
 {
     if thread.left == 0 {
         drop(parsing);
@@ -87,7 +97,7 @@ fn begin_parsed(
     }
     match parsing {
         Parsing::Faulty(error) => Ok(Want::Go(Flow::Left(Leave::Raised(error)))),
-        Parsing::Parsed(program) => run(alloc, thread, mid, load, program),
+        Parsing::Parsed(program) => run(alloc, thread, mid, load, name, program),
     }
 }
 
@@ -97,11 +107,12 @@ pub fn begin(
     thread: &mut Thread,
     mid: u32,
     load: u32,
+    name: Text,
     text: Seq<u8>,
 ) -> Result<Want, NoMemory>
-    ensures { IfOk result (DoesIn sources thread.new (begins (items.Begin mid load text) thread.old sources)) }
+    ensures { IfOk result (DoesIn sources thread.new (begins (items.Begin mid load name text) thread.old sources)) }
 {
     let parsing = parsing_of(alloc, text.as_slice())?;
-    let want = begin_parsed(alloc, thread, mid, load, parsing)?;
+    let want = begin_parsed(alloc, thread, mid, load, name, parsing)?;
     Ok(want)
 }

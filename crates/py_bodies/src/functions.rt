@@ -3,7 +3,7 @@ ghost use Rattle.std.specs.Prelude.{◌≡◌, IfOk};
 ghost use Rattle.py_sources.specs.Sources.{sources};
 ghost use Rattle.py_bodies.specs.Depth.{text_in, unsourced_at};
 ghost use Rattle.py_frames.specs.Does.{Does, DoesIn, pieces, replies};
-ghost use Rattle.py_frames.specs.declared.want.OnReply.TheVariants as ons;
+ghost use Rattle.py_frames.specs.declared.replies.OnReply.TheVariants as ons;
 
 use crate::parsing::parsing_of;
 use base_types::{NoMemory, Seq};
@@ -13,15 +13,15 @@ use py_faults::Fault;
 use py_frames::Want;
 use py_names::fail;
 use py_state::Thread;
-use py_value::Value;
+use py_value::{ModRef, Value};
 use std::alloc::Global;
 
-/// The text that a reply brings, and the number of its module.
-fn text_in(reply: Reply) -> Option<(u32, Seq<u8>)>
+/// The text that a reply brings, and its module.
+fn text_in(reply: Reply) -> Option<(ModRef, Seq<u8>)>
     ensures { result ≡ text_in reply }
 {
     match reply {
-        Reply::Loaded(module, text) => Some((module.mid, text)),
+        Reply::Loaded(module, text) => Some((module, text)),
         _ => None,
     }
 }
@@ -52,9 +52,9 @@ pub fn source_came(
             let want = unsourced(alloc, thread)?;
             Ok(want)
         }
-        Some((mid, text)) => {
+        Some((module, text)) => {
             let parsing = parsing_of(alloc, text.as_slice())?;
-            let want = sourced(alloc, thread, load, index, arguments, mid, parsing)?;
+            let want = sourced(alloc, thread, load, index, arguments, module, parsing)?;
             Ok(want)
         }
     }

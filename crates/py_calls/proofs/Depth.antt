@@ -1,6 +1,7 @@
 -- Where one more call may be open.
 use Rattle.std.proofs.Common.{◌≡◌, ℕ, zero, suc, ◌-◌, ◌<◌, List, ap, refl, sym, arith, Some, None, Option}
 use Rattle.std.specs.FinMap as maps
+use Rattle.py_value.specs.declared.value.ModRef.{ModRef}
 use Rattle.py_value.specs.declared.value.Value.{Value}
 use Rattle.py_syntax.specs.declared.stmt.FuncDef.{FuncDef}
 use Rattle.py_state.specs.declared.thread.Parsing.{Parsing}
@@ -10,7 +11,7 @@ use Rattle.py_state.specs.declared.thread.State.{State}
 use Rattle.py_meaning.specs.Operators.{Around}
 use Rattle.py_meaning.specs.Meaning.{World, around_at, functions_at, calls_function, with_source, enters, sourced}
 use Rattle.py_frames.specs.Does.{Rest, want_does}
-use Rattle.py_frames.specs.declared.want.OnReply.TheVariants as on
+use Rattle.py_frames.specs.declared.replies.OnReply.TheVariants as on
 use Rattle.py_frames.specs.declared.want.Want.TheVariants as want
 use Rattle.py_calls.specs.Depth.{enters_some, sourced_at}
 
@@ -20,11 +21,12 @@ functions_more w (suc left) load index vs some =
     let same : left ≡ suc left - 1 = omega arith in
     ap (λ n. calls_function w (around_at w n) load index vs) same
 
-pub sourced_more : (w : World) (left load index : ℕ) (vs : List Value) (mid : ℕ) (parsing : Parsing) → 0 < left → sourced_at w left load index vs mid parsing ≡ sourced (around_at w (left - 1)) load index vs mid parsing
-sourced_more w zero load index vs mid parsing some = absurd (omega (arith, some))
-sourced_more w (suc left) load index vs mid parsing some =
+pub sourced_more : (w : World) (left load index : ℕ) (vs : List Value) (m : ModRef) (parsing : Parsing) → 0 < left
+    → sourced_at w left load index vs m parsing ≡ sourced (around_at w (left - 1)) load index vs m parsing
+sourced_more w zero load index vs m parsing some = absurd (omega (arith, some))
+sourced_more w (suc left) load index vs m parsing some =
     let same : left ≡ suc left - 1 = omega arith in
-    ap (λ n. sourced (around_at w n) load index vs mid parsing) same
+    ap (λ n. sourced (around_at w n) load index vs m parsing) same
 
 pub enters_is : (around : Around) (source : Source) (load : ℕ) (vs : List Value) (f : Option FuncDef) → enters around source load vs f ≡ enters_some around source.mid load vs f
 enters_is around source load vs None = refl

@@ -5,3 +5,4 @@ pub mod Alone
 pub mod Asking
 pub mod Missing
 pub mod Lifts
+pub mod Listed

@@ -1,6 +1,7 @@
 -- A call where so many more may be open.
 use Rattle.std.specs.Prelude.{ℕ, zero, suc, List, length, nat_eq, if◌then◌else◌, Option, Some, None}
 use Rattle.std.specs.FinMap as maps
+use Rattle.py_value.specs.declared.value.ModRef.{ModRef}
 use Rattle.py_value.specs.declared.value.Value.{Value}
 use Rattle.py_syntax.specs.declared.stmt.FuncDef.{FuncDef}
 use Rattle.py_faults.specs.declared.fault.Fault.TheVariants as fault
@@ -28,6 +29,6 @@ enters_some around mid load vs None = fails fault.NotInProfile
 enters_some around mid load vs (Some f) = enters_in around mid load vs f
 
 -- the text of a load came, where so many more calls may be open
-abbrev pub sourced_at : World → ℕ → ℕ → ℕ → List Value → ℕ → Parsing → Piece
-sourced_at w zero load index vs mid parsing = fails fault.TooDeep
-sourced_at w (suc left) load index vs mid parsing = sourced (around_at w left) load index vs mid parsing
+abbrev pub sourced_at : World → ℕ → ℕ → ℕ → List Value → ModRef → Parsing → Piece
+sourced_at w zero load index vs m parsing = fails fault.TooDeep
+sourced_at w (suc left) load index vs m parsing = sourced (around_at w left) load index vs m parsing

@@ -1,7 +1,7 @@
 //! `hasattr` and `getattr` (Library Reference, "Built-in Functions").
 ghost use Rattle.std.specs.Prelude.{◌≡◌, IfOk};
 ghost use Rattle.py_meaning.specs.Calls as spec;
-ghost use Rattle.py_meaning.specs.Paths.{replaced};
+ghost use Rattle.py_calls.specs.Around.{access_at};
 ghost use Rattle.py_calls.specs.Few.{pair};
 ghost use Rattle.py_calls.specs.Asking.{asks_for, asks_or, asks_whether};
 ghost use Rattle.py_frames.specs.Unwind.{is_missing};
@@ -19,7 +19,7 @@ use std::alloc::Global;
 
 /// Whether there is an attribute, by an object and a name.
 fn whether(alloc: Global, thread: &Thread, values: Seq<Value>) -> Result<Want, NoMemory>
-    ensures { IfOk result (Does thread.now (pieces (λ w d. asks_whether replaced (pair values)) thread.now)) }
+    ensures { IfOk result (Does thread.now (pieces (λ w d. asks_whether w d (pair values)) thread.now)) }
 {
     match pair(values) {
         None => fail(alloc, thread, Fault::ArgumentCount(Native::HasAttr)),
@@ -36,14 +36,14 @@ fn whether(alloc: Global, thread: &Thread, values: Seq<Value>) -> Result<Want, N
 /// Whether there is an attribute.
 #[tactic(auto, using(crate::proofs::Asking::hasattr_is))]
 pub fn has_attribute(alloc: Global, thread: &Thread, values: Seq<Value>) -> Result<Want, NoMemory>
-    ensures { IfOk result (Does thread.now (pieces (λ w d. spec.hasattr_call replaced values) thread.now)) }
+    ensures { IfOk result (Does thread.now (pieces (λ w d. spec.hasattr_call (access_at w d) values) thread.now)) }
 {
     whether(alloc, thread, values)
 }
 
 /// An attribute.
 fn attribute(alloc: Global, thread: &Thread, values: Seq<Value>) -> Result<Want, NoMemory>
-    ensures { IfOk result (Does thread.now (pieces (λ w d. asks_for replaced (pair values)) thread.now)) }
+    ensures { IfOk result (Does thread.now (pieces (λ w d. asks_for w d (pair values)) thread.now)) }
 {
     match pair(values) {
         None => fail(alloc, thread, Fault::ArgumentCount(Native::GetAttr)),
@@ -64,7 +64,7 @@ fn attribute_or(
     values: Seq<Value>,
     default: Value,
 ) -> Result<Want, NoMemory>
-    ensures { IfOk result (Does thread.now (pieces (λ w d. asks_or replaced (pair values) default) thread.now)) }
+    ensures { IfOk result (Does thread.now (pieces (λ w d. asks_or w d (pair values) default) thread.now)) }
 {
     match pair(values) {
         None => fail(alloc, thread, Fault::ArgumentCount(Native::GetAttr)),
@@ -84,7 +84,7 @@ fn attribute_or(
 /// An attribute, or the third argument in its place.
 #[tactic(auto, using(crate::proofs::Asking::getattr_is, crate::proofs::Asking::getattr_or))]
 pub fn get_attribute(alloc: Global, thread: &Thread, values: Seq<Value>) -> Result<Want, NoMemory>
-    ensures { IfOk result (Does thread.now (pieces (λ w d. spec.getattr_call replaced values) thread.now)) }
+    ensures { IfOk result (Does thread.now (pieces (λ w d. spec.getattr_call (access_at w d) values) thread.now)) }
 {
     if values.len() != 3 {
         return attribute(alloc, thread, values);

@@ -1,7 +1,5 @@
-//! Lists of few values, and values that are no operands.
+//! Lists of few values.
 ghost use Rattle.std.specs.Prelude.{◌≡◌, ℕ, length};
-ghost use Rattle.std.specs.List.{list_any};
-ghost use Rattle.value_operators.specs.Outcomes.{is_special};
 ghost use Rattle.py_meaning.specs.Calls as spec;
 ghost use Rattle.py_meaning.specs.Pieces as words;
 ghost use Rattle.py_calls.specs.Few.{only, pair};
@@ -11,23 +9,6 @@ use base_types::Seq;
 use py_frames::Want;
 use py_state::{Flow, Leave, Thread};
 use py_value::{Applied, Value};
-
-/// Whether a value stands for something in the machine.
-pub fn is_special(value: &Value) -> bool
-    ensures { result ≡ is_special value.now }
-{
-    match value {
-        Value::SysModules | Value::SysPath | Value::NsPath => true,
-        _ => false,
-    }
-}
-
-/// Whether one of the values stands for something in the machine.
-pub fn has_special(values: &Seq<Value>) -> bool
-    ensures { result ≡ list_any is_special values.now }
-{
-    values.as_slice().iter().any(|value| is_special(value))
-}
 
 /// The value of a list of one.
 pub fn only(values: Seq<Value>) -> Option<Value>

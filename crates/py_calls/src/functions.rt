@@ -17,7 +17,7 @@ use py_frames::{Frame, Item, OnReply, Want};
 use py_functions::{Function, Program};
 use py_names::fail;
 use py_state::{Flow, FunctionScope, Leave, Locals, Parsing, Scope, Source, Thread};
-use py_value::Value;
+use py_value::{ModRef, Value};
 use shared::Shared;
 use std::alloc::Global;
 use std::mem;
@@ -173,19 +173,21 @@ fn keep(
     load: u32,
     index: u32,
     arguments: Seq<Value>,
-    mid: u32,
+    module: ModRef,
     program: Program,
 ) -> Result<Want, NoMemory>
     requires { 0 < thread.old.left }
-    ensures { IfOk result (Does thread.new (pieces (λ w d. spec.sourced (spec.around_at w (d - 1)) load index arguments mid (parsings.Parsed program)) thread.old)) }
+    ensures { IfOk result (Does thread.new (pieces (λ w d. spec.sourced (spec.around_at w (d - 1)) load index arguments «module» (parsings.Parsed program)) thread.old)) }
 {
+    let ModRef { mid, name, .. } = module;
     let function = function_at(&program, index)?;
-    thread.state.kept.insert(load, Source { mid, program })?;
+    let source = Source { mid, name, program };
+    thread.state.kept.insert(load, source)?;
     enter_some(alloc, thread, mid, load, arguments, function)
 }
 
-/// What the text of a function's load comes to is known, and then the function is called. A text that does not parse has no
-/// functions.
+/// What the text of a function's load, which is of this module, comes to is known, and then the function is
+/// called. A text that does not parse has no functions.
 #[tactic(auto, using(crate::proofs::Depth::sourced_more))]
 pub fn sourced(
     alloc: Global,
@@ -193,10 +195,10 @@ pub fn sourced(
     load: u32,
     index: u32,
     arguments: Seq<Value>,
-    mid: u32,
+    module: ModRef,
     parsing: Parsing,
 ) -> Result<Want, NoMemory>
-    ensures { IfOk result (Does thread.new (pieces (λ w d. depth.sourced_at w d load index arguments mid parsing) thread.old)) }
+    ensures { IfOk result (Does thread.new (pieces (λ w d. depth.sourced_at w d load index arguments «module» parsing) thread.old)) }
 {
     if thread.left == 0 {
         drop(parsing);
@@ -204,7 +206,7 @@ pub fn sourced(
     }
     match parsing {
         Parsing::Faulty(_) => fail(alloc, thread, Fault::NotInProfile),
-        Parsing::Parsed(program) => keep(alloc, thread, load, index, arguments, mid, program),
+        Parsing::Parsed(program) => keep(alloc, thread, load, index, arguments, module, program),
     }
 }
 

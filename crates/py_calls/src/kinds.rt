@@ -1,14 +1,16 @@
 //! Calls of kinds of errors (Library Reference, "Built-in Exceptions").
-ghost use Rattle.std.specs.Prelude.{◌≡◌, ◌∷◌, [], IfOk};
+ghost use Rattle.std.specs.Prelude.{◌≡◌, IfOk};
 ghost use Rattle.py_meaning.specs.Calls as spec;
-ghost use Rattle.py_meaning.specs.Pieces as words;
+ghost use Rattle.py_meaning.specs.Pieces.{listed};
+ghost use Rattle.py_calls.specs.Around.{gives_error};
 ghost use Rattle.py_frames.specs.Does.{Does, pieces};
 
-use crate::few::{give, is_special, only, text_of};
+use crate::few::{give, only, text_of};
+use crate::operands::call_listed;
 use base_types::{NoMemory, Seq, Text};
 use py_faults::Fault;
 use py_frames::Want;
-use py_names::{fail, went};
+use py_names::{fail, is_listed, went};
 use py_state::Thread;
 use py_value::{Applied, Kind, Raised, Value};
 use std::alloc::Global;
@@ -38,13 +40,13 @@ fn error_text(alloc: Global, kind: Kind, value: &Value) -> Result<Applied, NoMem
 }
 
 /// An error of the kind with the text of a value.
-fn error_of(alloc: Global, thread: &Thread, kind: Kind, value: &Value) -> Result<Want, NoMemory>
-    ensures { IfOk result (Does thread.now (pieces (λ w d. words.built (value.now ∷ []) (words.gives (spec.made_error kind (spec.error_text kind value.now)))) thread.now)) }
+fn error_of(alloc: Global, thread: &Thread, kind: Kind, value: Value) -> Result<Want, NoMemory>
+    ensures { IfOk result (Does thread.now (pieces (λ w d. listed value (gives_error kind)) thread.now)) }
 {
-    if is_special(value) {
-        return fail(alloc, thread, Fault::NotBuilt);
+    if is_listed(&value) {
+        return call_listed(alloc, thread, Value::Kind(kind), value);
     }
-    let text = error_text(alloc, kind, value)?;
+    let text = error_text(alloc, kind, &value)?;
     let made = made_error(alloc, kind, text)?;
     Ok(give(thread, made))
 }
@@ -68,6 +70,6 @@ pub fn call_kind(
     }
     match only(values) {
         None => fail(alloc, thread, Fault::NotInProfile),
-        Some(value) => error_of(alloc, thread, kind, &value),
+        Some(value) => error_of(alloc, thread, kind, value),
     }
 }

@@ -6,7 +6,9 @@ mod callees;
 mod few;
 mod functions;
 mod kinds;
+mod loading;
 mod natives;
+mod operands;
 mod print;
 
 pub use attributes::{give_default, tell};

@@ -1,19 +1,20 @@
 //! Calls of built-in functions (Library Reference, "Built-in Functions").
-ghost use Rattle.std.specs.Prelude.{◌≡◌, ◌∷◌, [], IfOk};
-ghost use Rattle.value_operators.specs.Items as table;
-ghost use Rattle.value_operators.specs.Texts as texts;
+ghost use Rattle.std.specs.Prelude.{◌≡◌, Some, IfOk};
 ghost use Rattle.py_meaning.specs.Calls as spec;
-ghost use Rattle.py_meaning.specs.Paths.{replaced};
-ghost use Rattle.py_meaning.specs.Pieces as words;
+ghost use Rattle.py_meaning.specs.Pieces.{all_listed, listed};
+ghost use Rattle.py_calls.specs.Around.{calls_built_in, gives_length, gives_repr, gives_str, prints_all};
+ghost use Rattle.py_names.specs.Listing.{first_listed};
 ghost use Rattle.py_frames.specs.Does.{Does, pieces};
 
 use crate::attributes::{get_attribute, has_attribute};
-use crate::few::{give, has_special, is_special, only};
+use crate::few::{give, only};
+use crate::loading::{import_lazily, invalidate, reload};
+use crate::operands::call_listed;
 use crate::print::print;
-use base_types::{NoMemory, Seq, Text};
+use base_types::{Exact, NoMemory, Seq, Text};
 use py_faults::Fault;
-use py_frames::Want;
-use py_names::{fail, went};
+use py_frames::{Item, Want};
+use py_names::{fail, first_listed, is_listed, list_operand, went};
 use py_state::Thread;
 use py_value::{Native, Value, type_of};
 use std::alloc::Global;
@@ -22,27 +23,45 @@ use value_operators::{length_of, repr_of, str_of};
 /// `print` of values that are operands.
 #[tactic(auto, using(crate::proofs::Lines::prints_is))]
 fn print_built(alloc: Global, thread: &Thread, values: &Seq<Value>) -> Result<Want, NoMemory>
-    ensures { IfOk result (Does thread.now (pieces (λ w d. spec.prints (spec.strs_of values.now)) thread.now)) }
+    ensures { IfOk result (Does thread.now (pieces (λ w d. prints_all values.now) thread.now)) }
 {
     print(alloc, thread, values.as_slice())
 }
 
-fn call_print(alloc: Global, thread: &Thread, values: Seq<Value>) -> Result<Want, NoMemory>
-    ensures { IfOk result (Does thread.now (pieces (λ w d. words.built values (spec.prints (spec.strs_of values))) thread.now)) }
+/// `print` of values of which one is none yet: that at this place.
+fn print_listed(
+    alloc: Global,
+    thread: &Thread,
+    values: Seq<Value>,
+    at: usize,
+) -> Result<Want, NoMemory>
+    requires first { first_listed values ≡ Some at }
+    ensures { IfOk result (Does thread.now (pieces (λ w d. all_listed values prints_all) thread.now)) }
 {
-    if has_special(&values) {
-        return fail(alloc, thread, Fault::NotBuilt);
-    }
-    print_built(alloc, thread, &values)
+    let value = values.as_slice()[at].copy()?;
+    let item = Item::Call {
+        callee: Value::Native(Native::Print),
+        arguments: values,
+    };
+    list_operand(alloc, thread, item, at, value)
 }
 
-fn str_value(alloc: Global, thread: &Thread, value: &Value) -> Result<Want, NoMemory>
-    ensures { IfOk result (Does thread.now (pieces (λ w d. words.built (value.now ∷ []) (words.gives (texts.str_of value.now))) thread.now)) }
+fn call_print(alloc: Global, thread: &Thread, values: Seq<Value>) -> Result<Want, NoMemory>
+    ensures { IfOk result (Does thread.now (pieces (λ w d. all_listed values prints_all) thread.now)) }
 {
-    if is_special(value) {
-        return fail(alloc, thread, Fault::NotBuilt);
+    match first_listed(&values) {
+        None => print_built(alloc, thread, &values),
+        Some(at) => print_listed(alloc, thread, values, at),
     }
-    let given = str_of(alloc, value)?;
+}
+
+fn str_value(alloc: Global, thread: &Thread, value: Value) -> Result<Want, NoMemory>
+    ensures { IfOk result (Does thread.now (pieces (λ w d. listed value gives_str) thread.now)) }
+{
+    if is_listed(&value) {
+        return call_listed(alloc, thread, Value::Native(Native::Str), value);
+    }
+    let given = str_of(alloc, &value)?;
     Ok(give(thread, given))
 }
 
@@ -54,17 +73,17 @@ fn call_str(alloc: Global, thread: &Thread, values: Seq<Value>) -> Result<Want, 
     }
     match only(values) {
         None => fail(alloc, thread, Fault::ArgumentCount(Native::Str)),
-        Some(value) => str_value(alloc, thread, &value),
+        Some(value) => str_value(alloc, thread, value),
     }
 }
 
-fn repr_value(alloc: Global, thread: &Thread, value: &Value) -> Result<Want, NoMemory>
-    ensures { IfOk result (Does thread.now (pieces (λ w d. words.built (value.now ∷ []) (words.gives (texts.repr_of value.now))) thread.now)) }
+fn repr_value(alloc: Global, thread: &Thread, value: Value) -> Result<Want, NoMemory>
+    ensures { IfOk result (Does thread.now (pieces (λ w d. listed value gives_repr) thread.now)) }
 {
-    if is_special(value) {
-        return fail(alloc, thread, Fault::NotBuilt);
+    if is_listed(&value) {
+        return call_listed(alloc, thread, Value::Native(Native::Repr), value);
     }
-    let given = repr_of(alloc, value)?;
+    let given = repr_of(alloc, &value)?;
     Ok(give(thread, given))
 }
 
@@ -73,20 +92,27 @@ fn call_repr(alloc: Global, thread: &Thread, values: Seq<Value>) -> Result<Want,
 {
     match only(values) {
         None => fail(alloc, thread, Fault::ArgumentCount(Native::Repr)),
-        Some(value) => repr_value(alloc, thread, &value),
+        Some(value) => repr_value(alloc, thread, value),
     }
 }
 
-fn len_value(alloc: Global, thread: &Thread, value: &Value) -> Result<Want, NoMemory>
-    ensures { IfOk result (Does thread.now (pieces (λ w d. words.built (value.now ∷ []) (spec.length_given (table.length_of value.now) value.now)) thread.now)) }
+/// The length of a value that is an operand.
+fn give_length(alloc: Global, thread: &Thread, value: &Value) -> Result<Want, NoMemory>
+    ensures { IfOk result (Does thread.now (pieces (λ w d. gives_length value.now) thread.now)) }
 {
-    if is_special(value) {
-        return fail(alloc, thread, Fault::NotBuilt);
-    }
     match length_of(value) {
         Some(length) => Ok(went(thread, Value::Int(length as i128))),
         None => fail(alloc, thread, Fault::NoLength(type_of(value))),
     }
+}
+
+fn len_value(alloc: Global, thread: &Thread, value: Value) -> Result<Want, NoMemory>
+    ensures { IfOk result (Does thread.now (pieces (λ w d. listed value gives_length) thread.now)) }
+{
+    if is_listed(&value) {
+        return call_listed(alloc, thread, Value::Native(Native::Len), value);
+    }
+    give_length(alloc, thread, &value)
 }
 
 fn call_len(alloc: Global, thread: &Thread, values: Seq<Value>) -> Result<Want, NoMemory>
@@ -94,7 +120,7 @@ fn call_len(alloc: Global, thread: &Thread, values: Seq<Value>) -> Result<Want, 
 {
     match only(values) {
         None => fail(alloc, thread, Fault::ArgumentCount(Native::Len)),
-        Some(value) => len_value(alloc, thread, &value),
+        Some(value) => len_value(alloc, thread, value),
     }
 }
 
@@ -105,7 +131,7 @@ pub fn call_native(
     native: Native,
     values: Seq<Value>,
 ) -> Result<Want, NoMemory>
-    ensures { IfOk result (Does thread.now (pieces (λ w d. spec.calls_native replaced native values) thread.now)) }
+    ensures { IfOk result (Does thread.now (pieces (λ w d. calls_built_in w d native values) thread.now)) }
 {
     match native {
         Native::Print => call_print(alloc, thread, values),
@@ -114,6 +140,8 @@ pub fn call_native(
         Native::Len => call_len(alloc, thread, values),
         Native::HasAttr => has_attribute(alloc, thread, values),
         Native::GetAttr => get_attribute(alloc, thread, values),
-        _ => fail(alloc, thread, Fault::NotBuilt),
+        Native::InvalidateCaches => invalidate(alloc, thread, &values),
+        Native::Reload => reload(alloc, thread, values),
+        Native::Lazy => import_lazily(alloc, thread, values),
     }
 }

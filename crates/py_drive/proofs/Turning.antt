@@ -1,5 +1,5 @@
 -- From where a script stands to where it stands after a turn.
-use Rattle.std.proofs.Common.{◌≡◌, ◌≤◌, ℕ, List, [], Option, None, refl, sym, ◌∙◌, subst, arith}
+use Rattle.std.proofs.Common.{◌≡◌, ◌≤◌, ℕ, List, [], codes, Option, None, refl, sym, ◌∙◌, subst, arith}
 use Rattle.tree_files.specs.Count.{Rose}
 use Rattle.tree_files.specs.Files.{Files}
 use Rattle.machine_events.specs.declared.event.Event.{Event}
@@ -23,13 +23,13 @@ use Rattle.py_drive.specs.declared.course.Course.{Course}
 use Rattle.py_drive.specs.declared.course.Turn.{Turn}
 
 starts_at : (files : Option Files) (script fuel : ℕ) (text : List ℕ)
-    → At files (meaning sources script text) fuel [] (record { budget = fuel; read = None }) (want_does sources 200 (want.Then (Start script script text)) (rest sources []) (first_state script))
+    → At files (meaning sources script text) fuel [] (record { budget = fuel; read = None }) (want_does sources 200 (want.Then (Start script script (codes "__main__") text)) (rest sources []) (first_state script))
 unfolding meaning
 starts_at files script fuel text = record { stands = stands_start (meaning sources script text) fuel; unread = tt }
 
 -- at first a script stands at the start of its meaning
 pub begins : (files : Option Files) (script fuel : ℕ) (text : List ℕ) (mine : List (Event × Reply)) (c : Course) → mine ≡ [] → Fresh script fuel c
-    → At files (meaning sources script text) fuel mine c.purse (remains c (want.Then (Start script script text)))
+    → At files (meaning sources script text) fuel mine c.purse (remains c (want.Then (Start script script (codes "__main__") text)))
 begins files script fuel text mine c none fresh = rw none (rw fresh.purse (rw fresh.thread (rw fresh.work (starts_at files script fuel text))))
 
 pub holds_first : {S : Type 0} (v : View S) (script fuel : ℕ) (c : Course) → v.mine ≡ [] → Fresh script fuel c → Holds v c.held

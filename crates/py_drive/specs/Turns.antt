@@ -14,7 +14,7 @@ use Rattle.py_meaning.specs.Meaning.{outcome_of}
 use Rattle.py_sources.specs.Sources.{sources}
 use Rattle.py_frames.specs.Does.{want_does, rest, fed}
 use Rattle.py_frames.specs.declared.want.Want.{Want}
-use Rattle.py_frames.specs.declared.work.Procedure.{Procedure}
+use Rattle.py_frames.specs.declared.procedures.Procedure.{Procedure}
 use Rattle.find_load.specs.declared.words.In.{In}
 use Rattle.script_end.specs.Ending.{Holds}
 use Rattle.py_drive.specs.At.{At}

@@ -1,5 +1,5 @@
 //! The loop that does the work of a script.
-ghost use Rattle.std.specs.Prelude.{◌≡◌, [], None, IfOk, OnOk, OnErr, IsErrOf};
+ghost use Rattle.std.specs.Prelude.{◌≡◌, [], None, codes, IfOk, OnOk, OnErr, IsErrOf};
 ghost use Rattle.thread_knowledge.specs.Shown.{shown_first};
 ghost use Rattle.meanings.specs.Runs.{Safe, StandsIn};
 ghost use Rattle.script_port.specs.View.{View, Stays};
@@ -12,7 +12,7 @@ ghost use Rattle.py_drive.specs.Overs.{Begun, Fresh, Overs};
 use crate::course::{Course, Turn};
 use crate::purse::Purse;
 use crate::turn::give;
-use base_types::Seq;
+use base_types::{Seq, Text};
 use py_frames::{Item, Want, Work};
 use py_state::{Flow, Scope, Stack, State, Thread};
 use script_holds::Held;
@@ -63,9 +63,58 @@ impl Course {
     }
 }
 
-/// Runs a script to its end, but for what it still holds and its End event.
+/// Runs the body of a script to its end, in the module of this name.
 ///
 /// A count of the turns that would pass the end of its type is want of memory.
+fn go<P: Port, T: Tree>(
+    alloc: Global,
+    port: &mut P,
+    tree: &mut T,
+    course: &mut Course,
+    script: u32,
+    name: Text,
+    text: Seq<u8>,
+    fuel: u64,
+) -> Result<Over, Halt>
+    requires name { name ≡ codes "__main__" }
+    requires begun { Begun (P.view port.old) script }
+    requires fresh { Fresh script fuel course.old }
+    requires safe { Safe (shown_first script) (meaning sources script text) }
+    ensures stays { Stays (P.view port.old) (P.view port.new) }
+    ensures over { IfOk result (Overs (T.files tree.old) (T.faults tree.old) (T.faults tree.new) (meaning sources script text) fuel (P.view port.new).mine) }
+    ensures holds { OnOk result (Holds (P.view port.new) course.new.held) }
+    ensures part { OnErr result (StandsIn (T.files tree.old) (meaning sources script text) fuel (P.view port.new).mine) }
+    ensures refused { IsErrOf result Halt.Refused → RefusedAt (P.view port.new) (T.files tree.old) (meaning sources script text) fuel }
+    ensures asked { Asked (T.files tree.old) (T.files tree.new) (T.faults tree.old) (T.faults tree.new) }
+    ensures kept { OnOk result (AllKept (T.lists tree.old) (T.lists tree.new) (P.view port.old).mine (P.view port.new).mine) }
+{
+    let mut want = Want::Then(Item::Start {
+        mid: script,
+        load: script,
+        name,
+        text,
+    });
+    let mut turns: u64 = 0;
+    'turns: loop {
+        if turns == u64::MAX {
+            drop(want);
+            return Err(Halt::NoMemory);
+        }
+        turns += 1;
+        let turn = match give(alloc, port, tree, course, want) {
+            Ok(turn) => turn,
+            Err(halt) => return Err(halt),
+        };
+        match turn {
+            Turn::On(next) => want = next,
+            Turn::Came(flow) => return Ok(Over::Came(flow)),
+            Turn::Out => return Ok(Over::Out),
+            Turn::Unread(left) => return Ok(Over::Unread(left)),
+        }
+    }
+}
+
+/// Runs a script to its end, but for what it still holds and its End event.
 pub fn run<P: Port, T: Tree>(
     alloc: Global,
     port: &mut P,
@@ -86,27 +135,11 @@ pub fn run<P: Port, T: Tree>(
     ensures asked { Asked (T.files tree.old) (T.files tree.new) (T.faults tree.old) (T.faults tree.new) }
     ensures kept { OnOk result (AllKept (T.lists tree.old) (T.lists tree.new) (P.view port.old).mine (P.view port.new).mine) }
 {
-    let mut want = Want::Then(Item::Start {
-        mid: script,
-        load: script,
-        text,
-    });
-    let mut turns: u64 = 0;
-    'turns: loop {
-        if turns == u64::MAX {
-            drop(want);
-            return Err(Halt::NoMemory);
-        }
-        turns += 1;
-        let turn = match give(alloc, port, tree, course, want) {
-            Ok(turn) => turn,
-            Err(halt) => return Err(halt),
-        };
-        match turn {
-            Turn::On(next) => want = next,
-            Turn::Came(flow) => return Ok(Over::Came(flow)),
-            Turn::Out => return Ok(Over::Out),
-            Turn::Unread(left) => return Ok(Over::Unread(left)),
+    match Text::from_str(alloc, "__main__") {
+        Ok(name) => go(alloc, port, tree, course, script, name, text, fuel),
+        Err(_) => {
+            drop(text);
+            Err(Halt::NoMemory)
         }
     }
 }

@@ -52,8 +52,6 @@ pub enum Fault {
     TextTooLong,
     /// What the language of scripts leaves out.
     NotInProfile,
-    /// What is not built so far.
-    NotBuilt,
     /// The entry of the name in the cache is `None`.
     Halted(Text),
     /// No module of the name was found.
@@ -80,6 +78,26 @@ pub enum Fault {
     Lost(Text),
     /// The file has more than 1,048,576 bytes.
     TooLong,
+    /// The method of this name was given too few or too many arguments.
+    MethodCount(Text),
+    /// An index is no number.
+    NotIndices,
+    /// A key is a list, or a tuple that holds one.
+    Unhashable,
+    /// The search path has 4,096 entries.
+    PathFull,
+    /// What is to be reloaded is no module.
+    NotReloadable,
+    /// The module that is to be reloaded is not the entry of its name.
+    NotCached(Text),
+    /// It is not the entry any more once its lock is free.
+    NoLongerCached(Text),
+    /// The parent of a module that is to be reloaded has no entry.
+    ParentNotCached(Text),
+    /// The entry of the parent is `None`, which has no path.
+    NothingHasNoPath,
+    /// No file of the module that is to be reloaded was found.
+    NoSpec(Text),
     /// This error.
     Given(Raised),
 }
@@ -179,6 +197,31 @@ fn not_found(alloc: Global, front: &str, name: Text, back: &str) -> Result<Raise
     })
 }
 
+/// The error of an import that has to do with the module of this name.
+fn import_error(alloc: Global, front: &str, name: Text, back: &str) -> Result<Raised, NoMemory>
+    ensures { IfOk result (λ error. error ≡ table.import_error (front.now ++ name ++ back.now) name) }
+{
+    let text = format!(in alloc; "{front}{}{back}", name.as_str())?;
+    Ok(Raised {
+        kind: Kind::ImportError,
+        text: Text::from_string(text),
+        name: Some(name),
+    })
+}
+
+/// The error of a wrong number of arguments for a built-in function or a method.
+fn argument_count(alloc: Global, name: &str) -> Result<Raised, NoMemory>
+    ensures { IfOk result (λ error. error ≡ table.raised kinds.TypeError (codes "wrong number of arguments for " ++ name.now ++ codes "()")) }
+{
+    around(
+        alloc,
+        Kind::TypeError,
+        "wrong number of arguments for ",
+        name,
+        "()",
+    )
+}
+
 /// Where the text of a failed `from` import says that it looked.
 fn looked_in(
     alloc: Global,
@@ -267,14 +310,17 @@ pub fn raised(alloc: Global, fault: Fault) -> Result<Raised, NoMemory>
                 "'",
             );
         }
-        Fault::ArgumentCount(native) => {
-            return around(
-                alloc,
-                Kind::TypeError,
-                "wrong number of arguments for ",
-                native.name(),
-                "()",
-            );
+        Fault::ArgumentCount(native) => return argument_count(alloc, native.name()),
+        Fault::MethodCount(name) => return argument_count(alloc, name.as_str()),
+        Fault::NotCached(n) => return import_error(alloc, "module ", n, " not in sys.modules"),
+        Fault::NoLongerCached(n) => {
+            return import_error(alloc, "module '", n, "' not in sys.modules");
+        }
+        Fault::ParentNotCached(n) => {
+            return import_error(alloc, "parent '", n, "' not in sys.modules");
+        }
+        Fault::NoSpec(n) => {
+            return not_found(alloc, "spec not found for the module '", n, "'");
         }
         Fault::Parameters {
             function,
@@ -342,6 +388,16 @@ pub fn raised(alloc: Global, fault: Fault) -> Result<Raised, NoMemory>
             );
         }
         Fault::Lost(n) => return around(alloc, Kind::KeyError, "'", n.as_str(), "'"),
+        Fault::NotIndices => return plain(alloc, Kind::TypeError, "indices must be integers"),
+        Fault::Unhashable => return plain(alloc, Kind::TypeError, "unhashable type: 'list'"),
+        Fault::PathFull => return plain(alloc, Kind::ProfileError, "list too long"),
+        Fault::NotReloadable => {
+            return plain(alloc, Kind::TypeError, "reload() argument must be a module");
+        }
+        Fault::NothingHasNoPath => {
+            let text = "'NoneType' object has no attribute '__path__'";
+            return plain(alloc, Kind::AttributeError, text);
+        }
         Fault::Given(error) => return Ok(error),
         Fault::NameNotText => (Kind::TypeError, "attribute name must be string"),
         Fault::NoException => (Kind::TypeError, "exceptions must derive from BaseException"),
@@ -353,7 +409,6 @@ pub fn raised(alloc: Global, fault: Fault) -> Result<Raised, NoMemory>
         Fault::TooDeep => (Kind::RecursionError, "maximum recursion depth exceeded"),
         Fault::TextTooLong => (Kind::ProfileError, "text too long"),
         Fault::NotInProfile => (Kind::ProfileError, "not in the profile"),
-        Fault::NotBuilt => (Kind::ProfileError, "not built yet"),
         Fault::TooLong => (Kind::SyntaxError, "source is longer than 1048576 bytes"),
     };
     plain(alloc, kind, text)

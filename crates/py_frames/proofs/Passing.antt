@@ -103,6 +103,9 @@ statement_passes around (Some stmt) k leave s is = form_passes around (out-Stmt 
 pub frame_passes : (w : World) (d : ℕ) (leave : Leave) (f : Frame) (next : Rest) (s : State) → stops leave f ≡ false → frame_does w d f next (Left leave) s ≡ next d (Left leave) s
 frame_passes w d leave frame.Sized next s is = refl
 frame_passes w d leave (frame.Operands form vs) next s is = refl
+frame_passes w d leave (frame.Callee e) next s is = refl
+frame_passes w d leave (frame.Listed item at) next s is = refl
+frame_passes w d leave (frame.Roused event o) next s is = refl
 frame_passes w d leave (frame.Second e) next s is = refl
 frame_passes w d leave (frame.Block stmts at) next s is = refl
 frame_passes w d leave (frame.Test bs at otherwise) next s is = refl

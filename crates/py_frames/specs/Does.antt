@@ -1,5 +1,5 @@
 -- What the work that remains will do, in the words of the meaning.
-use Rattle.std.specs.Prelude.{◌≡◌, ℕ, zero, suc, List, [], ◌∷◌, ◌++◌, map, drop, length, slice_get, Option, Some, None, Bool, true, false}
+use Rattle.std.specs.Prelude.{◌≡◌, ℕ, zero, suc, List, [], ◌∷◌, ◌++◌, map, drop, length, slice_get, slice_set, Option, Some, None, Bool, true, false}
 use Rattle.py_value.specs.declared.value.ModRef.{ModRef}
 use Rattle.py_value.specs.declared.value.Raised.{Raised as Error}
 use Rattle.py_value.specs.declared.value.Value.{Value}
@@ -21,31 +21,35 @@ use Rattle.py_state.specs.declared.flow.Flow.{Flow}
 use Rattle.py_state.specs.declared.flow.Flow.TheVariants.{Went, Left}
 use Rattle.py_state.specs.declared.thread.State.{State}
 use Rattle.py_state.specs.declared.thread.Thread.{Thread}
-use Rattle.py_meaning.specs.Pieces.{Piece, Onward, pay, calls, after_reply, on_value, done, passes, fails, sized, gathers, in_order, built, decides}
-use Rattle.py_meaning.specs.Names.{reads_global, read_global, member, member_read, stores, stored, deleted, member_deleted}
+use Rattle.py_meaning.specs.Pieces.{Piece, Onward, pay, calls, after_reply, on_value, done, passes, fails, sized, gathers, in_order, applied_on, as_list, listed, decides}
+use Rattle.py_meaning.specs.Names.{reads_global, read_global, member, member_came, stores, stored, member_stored, deleted, member_deleted}
+use Rattle.py_meaning.specs.Entries.{reads_entry, has_entry, sets_entry, deletes_entry, pops_entry, looked_up, entry_or, tells_entry, entry_set, taken_out, dropped}
+use Rattle.py_meaning.specs.Methods.{calls_method, adds_entry, path_added}
 use Rattle.py_meaning.specs.Calls.{telling, defaulting}
-use Rattle.py_meaning.specs.Operators.{Around, operands_at, applies_at, atom_at, conjoins, disjoins, eval}
+use Rattle.py_meaning.specs.Operators.{Around, operands_at, applies_at, atom_at, conjoins, disjoins, calls_member, eval}
 use Rattle.py_meaning.specs.Statements.{BranchPiece, HandlerPiece, DefPiece, augment, stmt_operands_at, performs_at, tests, turn, turns, looped, handled, handles, binds_error, chosen, takes, catches, tried, tries, finishes, resumes, guards, unbinds, defines, run, branch, handler, run_all}
 use Rattle.py_meaning.specs.Imports.{opens}
 use Rattle.py_meaning.specs.Meaning.{World, around_at, inside_at, calls_at, imports_at, bodies_at, starts, loaded, body_gives, ends}
-use Rattle.py_meaning.specs.ImportStatements.{with_module, imports_one, imports_all, imports_front, binds_import, follows_parts, name_of, name_read, submodule_entry, missed, tried_submodule, submodule_read, submodule, submodules, if_package, asks_submodules, binds_item, binds_items, binds_star, binds_stars, public_names, all_read, package_in, optional_name, from_resolved, imported_names, from_import}
+use Rattle.py_meaning.specs.ImportStatements.{with_module, imports_one, imports_all, imports_front, binds_import, follows_parts, name_of, name_came, submodule_entry, missed, tried_submodule, submodule_came, submodule, submodules, package_came, asks_submodules, binds_item, binds_items, binds_star, binds_stars, public_names, all_came, package_in, optional_name, from_resolved, imported_names, from_import}
 use Rattle.module_paths.specs.Means.{means as path_means}
+use Rattle.reload_lazy.specs.Rouse.{means as rouse_means}
+use Rattle.reload_lazy.specs.Reload.{means as reload_means}
 use Rattle.path_finder.specs.Steps.{searches}
 use Rattle.search_meaning.specs.Searches.{searches_in}
 use Rattle.spec_core.specs.Relative.{resolved}
 use Rattle.find_load.specs.Means.{means}
 use Rattle.find_load.specs.declared.words.In.{In}
 use Rattle.find_load.specs.declared.words.In.TheVariants as given
-use Rattle.py_frames.specs.declared.work.Procedure.{Procedure}
-use Rattle.py_frames.specs.declared.work.Procedure.TheVariants.{Import, Path}
+use Rattle.py_frames.specs.declared.procedures.Procedure.{Procedure}
+use Rattle.py_frames.specs.declared.procedures.Procedure.TheVariants.{Import, Path, Rouse, Reload}
 use Rattle.py_frames.specs.declared.work.Form.{Form}
-use Rattle.py_frames.specs.declared.work.Form.TheVariants.{Expression, Statement}
+use Rattle.py_frames.specs.declared.work.Form.TheVariants.{Expression, Statement, Method}
 use Rattle.py_frames.specs.declared.work.Item.{Item}
 use Rattle.py_frames.specs.declared.work.Item.TheVariants as it
 use Rattle.py_frames.specs.declared.work.Frame.{Frame}
 use Rattle.py_frames.specs.declared.work.Frame.TheVariants as frame
-use Rattle.py_frames.specs.declared.want.OnReply.{OnReply}
-use Rattle.py_frames.specs.declared.want.OnReply.TheVariants as on
+use Rattle.py_frames.specs.declared.replies.OnReply.{OnReply}
+use Rattle.py_frames.specs.declared.replies.OnReply.TheVariants as on
 use Rattle.py_frames.specs.declared.want.Want.{Want}
 use Rattle.py_frames.specs.declared.want.Want.TheVariants as want
 
@@ -60,18 +64,58 @@ abbrev pub operands_of_stmt : Option Stmt → List Expr
 operands_of_stmt None = []
 operands_of_stmt (Some s) = stmt_operands_at (out-Stmt s)
 
-abbrev pub performs : Option Stmt → List Value → Piece
-performs None vs = fails fault.NotInProfile
-performs (Some s) vs = performs_at (out-Stmt s) vs
+abbrev pub performs : Around → Option Stmt → List Value → Piece
+performs around None vs = fails fault.NotInProfile
+performs around (Some s) vs = performs_at around.access (out-Stmt s) vs
+
+-- the arguments of a call, and the attribute that it names
+abbrev pub arguments_at : Expr-F Expr → List Expr
+arguments_at (Expr-F.Call callee es) = es
+arguments_at form = []
+
+abbrev pub attribute_name : Expr-F Expr → List ℕ
+attribute_name (Expr-F.Attribute object x) = x
+attribute_name form = []
+
+abbrev pub method_name_at : Expr-F Expr → List ℕ
+method_name_at (Expr-F.Call callee es) = attribute_name (out-Expr callee)
+method_name_at form = []
+
+abbrev pub arguments_of : Expr → List Expr
+arguments_of e = arguments_at (out-Expr e)
+
+abbrev pub method_name : Expr → List ℕ
+method_name e = method_name_at (out-Expr e)
 
 abbrev pub operands_of : Form → List Expr
 operands_of (Expression e) = operands_at (out-Expr e)
 operands_of (Statement stmts at) = operands_of_stmt (slice_get stmts at)
+operands_of (Method e object) = arguments_of e
 
 -- a form on the values of its operands: an operator is paid for first
 abbrev pub completes : Around → Form → List Value → Piece
-completes around (Expression e) vs = λ s k. pay 1 (applies_at around (out-Expr e) vs s (sized k))
-completes around (Statement stmts at) vs = performs (slice_get stmts at) vs
+completes around (Expression e) vs = applied_on (applies_at around (out-Expr e)) vs
+completes around (Statement stmts at) vs = performs around (slice_get stmts at) vs
+completes around (Method e object) vs = applied_on (calls_method object (method_name e)) vs
+
+-- behind the object of the attribute that a call names, and its unit
+abbrev pub calls_callee : Around → Expr → Value → Piece
+calls_callee around e object = calls_member around (method_name e) (map (eval around) (arguments_of e)) object
+
+-- ---- an operand in whose place a list comes
+
+abbrev pub with_operand : Item → ℕ → Value → Item
+with_operand (it.Apply e vs) at v = it.Apply e (slice_set vs at v)
+with_operand (it.Augment x o vs) at v = it.Augment x o (slice_set vs at v)
+with_operand (it.Perform stmts place vs) at v = it.Perform stmts place (slice_set vs at v)
+with_operand (it.Call f vs) at v = it.Call f (slice_set vs at v)
+with_operand (it.Choose e left) at v = it.Choose e v
+with_operand (it.ReadEntry key default) at v = it.ReadEntry v default
+with_operand (it.HasEntry key is_negated) at v = it.HasEntry v is_negated
+with_operand (it.SetEntry key value) at v = it.SetEntry v value
+with_operand (it.DeleteEntry key) at v = it.DeleteEntry v
+with_operand (it.PopEntry key default) at v = it.PopEntry v default
+with_operand item at v = item
 
 -- `and` and `or` behind their left operand
 abbrev pub chooses_at : Around → Expr-F Expr → Value → Piece
@@ -196,7 +240,7 @@ begun_at around (Stmt-F.If bs otherwise) = tests (branches around bs) (run_all a
 begun_at around (Stmt-F.Try body hs otherwise last) =
     guards (map (run around) last) (tries (run_all around body) (handlers around hs) (run_all around otherwise))
 begun_at around (Stmt-F.Def f) = defines (record { number = f.number; name = f.name })
-begun_at around stmt = gathers (map (eval around) (stmt_operands_at stmt)) [] (performs_at stmt)
+begun_at around stmt = gathers (map (eval around) (stmt_operands_at stmt)) [] (performs_at around.access stmt)
 
 abbrev pub begun : Around → Option Stmt → Piece
 begun around None = fails fault.NotInProfile
@@ -230,12 +274,14 @@ decides_some around (Some b) v others = decides v (run_all around b.body) others
 
 abbrev pub fed : World → ℕ → Procedure → In → Piece
 fed w left (Import p) input = means (inside_at w left) p input
-fed w left (Path p) input = path_means p input
+fed w left (Path p) input = path_means (inside_at w left) p input
+fed w left (Rouse p) input = rouse_means (inside_at w left) p input
+fed w left (Reload p) input = reload_means (inside_at w left) p input
 
 -- a body that is paid for, where one more may be open
-abbrev pub begins_at : World → ℕ → ℕ → ℕ → List ℕ → Piece
-begins_at w zero mid load text = fails fault.TooDeep
-begins_at w (suc left) mid load text = starts (around_at w left) mid load (w text)
+abbrev pub begins_at : World → ℕ → ℕ → ℕ → List ℕ → List ℕ → Piece
+begins_at w zero mid load n text = fails fault.TooDeep
+begins_at w (suc left) mid load n text = starts (around_at w left) mid load n (w text)
 
 -- a function's text came, where one more call may be open
 abbrev pub loaded_at : World → ℕ → ℕ → ℕ → List Value → Reply → Piece
@@ -244,16 +290,29 @@ loaded_at w (suc left) load index vs reply = loaded w (around_at w left) load in
 
 -- ---- one piece of work, where `next` is the rest
 
+-- goes on with a value
+abbrev pub goes_with : Value → Piece
+goes_with v s k = k (Went v) s
+
 abbrev pub item_piece : World → ℕ → Item → Piece
 item_piece w d (it.Give flow) = λ s k. k flow s
 item_piece w d (it.Eval e) = eval (around_at w d) e
-item_piece w d (it.Atom e) = λ s k. atom_at (out-Expr e) s (sized k)
+item_piece w d (it.Atom e) = λ s k. atom_at (around_at w d).access (out-Expr e) s (sized k)
 item_piece w d (it.Operands form vs) = gathers (map (eval (around_at w d)) (drop (length vs) (operands_of form))) vs (completes (around_at w d) form)
 item_piece w d (it.Apply e vs) = λ s k. applies_at (around_at w d) (out-Expr e) vs s (sized k)
-item_piece w d (it.Perform stmts at vs) = performs (slice_get stmts at) vs
+item_piece w d (it.Callee e object) = calls_callee (around_at w d) e object
+item_piece w d (it.Method e object vs) = λ s k. calls_method object (method_name e) vs s (sized k)
+item_piece w d it.SearchPath = λ s k. calls e.PathGet (λ reply. as_list goes_with reply s k)
+item_piece w d (it.ReadEntry key default) = reads_entry key default
+item_piece w d (it.HasEntry key is_negated) = has_entry is_negated key
+item_piece w d (it.SetEntry key v) = sets_entry key v
+item_piece w d (it.DeleteEntry key) = deletes_entry key
+item_piece w d (it.PopEntry key default) = pops_entry key default
+item_piece w d (it.AddEntry at v) = adds_entry at v
+item_piece w d (it.Perform stmts at vs) = performs (around_at w d) (slice_get stmts at) vs
 item_piece w d (it.Choose e v) = chooses (around_at w d) e v
-item_piece w d (it.ReadGlobal x) = reads_global x
-item_piece w d (it.Member object x) = member (around_at w d).replaced object x
+item_piece w d (it.ReadGlobal x) = reads_global (around_at w d).access x
+item_piece w d (it.Member object x) = member (around_at w d).access object x
 item_piece w d (it.Call f vs) = calls_at w d f vs
 item_piece w d (it.Store x v) = stores x v
 item_piece w d (it.Augment x o vs) = augment x o vs
@@ -262,7 +321,7 @@ item_piece w d (it.Statement stmts at) = runs_some (around_at w d) (slice_get st
 item_piece w d (it.Begun stmts at) = begun (around_at w d) (slice_get stmts at)
 item_piece w d (it.Imports stmts at place) = imports_all (around_at w d) (drop place (aliases_of (slice_get stmts at)))
 item_piece w d (it.Alias stmts at place) = imports_some (around_at w d) (slice_get (aliases_of (slice_get stmts at)) place)
-item_piece w d (it.Import x is_parent) = imports_at w d is_parent x
+item_piece w d (it.Import x is_parent is_lazy) = imports_at w d is_parent is_lazy x
 item_piece w d (it.From stmts at) = from_some (around_at w d) (slice_get stmts at)
 item_piece w d (it.FromModule m x is_bound) = name_of (around_at w d) is_bound m x
 item_piece w d (it.AskSubmodules m xs) = asks_submodules (around_at w d) m xs
@@ -273,8 +332,8 @@ item_piece w d (it.Binding m stmts at place) = binds_some_item (around_at w d) m
 item_piece w d (it.Stars m xs at) = binds_stars (around_at w d) m (drop at xs)
 item_piece w d (it.Star m x) = binds_star (around_at w d) m x
 item_piece w d (it.Feed p input) = fed w d p input
-item_piece w d (it.Start mid load text) = bodies_at w d mid load text
-item_piece w d (it.Begin mid load text) = begins_at w d mid load text
+item_piece w d (it.Start mid load n text) = bodies_at w d mid load n text
+item_piece w d (it.Begin mid load n text) = begins_at w d mid load n text
 item_piece w d (it.Branches bs at otherwise) = tests (branches (around_at w d) (drop at bs)) (run_all (around_at w d) otherwise)
 item_piece w d (it.Turn test body n) = turns n (eval (around_at w d) test) (run_all (around_at w d) body)
 item_piece w d (it.Test test body n) = turn (eval (around_at w d) test) (run_all (around_at w d) body) (turns n (eval (around_at w d) test) (run_all (around_at w d) body))
@@ -286,12 +345,46 @@ item_piece w d (it.Handle hs at error) = handles_some (around_at w d) (slice_get
 abbrev pub item_does : World → ℕ → Item → Rest → State → Run
 item_does w d item next s = item_piece w d item s (next d)
 
+-- what goes on by a reply
+abbrev pub reply_piece : World → ℕ → OnReply → Reply → Piece
+reply_piece w d on.Done reply = passes
+reply_piece w d (on.Global x) reply = read_global (around_at w d).access reply x
+reply_piece w d (on.Member m x raw) reply = member_came (around_at w d).access raw m x reply
+reply_piece w d on.Stored reply = stored reply
+reply_piece w d (on.MemberStored m x v raw) reply = member_stored (around_at w d).access raw m x v reply
+reply_piece w d (on.Deleted x) reply = deleted reply x
+reply_piece w d (on.MemberDeleted m x raw) reply = member_deleted (around_at w d).access raw m x reply
+reply_piece w d (on.Unbound flow) reply = λ s k. k flow s
+reply_piece w d (on.Sourced load index vs) reply = loaded_at w d load index vs reply
+reply_piece w d (on.Feed p) reply = fed w d p (given.Replied reply)
+reply_piece w d (on.FromModule m x is_bound raw) reply = name_came (around_at w d) raw is_bound m x reply
+reply_piece w d (on.Entry m x init) reply = submodule_entry m x init reply
+reply_piece w d (on.IfPackage m xs raw) reply = package_came (around_at w d) raw m xs reply
+reply_piece w d (on.Submodule m x raw) reply = submodule_came (around_at w d) raw m x reply
+reply_piece w d (on.Missed error) reply = missed error reply
+reply_piece w d (on.All m raw) reply = all_came (around_at w d) raw m reply
+reply_piece w d (on.Names m) reply = public_names m (around_at w d) reply
+reply_piece w d on.SearchPath reply = as_list goes_with reply
+reply_piece w d (on.EntryFound key default) reply = looked_up (entry_or key default) reply
+reply_piece w d (on.EntryTold is_negated) reply = looked_up (tells_entry is_negated) reply
+reply_piece w d on.EntrySet reply = entry_set reply
+reply_piece w d (on.EntryDeleted key) reply = taken_out (dropped key) reply
+reply_piece w d (on.EntryPopped key default) reply = taken_out (entry_or key default) reply
+reply_piece w d on.PathAdded reply = path_added reply
+reply_piece w d (on.Package stmts at) reply = relative_some (around_at w d) (slice_get stmts at) reply
+
+abbrev pub reply_does : World → ℕ → OnReply → Rest → State → Reply → Run
+reply_does w d o next s reply = reply_piece w d o reply s (next d)
+
 -- what waits, and then `next`
 abbrev pub frame_does : World → ℕ → Frame → Rest → Onward
 frame_does w d frame.Sized next = sized (next d)
 frame_does w d (frame.Operands form vs) next =
     on_value (next d) (λ v s.
     gathers (map (eval (around_at w d)) (drop (suc (length vs)) (operands_of form))) (vs ++ v ∷ []) (completes (around_at w d) form) s (next d))
+frame_does w d (frame.Callee e) next = on_value (next d) (λ object s. pay 1 (calls_callee (around_at w d) e object s (next d)))
+frame_does w d (frame.Listed item at) next = on_value (next d) (λ v s. item_piece w d (with_operand item at v) s (next d))
+frame_does w d (frame.Roused event o) next = on_value (next d) (λ _ s. calls event (λ reply. reply_does w d o next s reply))
 frame_does w d (frame.Second e) next = on_value (next d) (λ v s. pay 1 (chooses (around_at w d) e v s (next d)))
 frame_does w d (frame.Block stmts at) next = on_value (next d) (λ _ s. run_all (around_at w d) (drop at stmts) s (next d))
 frame_does w d (frame.Test bs at otherwise) next =
@@ -304,7 +397,7 @@ frame_does w d (frame.Loop test body n) next = looped (next d) (turns n (eval (a
 frame_does w d (frame.Handlers stmts at) next = tried_some (around_at w d) (slice_get stmts at) (next d)
 frame_does w d (frame.Catch hs at error) next =
     on_value (next d) (λ v s.
-    built (v ∷ []) (chosen_some (around_at w d) (slice_get hs at) error (catches_from (around_at w d) hs (suc at) error) (takes error.kind v)) s (next d))
+    listed v (λ v. chosen_some (around_at w d) (slice_get hs at) error (catches_from (around_at w d) hs (suc at) error) (takes error.kind v)) s (next d))
 frame_does w d (frame.Handle hs at error) next = on_value (next d) (λ _ s. handles_some (around_at w d) (slice_get hs at) error s (next d))
 frame_does w d (frame.EndHandler bound) next = λ flow s. unbinds bound flow (handled s) (next d)
 frame_does w d (frame.Finally block) next = finishes (run_all (around_at w d) block) (next d)
@@ -336,29 +429,6 @@ frame_does w d (frame.GetAttr v) next = defaulting (next d) v
 abbrev pub rest : World → List Frame → Rest
 rest w [] d = ends
 rest w (f ∷ fs) d = frame_does w d f (rest w fs)
-
--- what goes on by a reply
-abbrev pub reply_piece : World → ℕ → OnReply → Reply → Piece
-reply_piece w d on.Done reply = passes
-reply_piece w d (on.Global x) reply = read_global reply x
-reply_piece w d (on.Member m x) reply = member_read (around_at w d).replaced reply m x
-reply_piece w d on.Stored reply = stored reply
-reply_piece w d (on.Deleted x) reply = deleted reply x
-reply_piece w d (on.MemberDeleted x) reply = member_deleted reply x
-reply_piece w d (on.Unbound flow) reply = λ s k. k flow s
-reply_piece w d (on.Sourced load index vs) reply = loaded_at w d load index vs reply
-reply_piece w d (on.Feed p) reply = fed w d p (given.Replied reply)
-reply_piece w d (on.FromModule m x is_bound) reply = name_read (around_at w d) is_bound m x reply
-reply_piece w d (on.Entry m x init) reply = submodule_entry m x init reply
-reply_piece w d (on.IfPackage m xs) reply = if_package (around_at w d) m xs reply
-reply_piece w d (on.Submodule m x) reply = submodule_read (around_at w d) m x reply
-reply_piece w d (on.Missed error) reply = missed error reply
-reply_piece w d (on.All m) reply = all_read (around_at w d) m reply
-reply_piece w d (on.Names m) reply = public_names m (around_at w d) reply
-reply_piece w d (on.Package stmts at) reply = relative_some (around_at w d) (slice_get stmts at) reply
-
-abbrev pub reply_does : World → ℕ → OnReply → Rest → State → Reply → Run
-reply_does w d o next s reply = reply_piece w d o reply s (next d)
 
 -- ---- what is wanted, where `next` is the rest of the work
 

@@ -1,10 +1,12 @@
 //! The work that remains of a script.
 ghost use Rattle.std.specs.Prelude.{◌≡◌, [], ◌∷◌, MatchOption, OnOk, OnErr};
 
+use crate::procedures::Procedure;
+use crate::replies::OnReply;
 use base_types::{NoMemory, Seq, Text, Texts};
 use boxed::Boxed;
-use find_load::{Importer, In};
-use module_paths::PathReader;
+use find_load::In;
+use machine_events::Event;
 use py_state::{Flow, Leave, Scope, Stack};
 use py_syntax::{BinaryOp, Branch, Expr, Handler, Stmt};
 use py_value::{ModRef, Raised, Value};
@@ -13,18 +15,13 @@ use spec_core::Dotted;
 use std::alloc::Global;
 use std::marker::Model;
 
-/// A procedure that is open. It stands apart, since it is large and rare.
-#[derive(Drop)]
-pub enum Procedure {
-    Import(Boxed<Importer>),
-    Path(Boxed<PathReader>),
-}
-
-/// What operands are gathered for: an expression, or the statement at a place of a block.
+/// What operands are gathered for: an expression; the statement at a place of a block; or a call of a
+/// method of this object, whose operands are its arguments.
 #[derive(Drop)]
 pub enum Form {
     Expression(Shared<Expr>),
     Statement(Shared<Seq<Stmt>>, usize),
+    Method(Shared<Expr>, Value),
 }
 
 /// A piece of work that comes next.
@@ -45,6 +42,46 @@ pub enum Item {
     Apply {
         expr: Shared<Expr>,
         values: Seq<Value>,
+    },
+    /// The attribute of this object that a call names, once its unit is paid, and then the call.
+    Callee {
+        expr: Shared<Expr>,
+        object: Value,
+    },
+    /// A call of a method of this object, once its unit is paid.
+    Method {
+        expr: Shared<Expr>,
+        object: Value,
+        values: Seq<Value>,
+    },
+    /// The search path, which is an operand.
+    SearchPath,
+    /// The entry of a key of the cache, in whose place the default comes, if there is one.
+    ReadEntry {
+        key: Value,
+        default: Option<Value>,
+    },
+    /// Whether a key is in the cache, or is not.
+    HasEntry {
+        key: Value,
+        is_negated: bool,
+    },
+    /// The entry of a key is set.
+    SetEntry {
+        key: Value,
+        value: Value,
+    },
+    /// The entry of a key is deleted.
+    DeleteEntry(Value),
+    /// The entry of a key is taken out, in whose place the default comes, if there is one.
+    PopEntry {
+        key: Value,
+        default: Option<Value>,
+    },
+    /// An entry is put into the search path, at its end or before this place.
+    AddEntry {
+        at: Option<i128>,
+        value: Value,
     },
     /// A simple statement on the values of its operands.
     Perform {
@@ -107,10 +144,12 @@ pub enum Item {
         at: usize,
         place: usize,
     },
-    /// The import of a name, which may be the parent of one that is imported.
+    /// The import of a name, which may be the parent of one that is imported, and whose module may be
+    /// loaded at its first use only.
     Import {
         name: Text,
         is_parent: bool,
+        is_lazy: bool,
     },
     /// A `from` statement, once its unit is paid.
     From {
@@ -170,12 +209,14 @@ pub enum Item {
     Start {
         mid: u32,
         load: u32,
+        name: Text,
         text: Seq<u8>,
     },
     /// A body, once its text is paid for.
     Begin {
         mid: u32,
         load: u32,
+        name: Text,
         text: Seq<u8>,
     },
     /// The branches of an `if` from a place on.
@@ -230,6 +271,18 @@ pub enum Frame {
     Operands {
         form: Form,
         done: Seq<Value>,
+    },
+    /// The object of the attribute that a call names.
+    Callee(Shared<Expr>),
+    /// The list that stands for the search path, which is the operand at this place of a piece of work.
+    Listed {
+        item: Boxed<Item>,
+        at: usize,
+    },
+    /// The first use of a lazy module, behind which this event is made.
+    Roused {
+        event: Boxed<Event>,
+        reply: Boxed<OnReply>,
     },
     /// The left operand of `and` or `or`.
     Second(Shared<Expr>),

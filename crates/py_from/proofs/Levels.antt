@@ -1,5 +1,5 @@
 -- Relative names.
-use Rattle.std.proofs.Common.{◌≡◌, ◌∙◌, ◌↔◌, refl, sym, ap, ℕ, zero, suc, ◌+◌, ◌-◌, ◌<◌, ◌==◌, nat_lt, List, [], ◌∷◌, length, Option, Some, None, Bool, true, false, not, IsTrue, Result, Ok, Err, arith, if◌then◌else◌}
+use Rattle.std.proofs.Common.{◌≡◌, ◌∙◌, ◌↔◌, refl, sym, ap, ℕ, zero, suc, ◌-◌, ◌<◌, ◌==◌, nat_lt, List, [], ◌∷◌, length, Option, Some, None, Bool, true, false, not, IsTrue, Result, Ok, Err, arith, if◌then◌else◌}
 use Rattle.std.proofs.lemmas.Bool.Decides.{nat_tests}
 use Rattle.std.proofs.lemmas.List.Splits.{length-slice_split}
 use Rattle.spec_core.specs.Identifiers.{is_dotted}
@@ -17,7 +17,7 @@ use Rattle.py_syntax.specs.declared.stmt.Stmt.{Stmt, out-Stmt}
 use Rattle.py_syntax.specs.declared.stmt.Stmt.TheOpen.{Stmt-F}
 use Rattle.py_faults.specs.declared.fault.Fault.TheVariants as fault
 use Rattle.py_state.specs.declared.thread.State.{State}
-use Rattle.py_frames.specs.Does.{from_at, from_some, names_at, names_some, relative_at, relative_some, items_at, items_of, listed_in}
+use Rattle.py_frames.specs.Does.{from_at, from_some, names_at, names_some, relative_at, relative_some, items_of, listed_in}
 use Rattle.py_from.specs.Parts.{from_layer, from_of}
 use Rattle.py_meaning.specs.Pieces.{Piece, Onward, fails}
 use Rattle.py_meaning.specs.Operators.{Around}

@@ -1,17 +1,19 @@
 -- A step that does what a piece says does what an equal piece says.
-use Rattle.std.proofs.Common.{◌≡◌, ◌∙◌, ℕ, List, Bool, true, false, IsTrue, Option, Some, None, MatchOption, Result, Ok, Err, IfOk, refl, subst}
+use Rattle.std.proofs.Common.{◌≡◌, ◌∙◌, ℕ, List, Bool, true, false, Option, Some, None, MatchOption, Result, Ok, Err, IfOk, refl, subst}
 use Rattle.spec_core.specs.Identifiers.{is_dotted}
 use Rattle.spec_core.specs.Names.{joined}
 use Rattle.py_value.specs.declared.value.ModRef.{ModRef}
+use Rattle.machine_events.specs.declared.event.Event.{Event}
 use Rattle.machine_events.specs.declared.event.Event.TheVariants as e
 use Rattle.py_faults.specs.declared.fault.Fault.TheVariants as fault
 use Rattle.py_state.specs.declared.thread.State.{State}
 use Rattle.py_state.specs.declared.thread.Thread.{Thread}
-use Rattle.py_meaning.specs.Meaning.{World}
-use Rattle.py_meaning.specs.Pieces.{Piece, Onward, calls, fails}
+use Rattle.py_meaning.specs.Meaning.{World, around_at}
+use Rattle.py_meaning.specs.Pieces.{Piece, Onward, calls, fails, on_value}
 use Rattle.py_meaning.specs.Operators.{Around}
 use Rattle.py_meaning.specs.ImportStatements.{looks_up, submodule_entry, tried_submodule, tries_submodule}
-use Rattle.py_frames.specs.Does.{Does, pieces}
+use Rattle.py_frames.specs.Does.{Does, pieces, reply_piece}
+use Rattle.py_frames.specs.declared.replies.OnReply.{OnReply}
 use Rattle.py_frames.specs.declared.want.Want.{Want}
 
 pub lifted : {E : Type 0} (th : Thread) (p q : World → ℕ → Piece) (result : Result Want E)
@@ -47,3 +49,13 @@ tries_none a n full s k is other = rw (← is, other) refl
 pub tries_some : (a : Around) (n full entry : List ℕ) (s : State) (k : Onward) → full ≡ n → is_dotted full ≡ true → entry ≡ full
     → a.imported full s (λ flow s. tried_submodule entry flow s k) ≡ tries_submodule a n s k
 tries_some a n full entry s k is dotted same = rw (same, ← is, dotted) refl
+
+-- ---- an access that is made again once its module is awake
+
+abbrev pub again : ModRef → Event → OnReply → World → ℕ → Piece
+again m raw o w d s k = (around_at w d).access.roused m s (on_value k (λ _ s. calls raw (λ r. reply_piece w d o r s k)))
+
+pub awake_again : {E : Type 0} (th : Thread) (m lazy : ModRef) (event raw : Event) (o on : OnReply) (result : Result Want E)
+    → lazy ≡ m → event ≡ raw → o ≡ on
+    → IfOk result (Does th (pieces (again lazy event o) th)) → IfOk result (Does th (pieces (again m raw on) th))
+awake_again th m lazy event raw o on result same read answered does = rw (← same, ← read, ← answered) does

@@ -2,7 +2,7 @@
 use Rattle.std.proofs.Common.{◌≡◌, ◌∙◌, refl, sym, ap, ℕ, zero, suc, ◌+◌, ◌≤◌, ◌<◌, arith, nat_eq, List, [], ◌∷◌, ◌++◌, length, drop, get_or, Option, Some, None, append_assoc, append-nil}
 use Rattle.std.proofs.Math.Dec.{eqb-zero-suc, eqb-suc-suc}
 use Rattle.std.proofs.lemmas.List.{drop_more}
-use Rattle.py_value.specs.declared.value.Value.{Value}
+use Rattle.py_value.specs.declared.value.Value.{Value, out-Value}
 use Rattle.py_value.specs.declared.value.Value.TheOpen.{Value-F}
 use Rattle.spec_core.specs.Names.{joined}
 use Rattle.py_meaning.specs.ImportStatements.{dotted_name, package_at, and_text, texts_in, is_last}
@@ -19,10 +19,6 @@ behind_none (Some ys) = refl
 
 pub behind_end : (xs : List (List ℕ)) → Some xs ≡ behind xs (Some [])
 behind_end xs = ap (λ (zs : List (List ℕ)). Some zs) (sym (append-nil xs))
-
-pub texts_end : (xs : List (List ℕ)) (vs : List Value) → length vs < 1 → Some xs ≡ behind xs (texts_in vs)
-texts_end xs [] h = behind_end xs
-texts_end xs (v ∷ vs) h = absurd (omega (arith, h))
 
 pub and_text_is : (v : Value-F Value) (x : List ℕ) (xs : List (List ℕ)) (o : Option (List (List ℕ))) → package_at v ≡ Some x
     → behind (xs ++ x ∷ []) o ≡ behind xs (and_text v o)
@@ -49,3 +45,16 @@ front_at xs i x h is = drop_more xs i x h ∙ ap (λ z. z ∷ drop (i + 1) xs) (
 pub dotted_step : (xs : List (List ℕ)) (i : ℕ) (name x : List ℕ) → i < length xs → x ≡ get_or xs i x
     → dotted_name (name ∷ drop i xs) ≡ dotted_name (joined name x ∷ drop (i + 1) xs)
 dotted_step xs i name x h is = ap (λ (ys : List (List ℕ)). dotted_name (name ∷ ys)) (front_at xs i x h is) ∙ sym (dotted_more name x (drop (i + 1) xs))
+
+-- texts so far with those behind them, where one more value is a text
+pub text_goes : (vs : List Value) (i : ℕ) (v : Value) (x : List ℕ) (xs : List (List ℕ)) → i < length vs → v ≡ get_or vs i v → package_at (out-Value v) ≡ Some x
+    → behind xs (texts_in (drop i vs)) ≡ behind (xs ++ x ∷ []) (texts_in (drop (i + 1) vs))
+text_goes vs i v x xs h is some =
+    ap (λ (us : List Value). behind xs (texts_in us)) (front_at vs i v h is) ∙ sym (and_text_is (out-Value v) x xs (texts_in (drop (i + 1) vs)) some)
+
+-- and where it is none
+pub text_stops : (vs : List Value) (i : ℕ) (v : Value) (xs : List (List ℕ)) → i < length vs → v ≡ get_or vs i v → package_at (out-Value v) ≡ None
+    → behind xs (texts_in (drop i vs)) ≡ None
+text_stops vs i v xs h is none =
+    ap (λ (us : List Value). behind xs (texts_in us)) (front_at vs i v h is)
+    ∙ ap (λ (o : Option (List (List ℕ))). behind xs o) (and_text_none (out-Value v) (texts_in (drop (i + 1) vs)) none)

@@ -1,6 +1,5 @@
 -- What import statements do, by their parts.
-use Rattle.std.proofs.Common.{◌≡◌, ◌∙◌, refl, sym, ap, ℕ, zero, suc, ◌+◌, ◌<◌, ◌≤◌, nat_eq, List, [], ◌∷◌, length, map, drop, slice_get, get_or, add-one, drop-cons, Option, Some, None, Bool, true, false, Result, Ok, Err, IfOk, arith}
-use Rattle.std.proofs.lemmas.Bool.Decides.{nat_tests}
+use Rattle.std.proofs.Common.{◌≡◌, ◌∙◌, refl, ap, ℕ, zero, suc, ◌+◌, ◌<◌, ◌≤◌, List, [], ◌∷◌, length, map, drop, slice_get, get_or, add-one, drop-cons, Option, Some, None, Bool, Result, Ok, Err, IfOk, arith}
 use Rattle.std.proofs.lemmas.Option.{slice_get_within, get_or_from_slice_get}
 use Rattle.py_value.specs.declared.value.ModRef.{ModRef}
 use Rattle.py_value.specs.declared.value.Value.{Value, out-Value}
@@ -12,7 +11,7 @@ use Rattle.py_state.specs.declared.thread.State.{State}
 use Rattle.py_meaning.specs.Pieces.{Piece, Onward, on_value, passes, fails, in_order}
 use Rattle.py_meaning.specs.Names.{stores}
 use Rattle.py_meaning.specs.Operators.{Around}
-use Rattle.py_meaning.specs.ImportStatements.{dotted_name, bound_as, with_module, with_module_at, name_of, is_last, follows_parts, imports_parts, imports_front, binds_import}
+use Rattle.py_meaning.specs.ImportStatements.{dotted_name, bound_as, with_module, with_module_at, name_of, is_last, follows_parts, imports_parts}
 use Rattle.py_state.specs.declared.thread.Thread.{Thread}
 use Rattle.py_meaning.specs.Meaning.{World}
 use Rattle.py_frames.specs.declared.want.Want.{Want}
@@ -139,19 +138,6 @@ pub follows_goes : (a : Around) (parts : List (List ℕ)) (at : ℕ) (x bound : 
 follows_goes a parts at x bound last v s k h is =
     rw (drop_some parts at x h, is)
     (module_then (out-Value v) (λ m. name_of a (is_last (drop (at + 1) parts)) m x) (λ k. on_value k (λ v s. follows_parts a (drop (at + 1) parts) bound v s k)) s k)
-
-pub follows_alias : (a : Around) (o : Option Alias) (b : Alias) (part : ℕ) (bound : List ℕ) (v : Value) → o ≡ Some b → b.bound ≡ Some bound
-    → follows_parts a (drop part b.parts) bound v ≡ follows_some a part o v
-follows_alias a o b part bound v is named = rw (is, named) refl
-
-pub last_at : (parts : List (List ℕ)) (at : ℕ) → at < length parts → nat_eq (at + 1) (length parts) ≡ is_last (drop (at + 1) parts)
-last_at [] at h = absurd (omega (arith, h))
-last_at (x ∷ []) zero h = refl
-last_at (x ∷ y ∷ ys) zero h = grind (arith, nat_tests)
-last_at (x ∷ xs) (suc at) h =
-    let next : suc at + 1 ≡ suc (at + 1) = omega arith in
-    let less : nat_eq (suc (at + 1)) (suc (length xs)) ≡ nat_eq (at + 1) (length xs) = grind (arith, nat_tests) in
-    rw next (less ∙ last_at xs at (omega (arith, h)))
 
 pub binds_lost : (a : Around) (o : Option Alias) (b : Alias) (v : Value) (s : State) (k : Onward) → o ≡ Some b → slice_get b.parts 0 ≡ None
     → fails fault.NotInProfile s k ≡ binds_some_import a o v s k

@@ -41,6 +41,7 @@ fn import_alias(
         let item = Item::Import {
             name: part,
             is_parent: false,
+            is_lazy: false,
         };
         return Ok(Want::Both(item, Frame::Store(bound)));
     }
@@ -49,6 +50,7 @@ fn import_alias(
     let item = Item::Import {
         name,
         is_parent: false,
+        is_lazy: false,
     };
     Ok(Want::Both(item, Frame::Front { stmts, at, place }))
 }
@@ -86,6 +88,7 @@ fn import_front(
     let item = Item::Import {
         name,
         is_parent: false,
+        is_lazy: false,
     };
     Ok(Want::Both(item, Frame::Fronted { stmts, at, place }))
 }

@@ -1,17 +1,18 @@
 //! A name of a module for an import: its variable, else its submodule, which may stand in the cache alone.
-ghost use Rattle.std.specs.Prelude.{◌≡◌, IfOk};
-ghost use Rattle.py_meaning.specs.ImportStatements.{entry_taken, looks_up, namespace_taken, taken_value};
+ghost use Rattle.std.specs.Prelude.{◌≡◌, IfOk, false};
+ghost use Rattle.py_meaning.specs.ImportStatements.{entry_taken, looks_up, name_read, namespace_taken, taken_value};
 ghost use Rattle.py_meaning.specs.Meaning.{around_at};
 ghost use Rattle.py_frames.specs.Does.{Does, begins, pieces, replies};
-ghost use Rattle.py_frames.specs.declared.want.OnReply.TheVariants as ons;
+ghost use Rattle.py_frames.specs.declared.replies.OnReply.TheVariants as ons;
 ghost use Rattle.py_frames.specs.declared.work.Item.TheVariants as items;
+ghost use Rattle.machine_events.specs.declared.event.Reply.TheVariants as kinds;
 
 use crate::names::joined_name;
 use base_types::{Exact, NoMemory, Text};
 use machine_events::{Event, Reply, Slot};
 use py_faults::Fault;
 use py_frames::{OnReply, Want};
-use py_names::{fail, is_namespace_path, replace, went};
+use py_names::{fail, is_namespace_path, replace, rouse, went};
 use py_state::Thread;
 use py_value::{ModRef, Value};
 use spec_core::Dotted;
@@ -36,6 +37,7 @@ pub fn begin_from_module(
         module,
         name,
         is_bound,
+        is_raw: false,
     };
     Ok(Want::Call(event, on))
 }
@@ -51,7 +53,7 @@ fn take_namespace(
     ensures { IfOk result (Does thread.now (pieces (λ w d. namespace_taken (around_at w d) is_bound «module» name.now) thread.now)) }
 {
     if is_bound {
-        return replace(alloc, thread, module, name);
+        return replace(alloc, thread, module.mid, module.name, name);
     }
     drop(module);
     fail(alloc, thread, Fault::NotInProfile)
@@ -98,8 +100,8 @@ fn look_up(
     Ok(Want::Call(Event::TabGet(entry), on))
 }
 
-/// The reply to the read of a name of a module.
-pub fn replied_from_module(
+/// What was read under the name, once the module is awake.
+fn take_name(
     alloc: Global,
     thread: &Thread,
     module: ModRef,
@@ -107,16 +109,59 @@ pub fn replied_from_module(
     is_bound: bool,
     reply: Reply,
 ) -> Result<Want, NoMemory>
-    ensures { IfOk result (Does thread.now (replies (ons.FromModule «module» name is_bound) reply thread.now)) }
+    ensures { IfOk result (Does thread.now (pieces (λ w d. name_read (around_at w d) is_bound «module» name reply) thread.now)) }
 {
     match reply {
         Reply::Value(value) => take_value(alloc, thread, module, &name, is_bound, value),
         Reply::Unset(is_initialising) => look_up(alloc, thread, module, name, is_initialising),
-        Reply::Sleeping => fail(alloc, thread, Fault::NotBuilt),
         other => {
             drop(other);
             fail(alloc, thread, Fault::NotInProfile)
         }
+    }
+}
+
+/// The name is read of a module that was asleep, once that is loaded.
+fn wake_for_name(
+    alloc: Global,
+    thread: &Thread,
+    module: ModRef,
+    name: Text,
+    is_bound: bool,
+) -> Result<Want, NoMemory>
+    ensures { IfOk result (Does thread.now (replies (ons.FromModule «module» name is_bound false) kinds.Sleeping thread.now)) }
+{
+    let read = name.copy()?;
+    let lazy = module.copy()?;
+    let event = Event::GetVar {
+        mid: module.mid,
+        name: read,
+        raw: true,
+    };
+    let on = OnReply::FromModule {
+        module,
+        name,
+        is_bound,
+        is_raw: true,
+    };
+    rouse(alloc, thread, lazy, event, on)
+}
+
+/// The reply to the read of a name of a module, made raw or not.
+pub fn replied_from_module(
+    alloc: Global,
+    thread: &Thread,
+    module: ModRef,
+    name: Text,
+    is_bound: bool,
+    is_raw: bool,
+    reply: Reply,
+) -> Result<Want, NoMemory>
+    ensures { IfOk result (Does thread.now (replies (ons.FromModule «module» name is_bound is_raw) reply thread.now)) }
+{
+    match reply {
+        Reply::Sleeping if !is_raw => wake_for_name(alloc, thread, module, name, is_bound),
+        reply => take_name(alloc, thread, module, name, is_bound, reply),
     }
 }
 

@@ -7,7 +7,7 @@ ghost use Rattle.spec_core.specs.Relative.{Resolves, followed, resolved};
 ghost use Rattle.py_syntax.specs.declared.stmt.ImportedNames.{ImportedNames};
 ghost use Rattle.py_frames.specs.Does.{Does, begins, goes_on, items_of, listed_in, names_some, pieces, replies};
 ghost use Rattle.py_from.specs.Parts.{from_of};
-ghost use Rattle.py_frames.specs.declared.want.OnReply.TheVariants as ons;
+ghost use Rattle.py_frames.specs.declared.replies.OnReply.TheVariants as ons;
 ghost use Rattle.py_frames.specs.declared.work.Frame.TheVariants as frames;
 ghost use Rattle.py_frames.specs.declared.work.Item.TheVariants as items;
 
@@ -28,7 +28,7 @@ use spec_core::{Dotted, RelativeError, resolve};
 use std::alloc::Global;
 
 /// The module is imported, or first asked for its package where the name is relative.
-#[tactic(auto, using(crate::proofs::Levels::from_none, crate::proofs::Levels::from_is))]
+#[tactic(auto, using(crate::proofs::Levels::from_none))]
 pub fn begin_from(
     alloc: Global,
     thread: &Thread,
@@ -63,6 +63,7 @@ fn begin_dots(
         let item = Item::Import {
             name,
             is_parent: false,
+            is_lazy: false,
         };
         return Ok(Want::Both(item, Frame::From { stmts, at }));
     }
@@ -157,6 +158,7 @@ fn import_meant(
             let item = Item::Import {
                 name,
                 is_parent: false,
+                is_lazy: false,
             };
             Ok(Want::Both(item, Frame::From { stmts, at }))
         }

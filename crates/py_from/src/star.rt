@@ -1,19 +1,20 @@
 //! `from .. import *`: the names of `__all__`, else those of the module that do not begin with an underscore.
-ghost use Rattle.std.specs.Prelude.{◌≡◌, IfOk};
+ghost use Rattle.std.specs.Prelude.{◌≡◌, IfOk, false};
 ghost use Rattle.py_value.specs.declared.value.Value.{out-Value};
-ghost use Rattle.py_meaning.specs.ImportStatements.{all_names, from_star, stars_of};
+ghost use Rattle.py_meaning.specs.ImportStatements.{all_names, all_read, from_star, stars_of};
 ghost use Rattle.py_meaning.specs.Meaning.{around_at};
 ghost use Rattle.py_frames.specs.Does.{Does, begins, goes_on, pieces, replies};
-ghost use Rattle.py_frames.specs.declared.want.OnReply.TheVariants as ons;
+ghost use Rattle.py_frames.specs.declared.replies.OnReply.TheVariants as ons;
 ghost use Rattle.py_frames.specs.declared.work.Frame.TheVariants as frames;
 ghost use Rattle.py_frames.specs.declared.work.Item.TheVariants as items;
+ghost use Rattle.machine_events.specs.declared.event.Reply.TheVariants as kinds;
 
 use crate::starred::{all_names, one_part_names, public_names};
 use base_types::{Exact, NoMemory, Text, Texts};
 use machine_events::{Event, Reply};
 use py_faults::Fault;
 use py_frames::{Frame, Item, OnReply, Want};
-use py_names::{fail, went};
+use py_names::{fail, rouse, went};
 use py_state::{Flow, Thread};
 use py_value::{ModRef, Value};
 use std::alloc::Global;
@@ -28,7 +29,8 @@ pub fn read_all(alloc: Global, thread: &Thread, module: ModRef) -> Result<Want, 
         name: Text::from_str(alloc, "__all__")?,
         raw: false,
     };
-    Ok(Want::Call(event, OnReply::All(module)))
+    let is_raw = false;
+    Ok(Want::Call(event, OnReply::All { module, is_raw }))
 }
 
 /// The names of `__all__` are bound, once the submodules among them are asked for.
@@ -50,23 +52,48 @@ fn bind_all(alloc: Global, thread: &Thread, module: ModRef, value: &Value) -> Re
     Ok(Want::Both(asked, others))
 }
 
-/// The module's `__all__` was read.
-pub fn replied_all(
-    alloc: Global,
-    thread: &Thread,
-    module: ModRef,
-    reply: Reply,
-) -> Result<Want, NoMemory>
-    ensures { IfOk result (Does thread.now (replies (ons.All «module») reply thread.now)) }
+/// What was read as the module's `__all__`, once the module is awake.
+fn take_all(alloc: Global, thread: &Thread, module: ModRef, reply: Reply) -> Result<Want, NoMemory>
+    ensures { IfOk result (Does thread.now (pieces (λ w d. all_read (around_at w d) «module» reply) thread.now)) }
 {
     match reply {
         Reply::Value(value) => bind_all(alloc, thread, module, &value),
         Reply::Unset(_) => Ok(Want::Call(Event::Names(module.mid), OnReply::Names(module))),
-        Reply::Sleeping => fail(alloc, thread, Fault::NotBuilt),
         other => {
             drop(other);
             fail(alloc, thread, Fault::NotInProfile)
         }
+    }
+}
+
+/// The `__all__` is read of a module that was asleep, once that is loaded.
+fn wake_for_all(alloc: Global, thread: &Thread, module: ModRef) -> Result<Want, NoMemory>
+    ensures { IfOk result (Does thread.now (replies (ons.All «module» false) kinds.Sleeping thread.now)) }
+{
+    let name = Text::from_str(alloc, "__all__")?;
+    let lazy = module.copy()?;
+    let event = Event::GetVar {
+        mid: module.mid,
+        name,
+        raw: true,
+    };
+    let is_raw = true;
+    rouse(alloc, thread, lazy, event, OnReply::All { module, is_raw })
+}
+
+/// The module's `__all__` was read, raw or not.
+pub fn replied_all(
+    alloc: Global,
+    thread: &Thread,
+    module: ModRef,
+    is_raw: bool,
+    reply: Reply,
+) -> Result<Want, NoMemory>
+    ensures { IfOk result (Does thread.now (replies (ons.All «module» is_raw) reply thread.now)) }
+{
+    match reply {
+        Reply::Sleeping if !is_raw => wake_for_all(alloc, thread, module),
+        reply => take_all(alloc, thread, module, reply),
     }
 }
 

@@ -5,7 +5,6 @@ ghost use Rattle.std.specs.Option.{option_copied};
 ghost use Rattle.py_value.specs.declared.value.Value.{out-Value};
 ghost use Rattle.spec_core.specs.Identifiers as identifiers;
 ghost use Rattle.py_meaning.specs.ImportStatements as spec;
-ghost use Rattle.py_from.specs.Lists.{behind};
 
 use base_types::{Exact, NoMemory, Seq, Text, Texts};
 use py_value::{Items, Value};
@@ -21,41 +20,26 @@ fn text_of(value: &Value) -> Option<&Text>
     }
 }
 
-/// Texts with one more behind them.
-fn with_text(texts: Texts, text: &Text) -> Result<Texts, NoMemory>
-    ensures { IfOk result (λ more. more ≡ texts ++ (text.now ∷ [])) }
+/// Puts a text last.
+fn put_text(texts: &mut Texts, text: &Text) -> Result<(), NoMemory>
+    ensures { OnOk result (texts.new ≡ texts.old ++ (text.now ∷ [])) }
 {
-    let mut more = texts;
-    more.push(text.copy()?)?;
-    Ok(more)
-}
-
-/// Texts with those behind them that values are. None where one of them is no text.
-#[tactic(auto, using(crate::proofs::Lists::texts_end, crate::proofs::Lists::and_text_is, crate::proofs::Lists::and_text_none))]
-fn with_texts(texts: Texts, values: &[Value]) -> Result<Option<Texts>, NoMemory>
-    ensures { IfOk result (λ all. all ≡ behind texts (spec.texts_in values.now)) }
-{
-    match values {
-        [] => Ok(Some(texts)),
-        [value, others @ ..] => match text_of(value) {
-            None => {
-                drop(texts);
-                Ok(None)
-            }
-            Some(text) => {
-                let more = with_text(texts, text)?;
-                with_texts(more, others)
-            }
-        },
-    }
+    texts.push(text.copy()?)
 }
 
 /// The texts that values are. None where one of them is no text.
-#[tactic(auto, using(crate::proofs::Lists::behind_none))]
 fn texts_in(values: &Items) -> Result<Option<Texts>, NoMemory>
     ensures { IfOk result (λ texts. texts ≡ spec.texts_in values.now) }
 {
-    with_texts(Seq::new(values.alloc()), values.as_slice())
+    let mut texts = Seq::new(values.alloc());
+    for value in values.as_slice() {
+        let Some(text) = text_of(value) else {
+            drop(texts);
+            return Ok(None);
+        };
+        put_text(&mut texts, text)?;
+    }
+    Ok(Some(texts))
 }
 
 /// The names that a module's `__all__` lists. None where it is no list or tuple of texts.

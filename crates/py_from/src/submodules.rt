@@ -1,19 +1,20 @@
 //! The submodules that a `from` import asks for (`_handle_fromlist` of `importlib._bootstrap`).
-ghost use Rattle.std.specs.Prelude.{◌≡◌, IfOk};
+ghost use Rattle.std.specs.Prelude.{◌≡◌, IfOk, false};
 ghost use Rattle.py_meaning.specs.ImportStatements as spec;
 ghost use Rattle.py_meaning.specs.Meaning.{around_at};
 ghost use Rattle.spec_core.specs.Names.{joined};
 ghost use Rattle.py_frames.specs.Does.{Does, begins, goes_on, pieces, replies};
-ghost use Rattle.py_frames.specs.declared.want.OnReply.TheVariants as ons;
+ghost use Rattle.py_frames.specs.declared.replies.OnReply.TheVariants as ons;
 ghost use Rattle.py_frames.specs.declared.work.Frame.TheVariants as frames;
 ghost use Rattle.py_frames.specs.declared.work.Item.TheVariants as items;
+ghost use Rattle.machine_events.specs.declared.event.Reply.TheVariants as kinds;
 
 use crate::names::joined_name;
 use base_types::{Exact, NoMemory, Text, Texts};
 use machine_events::{Event, Reply, Slot};
 use py_faults::Fault;
 use py_frames::{Frame, Item, OnReply, Want};
-use py_names::{fail, went};
+use py_names::{fail, rouse, went};
 use py_state::{Flow, Leave, Thread};
 use py_value::{Kind, ModRef, Raised, Value};
 use spec_core::Dotted;
@@ -34,18 +35,23 @@ pub fn begin_ask_submodules(
         name: Text::from_str(alloc, "__path__")?,
         raw: false,
     };
-    Ok(Want::Call(event, OnReply::IfPackage { module, names }))
+    let on = OnReply::IfPackage {
+        module,
+        names,
+        is_raw: false,
+    };
+    Ok(Want::Call(event, on))
 }
 
-/// Whether the module is a package.
-pub fn replied_if_package(
+/// Whether the module is a package, once it is awake.
+fn ask_if_package(
     alloc: Global,
     thread: &Thread,
     module: ModRef,
     names: Texts,
     reply: Reply,
 ) -> Result<Want, NoMemory>
-    ensures { IfOk result (Does thread.now (replies (ons.IfPackage «module» names) reply thread.now)) }
+    ensures { IfOk result (Does thread.now (pieces (λ w d. spec.if_package (around_at w d) «module» names reply) thread.now)) }
 {
     match reply {
         Reply::Value(path) => {
@@ -57,11 +63,51 @@ pub fn replied_if_package(
             }))
         }
         Reply::Unset(_) => Ok(went(thread, Value::Nothing)),
-        Reply::Sleeping => fail(alloc, thread, Fault::NotBuilt),
         other => {
             drop(other);
             fail(alloc, thread, Fault::NotInProfile)
         }
+    }
+}
+
+/// The path is read of a module that was asleep, once that is loaded.
+fn wake_for_path(
+    alloc: Global,
+    thread: &Thread,
+    module: ModRef,
+    names: Texts,
+) -> Result<Want, NoMemory>
+    ensures { IfOk result (Does thread.now (replies (ons.IfPackage «module» names false) kinds.Sleeping thread.now)) }
+{
+    let name = Text::from_str(alloc, "__path__")?;
+    let lazy = module.copy()?;
+    let event = Event::GetVar {
+        mid: module.mid,
+        name,
+        raw: true,
+    };
+    let on = OnReply::IfPackage {
+        module,
+        names,
+        is_raw: true,
+    };
+    rouse(alloc, thread, lazy, event, on)
+}
+
+/// Whether the module is a package, read raw or not.
+pub fn replied_if_package(
+    alloc: Global,
+    thread: &Thread,
+    module: ModRef,
+    names: Texts,
+    is_raw: bool,
+    reply: Reply,
+) -> Result<Want, NoMemory>
+    ensures { IfOk result (Does thread.now (replies (ons.IfPackage «module» names is_raw) reply thread.now)) }
+{
+    match reply {
+        Reply::Sleeping if !is_raw => wake_for_path(alloc, thread, module, names),
+        reply => ask_if_package(alloc, thread, module, names, reply),
     }
 }
 
@@ -121,7 +167,12 @@ pub fn begin_submodule(thread: &Thread, module: ModRef, name: Text) -> Result<Wa
         name: name.copy()?,
         raw: false,
     };
-    Ok(Want::Call(event, OnReply::Submodule { module, name }))
+    let on = OnReply::Submodule {
+        module,
+        name,
+        is_raw: false,
+    };
+    Ok(Want::Call(event, on))
 }
 
 /// The import of a submodule, which may be missing.
@@ -140,19 +191,20 @@ fn try_submodule(
     let item = Item::Import {
         name: full,
         is_parent: false,
+        is_lazy: false,
     };
     Ok(Want::Both(item, Frame::TriedSubmodule(entry)))
 }
 
-/// Whether the module has a variable of the submodule's name.
-pub fn replied_submodule(
+/// Whether the module has a variable of the submodule's name, once the module is awake.
+fn ask_for_submodule(
     alloc: Global,
     thread: &Thread,
     module: &ModRef,
     name: &Text,
     reply: Reply,
 ) -> Result<Want, NoMemory>
-    ensures { IfOk result (Does thread.now (replies (ons.Submodule «module».now name.now) reply thread.now)) }
+    ensures { IfOk result (Does thread.now (pieces (λ w d. spec.submodule_read (around_at w d) «module».now name.now reply) thread.now)) }
 {
     match reply {
         Reply::Value(value) => {
@@ -160,11 +212,53 @@ pub fn replied_submodule(
             Ok(went(thread, Value::Nothing))
         }
         Reply::Unset(_) => try_submodule(alloc, thread, module, name),
-        Reply::Sleeping => fail(alloc, thread, Fault::NotBuilt),
         other => {
             drop(other);
             fail(alloc, thread, Fault::NotInProfile)
         }
+    }
+}
+
+/// The submodule's name is read of a module that was asleep, once that is loaded.
+fn wake_for_submodule(
+    alloc: Global,
+    thread: &Thread,
+    module: &ModRef,
+    name: &Text,
+) -> Result<Want, NoMemory>
+    ensures { IfOk result (Does thread.now (replies (ons.Submodule «module».now name.now false) kinds.Sleeping thread.now)) }
+{
+    let read = name.copy()?;
+    let lazy = module.copy()?;
+    let event = Event::GetVar {
+        mid: module.mid,
+        name: read,
+        raw: true,
+    };
+    let owner = module.copy()?;
+    let asked = name.copy()?;
+    let on = OnReply::Submodule {
+        module: owner,
+        name: asked,
+        is_raw: true,
+    };
+    rouse(alloc, thread, lazy, event, on)
+}
+
+/// Whether the module has a variable of the submodule's name, read raw or not.
+pub fn replied_submodule(
+    alloc: Global,
+    thread: &Thread,
+    module: &ModRef,
+    name: &Text,
+    is_raw: bool,
+    reply: Reply,
+) -> Result<Want, NoMemory>
+    ensures { IfOk result (Does thread.now (replies (ons.Submodule «module».now name.now is_raw) reply thread.now)) }
+{
+    match reply {
+        Reply::Sleeping if !is_raw => wake_for_submodule(alloc, thread, module, name),
+        reply => ask_for_submodule(alloc, thread, module, name, reply),
     }
 }
 

@@ -1,36 +1,36 @@
 //! A procedure is fed, and what it wants is what the work wants.
 ghost use Rattle.std.specs.Prelude.{◌≡◌, IfOk};
 ghost use Rattle.py_meaning.specs.Meaning.{inside_at};
-ghost use Rattle.py_meaning.specs.Paths.{paths};
-ghost use Rattle.find_load.specs.Means.{wants};
-ghost use Rattle.find_load.specs.declared.words.In.TheVariants as inputs;
+ghost use Rattle.py_imports.specs.Waiting.{lifts, waits_parent, waits_path, waits_rouse};
 ghost use Rattle.py_frames.specs.Does as meant;
 ghost use Rattle.py_frames.specs.Does.{Does, begins, goes_on, pieces, replies};
 ghost use Rattle.py_frames.specs.declared.work.Item.TheVariants as items;
 ghost use Rattle.py_frames.specs.declared.work.Frame.TheVariants as frames;
-ghost use Rattle.py_frames.specs.declared.work.Procedure.TheVariants as procedures;
-ghost use Rattle.py_frames.specs.declared.want.OnReply.TheVariants as ons;
+ghost use Rattle.py_frames.specs.declared.replies.OnReply.TheVariants as ons;
 
+use crate::stepping::Steps;
 use base_types::NoMemory;
 use boxed::Boxed;
-use find_load::{Importer, In, Want as Wanted, next};
+use find_load::{In, Want as Wanted};
 use machine_events::Reply;
-use module_paths::{PathReader, next as next_of_path};
+use module_paths::PathReader;
 use py_frames::{Frame, Item, OnReply, Procedure, Want};
 use py_state::{Flow, Thread};
 use py_value::ModRef;
+use reload_lazy::Rouser;
 use spec_core::Dotted;
 use std::alloc::Global;
 
 /// A procedure waits for the import of a parent.
 fn open_import(name: &Dotted, procedure: Procedure, thread: &Thread) -> Result<Want, NoMemory>
-    ensures { IfOk result (Does thread.now (pieces (λ w d s k. (inside_at w d).parent name.now s (λ flow s. meant.fed w d procedure (inputs.Ended flow) s k)) thread.now)) }
+    ensures { IfOk result (Does thread.now (pieces (λ w d. waits_parent w d procedure name.now) thread.now)) }
 {
     let _ = thread;
     let name = name.owned()?;
     let item = Item::Import {
         name,
         is_parent: true,
+        is_lazy: false,
     };
     Ok(Want::Both(item, Frame::Open(procedure)))
 }
@@ -43,11 +43,26 @@ fn open_path(
     procedure: Procedure,
     thread: &Thread,
 ) -> Result<Want, NoMemory>
-    ensures { IfOk result (Does thread.now (pieces (λ w d s k. paths turns «module» s (λ flow s. meant.fed w d procedure (inputs.Ended flow) s k)) thread.now)) }
+    ensures { IfOk result (Does thread.now (pieces (λ w d. waits_path w d procedure turns «module») thread.now)) }
 {
     let _ = thread;
     let reader = Boxed::new(alloc, PathReader::start(module, turns))?;
     let item = Item::Feed(Procedure::Path(reader), In::Start);
+    Ok(Want::Both(item, Frame::Open(procedure)))
+}
+
+/// A procedure waits for the first use of a module.
+fn open_rouse(
+    alloc: Global,
+    module: ModRef,
+    procedure: Procedure,
+    thread: &Thread,
+) -> Result<Want, NoMemory>
+    ensures { IfOk result (Does thread.now (pieces (λ w d. waits_rouse w d procedure «module») thread.now)) }
+{
+    let _ = thread;
+    let rouser = Boxed::new(alloc, Rouser::start(module))?;
+    let item = Item::Feed(Procedure::Rouse(rouser), In::Start);
     Ok(Want::Both(item, Frame::Open(procedure)))
 }
 
@@ -58,7 +73,7 @@ fn lift(
     want: Wanted,
     thread: &Thread,
 ) -> Result<Want, NoMemory>
-    ensures { IfOk result (Does thread.now (pieces (λ w d. wants (inside_at w d) want (meant.fed w d procedure)) thread.now)) }
+    ensures { IfOk result (Does thread.now (pieces (λ w d. lifts w d want procedure) thread.now)) }
 {
     match want {
         Wanted::Call(event) => Ok(Want::Call(event, OnReply::Feed(procedure))),
@@ -74,12 +89,23 @@ fn lift(
             procedure,
         }),
         Wanted::File(path) => Ok(Want::File(path, procedure)),
-        Wanted::Body { mid, load, text } => Ok(Want::Both(
-            Item::Start { mid, load, text },
-            Frame::Open(procedure),
-        )),
+        Wanted::Body {
+            mid,
+            load,
+            name,
+            text,
+        } => {
+            let item = Item::Start {
+                mid,
+                load,
+                name,
+                text,
+            };
+            Ok(Want::Both(item, Frame::Open(procedure)))
+        }
         Wanted::Import(name) => open_import(&name, procedure, thread),
         Wanted::Path { module, turns } => open_path(alloc, module, turns, procedure, thread),
+        Wanted::Rouse(module) => open_rouse(alloc, module, procedure, thread),
         Wanted::End(flow) => {
             drop(procedure);
             Ok(Want::Go(flow))
@@ -87,17 +113,17 @@ fn lift(
     }
 }
 
-/// What an import wants, wanted by the work.
-fn lift_import(
+/// What a procedure of a kind wants, wanted by the work.
+fn lift_step<P: Steps>(
     alloc: Global,
-    importer: Importer,
+    procedure: P,
     want: Wanted,
     thread: &Thread,
 ) -> Result<Want, NoMemory>
-    ensures { IfOk result (Does thread.now (pieces (λ w d. wants (inside_at w d) want (meant.fed w d (procedures.Import importer))) thread.now)) }
+    ensures { IfOk result (Does thread.now (pieces (λ w d. lifts w d want (P.held procedure)) thread.now)) }
 {
-    match Boxed::new(alloc, importer) {
-        Ok(importer) => lift(alloc, Procedure::Import(importer), want, thread),
+    match procedure.hold(alloc) {
+        Ok(procedure) => lift(alloc, procedure, want, thread),
         Err(_) => {
             drop(want);
             Err(NoMemory)
@@ -105,57 +131,20 @@ fn lift_import(
     }
 }
 
-/// An import is fed.
-fn fed_import(
+/// A procedure of a kind is fed.
+fn step<P: Steps>(
     alloc: Global,
-    importer: Boxed<Importer>,
+    procedure: Boxed<P>,
     input: In,
     thread: &Thread,
 ) -> Result<Want, NoMemory>
-    ensures { IfOk result (Does thread.now (pieces (λ w d. meant.fed w d (procedures.Import importer) input) thread.now)) }
+    ensures { IfOk result (Does thread.now (pieces (λ w d. P.means (inside_at w d) procedure input) thread.now)) }
 {
-    let mut importer = importer.into_inner();
-    match next(&mut importer, input) {
-        Ok(want) => lift_import(alloc, importer, want, thread),
+    let mut procedure = procedure.into_inner();
+    match procedure.step(input) {
+        Ok(want) => lift_step(alloc, procedure, want, thread),
         Err(_) => {
-            drop(importer);
-            Err(NoMemory)
-        }
-    }
-}
-
-/// What the reading of a path wants, wanted by the work.
-fn lift_path(
-    alloc: Global,
-    reader: PathReader,
-    want: Wanted,
-    thread: &Thread,
-) -> Result<Want, NoMemory>
-    ensures { IfOk result (Does thread.now (pieces (λ w d. wants (inside_at w d) want (meant.fed w d (procedures.Path reader))) thread.now)) }
-{
-    match Boxed::new(alloc, reader) {
-        Ok(reader) => lift(alloc, Procedure::Path(reader), want, thread),
-        Err(_) => {
-            drop(want);
-            Err(NoMemory)
-        }
-    }
-}
-
-/// The reading of a path is fed.
-fn fed_path(
-    alloc: Global,
-    reader: Boxed<PathReader>,
-    input: In,
-    thread: &Thread,
-) -> Result<Want, NoMemory>
-    ensures { IfOk result (Does thread.now (pieces (λ w d. meant.fed w d (procedures.Path reader) input) thread.now)) }
-{
-    let mut reader = reader.into_inner();
-    match next_of_path(&mut reader, input) {
-        Ok(want) => lift_path(alloc, reader, want, thread),
-        Err(_) => {
-            drop(reader);
+            drop(procedure);
             Err(NoMemory)
         }
     }
@@ -171,8 +160,10 @@ pub fn fed(
     ensures { IfOk result (Does thread.now (pieces (λ w d. meant.fed w d procedure input) thread.now)) }
 {
     match procedure {
-        Procedure::Import(importer) => fed_import(alloc, importer, input, thread),
-        Procedure::Path(reader) => fed_path(alloc, reader, input, thread),
+        Procedure::Import(importer) => step(alloc, importer, input, thread),
+        Procedure::Path(reader) => step(alloc, reader, input, thread),
+        Procedure::Rouse(rouser) => step(alloc, rouser, input, thread),
+        Procedure::Reload(reloader) => step(alloc, reloader, input, thread),
     }
 }
 

@@ -24,16 +24,17 @@ fn fail(alloc: Global, fault: Fault, thread: &Thread) -> Result<Want, NoMemory>
     Ok(Want::Go(Flow::Left(Leave::Raised(error))))
 }
 
-/// The import of a name, which may be the parent of one that is imported. Where none more may be open,
-/// RecursionError; a name that is no dotted name is not in the profile. Within the import one fewer may
-/// be open.
+/// The import of a name, which may be the parent of one that is imported, and whose module may be loaded
+/// at its first use only. Where none more may be open, RecursionError; a name that is no dotted name is
+/// not in the profile. Within the import one fewer may be open.
 pub fn begin_import(
     alloc: Global,
     name: Text,
     is_parent: bool,
+    is_lazy: bool,
     thread: &mut Thread,
 ) -> Result<Want, NoMemory>
-    ensures { IfOk result (Does thread.new (begins (items.Import name is_parent) thread.old)) }
+    ensures { IfOk result (Does thread.new (begins (items.Import name is_parent is_lazy) thread.old)) }
 {
     if thread.left == 0 {
         return fail(alloc, Fault::TooDeep, thread);
@@ -41,7 +42,7 @@ pub fn begin_import(
     let Some(dotted) = Dotted::read(&name)? else {
         return fail(alloc, Fault::NotInProfile, thread);
     };
-    let importer = Boxed::new(alloc, Importer::start(dotted, is_parent))?;
+    let importer = Boxed::new(alloc, Importer::start(dotted, is_parent, is_lazy))?;
     let left = thread.left;
     thread.left = left - 1;
     Ok(Want::Both(

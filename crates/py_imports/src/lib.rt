@@ -3,6 +3,7 @@
 
 mod feeding;
 mod import;
+mod stepping;
 
 pub use feeding::{begin_feed, fed, go_on_open, replied_feed};
 pub use import::{begin_import, go_on_imported};

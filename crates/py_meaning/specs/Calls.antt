@@ -1,5 +1,5 @@
 -- Calls of kinds and of built-in functions.
-use Rattle.std.specs.Prelude.{ℕ, List, [], ◌∷◌, ◌++◌, codes, Option, Some, None, Bool, true, false, nat_lt, length, if◌then◌else◌, Result, Ok, Err, pos}
+use Rattle.std.specs.Prelude.{ℕ, List, [], ◌∷◌, ◌++◌, codes, Option, Some, None, true, false, nat_lt, length, if◌then◌else◌, Result, Ok, Err, pos}
 use Rattle.std.specs.List.{join_by}
 use Rattle.py_value.specs.Names.{type_of}
 use Rattle.py_value.specs.declared.kind.Kind.{Kind}
@@ -19,8 +19,10 @@ use Rattle.py_faults.specs.Faults.{raised}
 use Rattle.py_faults.specs.declared.fault.Fault.TheVariants as fault
 use Rattle.py_state.specs.declared.flow.Leave.TheVariants.{Raised}
 use Rattle.py_state.specs.declared.flow.Flow.TheVariants.{Went, Left}
-use Rattle.py_meaning.specs.Pieces.{Piece, Onward, calls, fails, gives, built, done}
-use Rattle.py_meaning.specs.Names.{Replaced, member}
+use Rattle.spec_core.specs.Identifiers.{is_dotted}
+use Rattle.py_value.specs.declared.value.ModRef.{ModRef}
+use Rattle.py_meaning.specs.Pieces.{Piece, Onward, calls, fails, gives, listed, all_listed, done}
+use Rattle.py_meaning.specs.Names.{Access, member}
 
 abbrev pub text_at : Value-F Value → List ℕ
 text_at (Value-F.Text text) = text
@@ -42,7 +44,7 @@ error_text kind v = str_of v
 
 abbrev pub calls_kind : Kind → List Value → Piece
 calls_kind kind [] = gives (applied.Value (values.Error (raised kind [])))
-calls_kind kind (v ∷ []) = built (v ∷ []) (gives (made_error kind (error_text kind v)))
+calls_kind kind (v ∷ []) = listed v (λ v. gives (made_error kind (error_text kind v)))
 calls_kind kind vs = fails fault.NotInProfile
 
 -- `print` joins the strs of its arguments with blanks, and adds a line end.
@@ -71,11 +73,11 @@ prints (Err error) = λ s k. k (Left (Raised error)) s
 
 abbrev pub str_call : List Value → Piece
 str_call [] = gives (applied.Value (values.Text []))
-str_call (v ∷ []) = built (v ∷ []) (gives (str_of v))
+str_call (v ∷ []) = listed v (λ v. gives (str_of v))
 str_call vs = fails (fault.ArgumentCount natives.Str)
 
 abbrev pub repr_call : List Value → Piece
-repr_call (v ∷ []) = built (v ∷ []) (gives (repr_of v))
+repr_call (v ∷ []) = listed v (λ v. gives (repr_of v))
 repr_call vs = fails (fault.ArgumentCount natives.Repr)
 
 abbrev pub length_given : Option ℕ → Value → Piece
@@ -83,16 +85,16 @@ length_given (Some n) v = gives (applied.Value (values.Int (pos n)))
 length_given None v = fails (fault.NoLength (type_of v))
 
 abbrev pub len_call : List Value → Piece
-len_call (v ∷ []) = built (v ∷ []) (length_given (length_of v) v)
+len_call (v ∷ []) = listed v (λ v. length_given (length_of v) v)
 len_call vs = fails (fault.ArgumentCount natives.Len)
 
 -- reads an attribute whose name is a value
-abbrev pub member_named_at : Replaced → Value → Value-F Value → Piece
-member_named_at path v (Value-F.Text x) = member path v x
-member_named_at path v name = fails fault.NameNotText
+abbrev pub member_named_at : Access → Value → Value-F Value → Piece
+member_named_at access v (Value-F.Text x) = member access v x
+member_named_at access v name = fails fault.NameNotText
 
-abbrev pub member_named : Replaced → Value → Value → Piece
-member_named path v name = member_named_at path v (out-Value name)
+abbrev pub member_named : Access → Value → Value → Piece
+member_named access v name = member_named_at access v (out-Value name)
 
 -- only an AttributeError is met
 abbrev pub missing_at : Onward → Value → Error → Kind → Onward
@@ -109,20 +111,53 @@ abbrev pub telling : Onward → Onward
 telling k (Went v) s = k (Went (values.Bool true)) s
 telling k (Left leave) s = defaulting k (values.Bool false) (Left leave) s
 
-abbrev pub hasattr_call : Replaced → List Value → Piece
-hasattr_call path (v ∷ x ∷ []) = λ s k. member_named path v x s (telling k)
-hasattr_call path vs = fails (fault.ArgumentCount natives.HasAttr)
+abbrev pub hasattr_call : Access → List Value → Piece
+hasattr_call access (v ∷ x ∷ []) = λ s k. member_named access v x s (telling k)
+hasattr_call access vs = fails (fault.ArgumentCount natives.HasAttr)
 
-abbrev pub getattr_call : Replaced → List Value → Piece
-getattr_call path (v ∷ x ∷ []) = member_named path v x
-getattr_call path (v ∷ x ∷ d ∷ []) = λ s k. member_named path v x s (defaulting k d)
-getattr_call path vs = fails (fault.ArgumentCount natives.GetAttr)
+abbrev pub getattr_call : Access → List Value → Piece
+getattr_call access (v ∷ x ∷ []) = member_named access v x
+getattr_call access (v ∷ x ∷ d ∷ []) = λ s k. member_named access v x s (defaulting k d)
+getattr_call access vs = fails (fault.ArgumentCount natives.GetAttr)
 
-abbrev pub calls_native : Replaced → Native → List Value → Piece
-calls_native path natives.Print vs = built vs (prints (strs_of vs))
-calls_native path natives.Str vs = str_call vs
-calls_native path natives.Repr vs = repr_call vs
-calls_native path natives.Len vs = len_call vs
-calls_native path natives.HasAttr vs = hasattr_call path vs
-calls_native path natives.GetAttr vs = getattr_call path vs
-calls_native path native vs = fails fault.NotBuilt
+-- The functions of `importlib` and `pyimport`.
+
+-- the kept listings are dropped (`importlib.invalidate_caches`)
+abbrev pub invalidate_call : List Value → Piece
+invalidate_call [] = λ s k. calls e.Invalidate (λ _. k done s)
+invalidate_call vs = fails (fault.ArgumentCount natives.InvalidateCaches)
+
+abbrev pub reload_value : (ModRef → Piece) → Value-F Value → Piece
+reload_value reloaded (Value-F.Module m) = reloaded m
+reload_value reloaded v = fails fault.NotReloadable
+
+-- a module is loaded again (`importlib.reload`)
+abbrev pub reload_call : (ModRef → Piece) → List Value → Piece
+reload_call reloaded (v ∷ []) = reload_value reloaded (out-Value v)
+reload_call reloaded vs = fails (fault.ArgumentCount natives.Reload)
+
+abbrev pub lazy_value : (List ℕ → Piece) → Value-F Value → Piece
+lazy_value imported (Value-F.Text n) = if is_dotted n then imported n else fails fault.NotInProfile
+lazy_value imported v = fails fault.NotInProfile
+
+-- a module is imported that is loaded at its first use (`pyimport.lazy`)
+abbrev pub lazy_call : (List ℕ → Piece) → List Value → Piece
+lazy_call imported (v ∷ []) = lazy_value imported (out-Value v)
+lazy_call imported vs = fails (fault.ArgumentCount natives.Lazy)
+
+-- what the calls of built-in functions go into: accesses of modules, reloads, and lazy imports
+pub record Loading : Type 0 where
+  pub access : Access
+  pub reloaded : ModRef → Piece
+  pub lazily : List ℕ → Piece
+
+abbrev pub calls_native : Loading → Native → List Value → Piece
+calls_native loading natives.Print vs = all_listed vs (λ vs. prints (strs_of vs))
+calls_native loading natives.Str vs = str_call vs
+calls_native loading natives.Repr vs = repr_call vs
+calls_native loading natives.Len vs = len_call vs
+calls_native loading natives.HasAttr vs = hasattr_call loading.access vs
+calls_native loading natives.GetAttr vs = getattr_call loading.access vs
+calls_native loading natives.InvalidateCaches vs = invalidate_call vs
+calls_native loading natives.Reload vs = reload_call loading.reloaded vs
+calls_native loading natives.Lazy vs = lazy_call loading.lazily vs

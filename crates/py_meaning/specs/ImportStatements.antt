@@ -1,6 +1,6 @@
 -- The `import` statements (Language Reference 7.11): what they import, in which order, and what they bind.
-use Rattle.std.specs.Prelude.{ℕ, zero, suc, ◌==◌, List, [], ◌∷◌, ◌++◌, map, codes, Option, Some, None, Bool, true, false, not, ◌&&◌, if◌then◌else◌, Result, Ok, Err}
-use Rattle.std.specs.List.{list_all, list_any, filter, join_with_byte}
+use Rattle.std.specs.Prelude.{ℕ, zero, suc, ◌==◌, List, [], ◌∷◌, map, codes, Option, Some, None, Bool, true, false, not, ◌&&◌, if◌then◌else◌, Result, Ok, Err}
+use Rattle.std.specs.List.{list_any, filter, join_with_byte}
 use Rattle.std.specs.Str.{bytes_eq}
 use Rattle.py_value.specs.declared.kind.Kind.{Kind}
 use Rattle.py_value.specs.declared.kind.Kind.TheVariants as kinds
@@ -27,7 +27,7 @@ use Rattle.py_faults.specs.declared.fault.Fault.TheVariants as fault
 use Rattle.py_state.specs.declared.flow.Leave.TheVariants.{Raised}
 use Rattle.py_state.specs.declared.flow.Flow.{Flow}
 use Rattle.py_state.specs.declared.flow.Flow.TheVariants.{Went, Left}
-use Rattle.py_meaning.specs.Pieces.{Piece, Onward, calls, on_value, passes, fails, in_order}
+use Rattle.py_meaning.specs.Pieces.{Piece, calls, on_value, passes, fails, in_order, accessed}
 use Rattle.py_meaning.specs.Names.{stores, member, replaces}
 use Rattle.py_meaning.specs.Operators.{Around}
 
@@ -51,7 +51,7 @@ with_module v go = with_module_at (out-Value v) go
 
 -- the path of a namespace is replaced by a list where it is bound; it is no module with further parts
 abbrev pub namespace_taken : Around → Bool → ModRef → List ℕ → Piece
-namespace_taken around true m x = replaces around.replaced m x
+namespace_taken around true m x = replaces around.access m.mid m.name x
 namespace_taken around false m x = fails fault.NotInProfile
 
 abbrev pub taken_value : Around → Bool → ModRef → List ℕ → Value → Piece
@@ -75,11 +75,13 @@ looks_up m x init =
 abbrev pub name_read : Around → Bool → ModRef → List ℕ → Reply → Piece
 name_read around is_bound m x (r.Value v) = taken_value around is_bound m x v
 name_read around is_bound m x (r.Unset init) = looks_up m x init
-name_read around is_bound m x r.Sleeping = fails fault.NotBuilt
 name_read around is_bound m x reply = fails fault.NotInProfile
 
+abbrev pub name_came : Around → Bool → Bool → ModRef → List ℕ → Reply → Piece
+name_came around raw is_bound m x reply = accessed raw around.access.roused m (e.GetVar m.mid x true) (name_read around is_bound m x) reply
+
 abbrev pub name_of : Around → Bool → ModRef → List ℕ → Piece
-name_of around is_bound m x s k = calls (e.GetVar m.mid x false) (λ reply. name_read around is_bound m x reply s k)
+name_of around is_bound m x s k = calls (e.GetVar m.mid x false) (λ reply. name_came around false is_bound m x reply s k)
 
 -- ---- `import a.b.c` binds `a`; `import a.b.c as x` goes from `a` to its parts, one behind the other
 
@@ -150,11 +152,13 @@ tries_submodule around n =
 abbrev pub submodule_read : Around → ModRef → List ℕ → Reply → Piece
 submodule_read around m x (r.Value v) = passes
 submodule_read around m x (r.Unset init) = tries_submodule around (joined m.name x)
-submodule_read around m x r.Sleeping = fails fault.NotBuilt
 submodule_read around m x reply = fails fault.NotInProfile
 
+abbrev pub submodule_came : Around → Bool → ModRef → List ℕ → Reply → Piece
+submodule_came around raw m x reply = accessed raw around.access.roused m (e.GetVar m.mid x true) (submodule_read around m x) reply
+
 abbrev pub submodule : Around → ModRef → List ℕ → Piece
-submodule around m x s k = calls (e.GetVar m.mid x false) (λ reply. submodule_read around m x reply s k)
+submodule around m x s k = calls (e.GetVar m.mid x false) (λ reply. submodule_came around false m x reply s k)
 
 abbrev pub submodules : Around → ModRef → List (List ℕ) → Piece
 submodules around m xs = in_order (map (submodule around m) xs)
@@ -163,11 +167,13 @@ submodules around m xs = in_order (map (submodule around m) xs)
 abbrev pub if_package : Around → ModRef → List (List ℕ) → Reply → Piece
 if_package around m xs (r.Value v) = submodules around m xs
 if_package around m xs (r.Unset init) = passes
-if_package around m xs r.Sleeping = fails fault.NotBuilt
 if_package around m xs reply = fails fault.NotInProfile
 
+abbrev pub package_came : Around → Bool → ModRef → List (List ℕ) → Reply → Piece
+package_came around raw m xs reply = accessed raw around.access.roused m (e.GetVar m.mid (codes "__path__") true) (if_package around m xs) reply
+
 abbrev pub asks_submodules : Around → ModRef → List (List ℕ) → Piece
-asks_submodules around m xs s k = calls (e.GetVar m.mid (codes "__path__") false) (λ reply. if_package around m xs reply s k)
+asks_submodules around m xs s k = calls (e.GetVar m.mid (codes "__path__") false) (λ reply. package_came around false m xs reply s k)
 
 -- ---- `from n import x, y as z`
 
@@ -191,7 +197,7 @@ from_list around items m s k = asks_submodules around m (item_names items) s (on
 -- ---- `from n import *`: the names of `__all__`, else those of the module that do not begin with an underscore
 
 abbrev pub binds_star : Around → ModRef → List ℕ → Piece
-binds_star around m x s k = member around.replaced (values.Module m) x s (on_value k (λ v s. stores x v s k))
+binds_star around m x s k = member around.access (values.Module m) x s (on_value k (λ v s. stores x v s k))
 
 abbrev pub binds_stars : Around → ModRef → List (List ℕ) → Piece
 binds_stars around m xs = in_order (map (binds_star around m) xs)
@@ -229,11 +235,13 @@ public_names m around reply = fails fault.NotInProfile
 abbrev pub all_read : Around → ModRef → Reply → Piece
 all_read around m (r.Value v) = stars_of around m (all_names (out-Value v))
 all_read around m (r.Unset init) = λ s k. calls (e.Names m.mid) (λ reply. public_names m around reply s k)
-all_read around m r.Sleeping = fails fault.NotBuilt
 all_read around m reply = fails fault.NotInProfile
 
+abbrev pub all_came : Around → Bool → ModRef → Reply → Piece
+all_came around raw m reply = accessed raw around.access.roused m (e.GetVar m.mid (codes "__all__") true) (all_read around m) reply
+
 abbrev pub from_star : Around → ModRef → Piece
-from_star around m s k = calls (e.GetVar m.mid (codes "__all__") false) (λ reply. all_read around m reply s k)
+from_star around m s k = calls (e.GetVar m.mid (codes "__all__") false) (λ reply. all_came around false m reply s k)
 
 -- ---- relative names (5.7): `__package__` of the module alone decides
 

@@ -1,5 +1,5 @@
 -- Import of one name (`importlib._bootstrap._find_and_load`): its parent first, then its lock, then the search on the parent's path.
-use Rattle.std.specs.Prelude.{ℕ, zero, suc, List, [], Option, Some, None, Bool, true, false}
+use Rattle.std.specs.Prelude.{ℕ, zero, suc, List, [], Option, Some, None, Bool, true, false, if◌then◌else◌}
 use Rattle.base_types.specs.Path.{Path}
 use Rattle.py_value.specs.declared.value.ModRef.{ModRef}
 use Rattle.py_value.specs.declared.value.Value.{Value, out-Value}
@@ -26,13 +26,23 @@ use Rattle.py_faults.specs.declared.fault.Fault.{Fault}
 use Rattle.py_faults.specs.declared.fault.Fault.TheVariants as fault
 use Rattle.py_state.specs.declared.flow.Flow.{Flow}
 use Rattle.py_state.specs.declared.flow.Flow.TheVariants.{Went, Left}
-use Rattle.py_meaning.specs.Pieces.{Piece, Onward, pay, calls, fails, passes, on_value, most}
-use Rattle.py_meaning.specs.Paths.{path_of}
+use Rattle.py_meaning.specs.Pieces.{Piece, pay, calls, fails, passes, on_value, most}
+use Rattle.py_meaning.specs.Paths.{paths}
+use Rattle.py_meaning.specs.Lazy.{Body, rouses}
 
--- what an import goes into: the body of a module, with the module's number, its load and its text; and the import of a parent
+-- what an import goes into: the body of a module, the import of a parent, and whether the module is lazy
 pub record Inside : Type 0 where
-  pub body : ℕ → ℕ → List ℕ → Piece
+  pub body : Body
   pub parent : List ℕ → Piece
+  pub is_lazy : Bool
+
+-- the first use of a lazy module
+abbrev pub roused : Inside → ModRef → Piece
+roused inside = rouses inside.body most
+
+-- the path of a module
+abbrev pub path_of : Inside → ModRef → Piece
+path_of inside = paths (roused inside) most
 
 -- an import is answered by a module
 abbrev pub answers : ModRef → Piece
@@ -90,16 +100,27 @@ finishes load again n (Left leave) = λ s k. calls (e.Finish load false) (λ _. 
 
 -- a module of a file is made, and its body runs
 abbrev pub added : Inside → Piece → List ℕ → List ℕ → Reply → Piece
-added inside again n text (r.Load load mid) = λ s k. inside.body mid load text s (λ flow s. finishes load again n flow s k)
+added inside again n text (r.Load load mid) = λ s k. inside.body mid load n text s (λ flow s. finishes load again n flow s k)
 added inside again n text reply = gives_back n fault.NotInProfile
 
 abbrev pub adds : Inside → Piece → List ℕ → Spec → List ℕ → Piece
 adds inside again n spec text s k = calls (e.Add spec text) (λ reply. added inside again n text reply s k)
 
+-- a lazy module is made, and is the answer; its body runs at its first use
+abbrev pub added_lazy : List ℕ → Reply → Piece
+added_lazy n (r.Module m) = answers m
+added_lazy n reply = fails fault.NotInProfile
+
+abbrev pub adds_lazy : List ℕ → Spec → List ℕ → Piece
+adds_lazy n spec text s k = calls (e.AddLazy spec text) (λ reply. added_lazy n reply s k)
+
+abbrev pub makes : Inside → Piece → List ℕ → Spec → List ℕ → Piece
+makes inside again n spec text = if inside.is_lazy then adds_lazy n spec text else adds inside again n spec text
+
 -- the file is read. The text of a file that is too long for a source is none
 abbrev pub has_text : Inside → Piece → List ℕ → Spec → Option (List ℕ) → Piece
 has_text inside again n spec None = gives_back n fault.TooLong
-has_text inside again n spec (Some text) = adds inside again n spec text
+has_text inside again n spec (Some text) = makes inside again n spec text
 
 -- the text of the file at a path, for one unit, if a file stands there
 abbrev pub opens : Path → Run → (Option (List ℕ) → Run) → Stamp → Run
@@ -158,21 +179,21 @@ abbrev pub on_parent_path : (List Value → Piece) → List ℕ → List ℕ →
 on_parent_path go n p (Went v) = on_path go n p (out-Value v)
 on_parent_path go n p (Left leave) = gives_back_and n (Left leave)
 
-abbrev pub on_parent : (List Value → Piece) → List ℕ → List ℕ → Slot → Piece
-on_parent go n p slots.Absent = gives_back n (fault.Lost p)
-on_parent go n p slots.Halted = gives_back n (fault.NotPackage n p)
-on_parent go n p (slots.Module m) = λ s k. path_of m s (λ flow s. on_parent_path go n p flow s k)
+abbrev pub on_parent : Inside → (List Value → Piece) → List ℕ → List ℕ → Slot → Piece
+on_parent inside go n p slots.Absent = gives_back n (fault.Lost p)
+on_parent inside go n p slots.Halted = gives_back n (fault.NotPackage n p)
+on_parent inside go n p (slots.Module m) = λ s k. path_of inside m s (λ flow s. on_parent_path go n p flow s k)
 
-abbrev pub on_entry : (List Value → Piece) → List ℕ → List ℕ → Reply → Piece
-on_entry go n p (r.Slot slot) = on_parent go n p slot
-on_entry go n p reply = gives_back n fault.NotInProfile
+abbrev pub on_entry : Inside → (List Value → Piece) → List ℕ → List ℕ → Reply → Piece
+on_entry inside go n p (r.Slot slot) = on_parent inside go n p slot
+on_entry inside go n p reply = gives_back n fault.NotInProfile
 
-abbrev pub reads_path : (List Value → Piece) → List ℕ → Option (List ℕ) → Piece
-reads_path go n None = λ s k. calls e.PathGet (λ reply. on_search_path go n reply s k)
-reads_path go n (Some p) = λ s k. calls (e.TabGet p) (λ reply. on_entry go n p reply s k)
+abbrev pub reads_path : Inside → (List Value → Piece) → List ℕ → Option (List ℕ) → Piece
+reads_path inside go n None = λ s k. calls e.PathGet (λ reply. on_search_path go n reply s k)
+reads_path inside go n (Some p) = λ s k. calls (e.TabGet p) (λ reply. on_entry inside go n p reply s k)
 
 abbrev pub has_lock : Inside → Piece → List ℕ → ℕ → Piece
-has_lock inside again n epoch = reads_path (finds inside again n epoch) n (parent_of n)
+has_lock inside again n epoch = reads_path inside (finds inside again n epoch) n (parent_of n)
 
 -- ---- the whole
 

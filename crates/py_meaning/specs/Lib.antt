@@ -1,9 +1,13 @@
 pub mod Pieces
 pub mod Names
+pub mod Entries
+pub mod Methods
 pub mod Operators
 pub mod Calls
 pub mod ImportStatements
 pub mod Statements
 pub mod Paths
+pub mod Lazy
 pub mod Imports
+pub mod Reload
 pub mod Meaning

@@ -1,12 +1,12 @@
 -- What calls, imports and bodies mean where so many more may be open, and what a script means.
-use Rattle.std.specs.Prelude.{ℕ, zero, suc, List, [], ◌∷◌, Option, Some, None, nat_eq, length, if◌then◌else◌, Bool, true, false}
+use Rattle.std.specs.Prelude.{ℕ, zero, suc, List, [], ◌∷◌, codes, Option, Some, None, nat_eq, length, if◌then◌else◌, Bool, true, false}
 use Rattle.std.specs.FinMap as maps
 use Rattle.std.specs.FinMap.{FinMap}
 use Rattle.std.specs.Ordering.{nat_cmp}
 use Rattle.std.specs.Cmp.Lexicographic.{slice_cmp}
 use Rattle.py_value.specs.Names.{type_of}
+use Rattle.py_value.specs.declared.value.ModRef.{ModRef}
 use Rattle.py_value.specs.declared.value.Value.{Value, out-Value}
-use Rattle.py_value.specs.declared.value.Value.TheVariants as values
 use Rattle.py_value.specs.declared.value.Value.TheOpen.{Value-F}
 use Rattle.spec_core.specs.Identifiers.{is_dotted}
 use Rattle.machine_events.specs.declared.event.Event.TheVariants as e
@@ -17,7 +17,7 @@ use Rattle.machine_events.specs.declared.event.Outcome.TheVariants as o
 use Rattle.meanings.specs.Runs.{Run, Over, Ended}
 use Rattle.py_syntax.specs.declared.stmt.FuncDef.{FuncDef}
 use Rattle.py_faults.specs.declared.fault.Fault.TheVariants as fault
-use Rattle.py_state.specs.declared.flow.Leave.TheVariants.{Raised, Return, Break, Continue}
+use Rattle.py_state.specs.declared.flow.Leave.TheVariants.{Raised, Return}
 use Rattle.py_state.specs.declared.flow.Flow.{Flow}
 use Rattle.py_state.specs.declared.flow.Flow.TheVariants.{Went, Left}
 use Rattle.py_functions.specs.Functions.{function_of}
@@ -27,12 +27,13 @@ use Rattle.py_state.specs.declared.thread.Parsing.TheVariants.{Parsed, Faulty}
 use Rattle.py_state.specs.declared.thread.Source.{Source}
 use Rattle.py_state.specs.declared.thread.State.{State}
 use Rattle.py_meaning.specs.Pieces.{Piece, Onward, pay, calls, text_units, most, done, fails}
-use Rattle.py_meaning.specs.Calls.{calls_kind, calls_native}
-use Rattle.py_meaning.specs.Names.{Replaced}
+use Rattle.py_meaning.specs.Calls.{Loading, calls_kind, calls_native}
+use Rattle.py_meaning.specs.Names.{Access}
 use Rattle.py_meaning.specs.Operators.{Around}
 use Rattle.py_meaning.specs.Statements.{run_all}
 use Rattle.py_meaning.specs.Paths.{replaced}
-use Rattle.py_meaning.specs.Imports.{Inside, asks}
+use Rattle.py_meaning.specs.Imports.{Inside, asks, roused}
+use Rattle.py_meaning.specs.Reload.{reloads}
 
 -- what the text of each source comes to
 abbrev pub World : Type 0
@@ -85,13 +86,15 @@ abbrev pub enters_source : Around → Source → ℕ → ℕ → List Value → 
 enters_source around source load index vs = enters around source load vs (function_of source.program index)
 
 -- the text of a load whose function is called for the first time
-abbrev pub sourced : Around → ℕ → ℕ → List Value → ℕ → Parsing → Piece
-sourced around load index vs mid (Parsed script) =
-    λ s k. enters_source around (record { mid = mid; program = script }) load index vs (keeps s load (record { mid = mid; program = script })) k
-sourced around load index vs mid (Faulty error) = fails fault.NotInProfile
+abbrev pub with_kept : Around → ℕ → ℕ → List Value → Source → Piece
+with_kept around load index vs source s k = enters_source around source load index vs (keeps s load source) k
+
+abbrev pub sourced : Around → ℕ → ℕ → List Value → ModRef → Parsing → Piece
+sourced around load index vs m (Parsed script) = with_kept around load index vs (record { mid = m.mid; name = m.name; program = script })
+sourced around load index vs m (Faulty error) = fails fault.NotInProfile
 
 abbrev pub loaded : World → Around → ℕ → ℕ → List Value → Reply → Piece
-loaded w around load index vs (r.Loaded m text) = sourced around load index vs m.mid (w text)
+loaded w around load index vs (r.Loaded m text) = sourced around load index vs m (w text)
 loaded w around load index vs reply = fails fault.NotInProfile
 
 abbrev pub with_source : World → Around → ℕ → ℕ → List Value → Option Source → Piece
@@ -103,52 +106,75 @@ calls_function w around load index vs s k = with_source w around load index vs (
 
 -- Bodies of modules and scripts.
 
-abbrev pub starts : Around → ℕ → ℕ → Parsing → Piece
-starts around mid load (Faulty error) = λ s k. k (Left (Raised error)) s
-starts around mid load (Parsed script) =
-    λ s k. run_all around script.body (placed (keeps s load (record { mid = mid; program = script })) mid load None) (comes_back s k)
+abbrev pub starts : Around → ℕ → ℕ → List ℕ → Parsing → Piece
+starts around mid load n (Faulty error) = λ s k. k (Left (Raised error)) s
+starts around mid load n (Parsed script) = λ s k.
+    run_all around script.body (placed (keeps s load (record { mid = mid; name = n; program = script })) mid load None) (comes_back s k)
 
 -- a body pays for its text before it is parsed
-abbrev pub runs_body : World → Around → ℕ → ℕ → List ℕ → Piece
-runs_body w around mid load text s k = pay (text_units text) (starts around mid load (w text) s k)
+abbrev pub runs_body : World → Around → ℕ → ℕ → List ℕ → List ℕ → Piece
+runs_body w around mid load n text s k = pay (text_units text) (starts around mid load n (w text) s k)
 
 -- the import of a name, which may be that of another one's parent
 abbrev pub imports_name : Inside → Bool → List ℕ → Piece
 imports_name inside is_parent n = if is_dotted n then asks inside most is_parent n else fails fault.NotInProfile
 
 -- a call, by what the callee is
-abbrev pub calls_value : (ℕ → ℕ → List Value → Piece) → Replaced → Value → Value-F Value → List Value → Piece
-calls_value function path f (Value-F.Func load index name) vs = function load index vs
-calls_value function path f (Value-F.Kind kind) vs = calls_kind kind vs
-calls_value function path f (Value-F.Native native) vs = calls_native path native vs
-calls_value function path f v vs = fails (fault.NotCallable (type_of f))
+abbrev pub calls_value : (ℕ → ℕ → List Value → Piece) → Loading → Value → Value-F Value → List Value → Piece
+calls_value function loading f (Value-F.Func load index name) vs = function load index vs
+calls_value function loading f (Value-F.Kind kind) vs = calls_kind kind vs
+calls_value function loading f (Value-F.Native native) vs = calls_native loading native vs
+calls_value function loading f v vs = fails (fault.NotCallable (type_of f))
 
-abbrev pub calls_with : (ℕ → ℕ → List Value → Piece) → Replaced → Value → List Value → Piece
-calls_with function path f vs = calls_value function path f (out-Value f) vs
+abbrev pub calls_with : (ℕ → ℕ → List Value → Piece) → Loading → Value → List Value → Piece
+calls_with function loading f vs = calls_value function loading f (out-Value f) vs
+
+-- what accesses of modules go into, inside which their bodies run
+abbrev pub access_in : Inside → Access
+access_in inside = record { roused = roused inside; replaced = replaced (roused inside) }
+
+-- what the calls of built-in functions go into
+abbrev pub loading_in : Inside → (List ℕ → Piece) → Loading
+loading_in inside lazily = record { access = access_in inside; reloaded = reloads inside; lazily = lazily }
+
+-- what stands around a piece: the calls of functions, imports, lazy imports, and what imports go into
+abbrev pub around_of : (ℕ → ℕ → List Value → Piece) → (List ℕ → Piece) → (List ℕ → Piece) → Inside → Around
+around_of function imported lazily inside = record {
+  called = calls_with function (loading_in inside lazily);
+  imported = imported;
+  access = access_in inside;
+}
 
 -- Where so many more bodies, calls and imports may be open.
 
 abbrev mutual
   pub functions_at : World → ℕ → ℕ → ℕ → List Value → Piece
   functions_at w zero = λ load index vs. fails fault.TooDeep
-  functions_at w (suc left) = calls_function w (record { called = calls_with (functions_at w left) replaced; imported = imports_at w left false; replaced = replaced })
+  functions_at w (suc left) =
+      calls_function w
+      (around_of (functions_at w left) (imports_at w left false false) (imports_at w left false true)
+      (record { body = bodies_at w left; parent = imports_at w left true false; is_lazy = false }))
 
-  pub bodies_at : World → ℕ → ℕ → ℕ → List ℕ → Piece
-  bodies_at w zero = λ mid load text. fails fault.TooDeep
-  bodies_at w (suc left) = runs_body w (record { called = calls_with (functions_at w left) replaced; imported = imports_at w left false; replaced = replaced })
+  pub bodies_at : World → ℕ → ℕ → ℕ → List ℕ → List ℕ → Piece
+  bodies_at w zero = λ mid load n text. fails fault.TooDeep
+  bodies_at w (suc left) =
+      runs_body w
+      (around_of (functions_at w left) (imports_at w left false false) (imports_at w left false true)
+      (record { body = bodies_at w left; parent = imports_at w left true false; is_lazy = false }))
 
-  pub imports_at : World → ℕ → Bool → List ℕ → Piece
-  imports_at w zero = λ is_parent n. fails fault.TooDeep
-  imports_at w (suc left) = imports_name (record { body = bodies_at w left; parent = imports_at w left true })
-
-abbrev pub calls_at : World → ℕ → Value → List Value → Piece
-calls_at w left = calls_with (functions_at w left) replaced
-
-abbrev pub around_at : World → ℕ → Around
-around_at w left = record { called = calls_at w left; imported = imports_at w left false; replaced = replaced }
+  pub imports_at : World → ℕ → Bool → Bool → List ℕ → Piece
+  imports_at w zero = λ is_parent is_lazy n. fails fault.TooDeep
+  imports_at w (suc left) = λ is_parent is_lazy.
+      imports_name (record { body = bodies_at w left; parent = imports_at w left true false; is_lazy = is_lazy }) is_parent
 
 abbrev pub inside_at : World → ℕ → Inside
-inside_at w left = record { body = bodies_at w left; parent = imports_at w left true }
+inside_at w left = record { body = bodies_at w left; parent = imports_at w left true false; is_lazy = false }
+
+abbrev pub around_at : World → ℕ → Around
+around_at w left = around_of (functions_at w left) (imports_at w left false false) (imports_at w left false true) (inside_at w left)
+
+abbrev pub calls_at : World → ℕ → Value → List Value → Piece
+calls_at w left = (around_at w left).called
 
 -- Scripts.
 
@@ -166,4 +192,4 @@ first_state t = record { scope = record { mid = t; load = t; function = None }; 
 
 -- what the script of thread t does: its body is the first of at most 200 that are open
 unfoldable pub meaning : World → ℕ → List ℕ → Run
-meaning w t text = bodies_at w 200 t t text (first_state t) ends
+meaning w t text = bodies_at w 200 t t (codes "__main__") text (first_state t) ends

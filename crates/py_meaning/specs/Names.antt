@@ -1,8 +1,8 @@
--- Names and attributes (Language Reference 4.2.2 and 6.3.1).
-use Rattle.std.specs.Prelude.{ℕ, List, [], ◌∷◌, ◌++◌, codes, Option, Some, None, Bool, true, false, ◌&&◌, if◌then◌else◌}
+-- Names, attributes and items (Language Reference 4.2.2, 6.3.1 and 7.2).
+use Rattle.std.specs.Prelude.{ℕ, List, [], ◌∷◌, codes, Option, Some, None, Bool, true, false, ◌&&◌, if◌then◌else◌}
 use Rattle.std.specs.Str.{bytes_eq}
 use Rattle.std.specs.FinMap as maps
-use Rattle.py_value.specs.Names.{kind_name, native_name, type_of}
+use Rattle.py_value.specs.Names.{kind_name, native_name}
 use Rattle.py_value.specs.declared.kind.Kind.{Kind}
 use Rattle.py_value.specs.declared.kind.Kind.TheVariants as kinds
 use Rattle.py_value.specs.declared.kind.Native.{Native}
@@ -20,9 +20,9 @@ use Rattle.py_functions.specs.Binding.{is_local}
 use Rattle.py_faults.specs.declared.fault.Fault.TheVariants as fault
 use Rattle.py_state.specs.declared.flow.Flow.TheVariants.{Went}
 use Rattle.py_state.specs.declared.thread.FunctionScope.{FunctionScope}
-use Rattle.py_state.specs.declared.thread.Scope.{Scope}
+use Rattle.py_state.specs.declared.thread.Source.{Source}
 use Rattle.py_state.specs.declared.thread.State.{State}
-use Rattle.py_meaning.specs.Pieces.{Piece, Onward, calls, fails, gives, passes, done}
+use Rattle.py_meaning.specs.Pieces.{Piece, calls, fails, passes, done, accessed}
 
 -- Built-in names.
 
@@ -95,37 +95,52 @@ with_local s x v = with_function s (set_in s.scope.function x v)
 abbrev pub without_local : State → List ℕ → State
 without_local s x = with_function s (unset_in s.scope.function x)
 
+-- What accesses of modules go into.
+pub record Access : Type 0 where
+  -- a lazy module is loaded at its first use
+  pub roused : ModRef → Piece
+  -- a list comes in place of the path of a namespace, that of the module with this number and name
+  pub replaced : ℕ → List ℕ → Piece
+
+-- only a module's `__path__` can be one
+abbrev pub replaces : Access → ℕ → List ℕ → List ℕ → Piece
+replaces access mid n x = if bytes_eq x (codes "__path__") then access.replaced mid n else fails fault.NotInProfile
+
 -- Reads of names.
 
--- a variable's value; no body runs in a namespace, so its path is read here only once modules are loaded again
-abbrev pub variable : Value → Piece
-variable v = if is_namespace_path v then fails fault.NotBuilt else (λ s k. k (Went v) s)
+-- the module that the state stands in has the name that its source was loaded under
+abbrev pub replaces_own : Access → Option Source → List ℕ → Piece
+replaces_own access None x = fails fault.NotInProfile
+replaces_own access (Some source) x = λ s k. replaces access s.scope.mid source.name x s k
+
+-- a variable's value
+abbrev pub variable : Access → List ℕ → Value → Piece
+variable access x v s k = if is_namespace_path v then replaces_own access (maps.get s.kept s.scope.load) x s k else k (Went v) s
 
 abbrev pub read_built_in : Option Value → List ℕ → Piece
 read_built_in None x = fails (fault.NotDefined x)
 read_built_in (Some v) x = λ s k. k (Went v) s
 
-abbrev pub read_global : Reply → List ℕ → Piece
-read_global (r.Value v) x = variable v
-read_global (r.Unset init) x = read_built_in (built_in x) x
-read_global reply x = fails fault.NotInProfile
+abbrev pub read_global : Access → Reply → List ℕ → Piece
+read_global access (r.Value v) x = variable access x v
+read_global access (r.Unset init) x = read_built_in (built_in x) x
+read_global access reply x = fails fault.NotInProfile
 
-abbrev pub reads_global : List ℕ → Piece
-reads_global x s k = calls (e.GetVar s.scope.mid x true) (λ reply. read_global reply x s k)
+abbrev pub reads_global : Access → List ℕ → Piece
+reads_global access x s k = calls (e.GetVar s.scope.mid x true) (λ reply. read_global access reply x s k)
 
 abbrev pub reads_local : Option Value → List ℕ → Piece
 reads_local None x = fails (fault.Unbound x)
 reads_local (Some v) x = λ s k. k (Went v) s
 
 -- a name: a local variable, else a variable of the module, else a built-in one
-abbrev pub reads : List ℕ → Piece
-reads x s k = if is_local_name s x then reads_local (local_value s x) x s k else reads_global x s k
+abbrev pub reads : Access → List ℕ → Piece
+reads access x s k = if is_local_name s x then reads_local (local_value s x) x s k else reads_global access x s k
 
 -- Writes and deletions of names.
 
 abbrev pub stored : Reply → Piece
 stored r.Done = passes
-stored r.Sleeping = fails fault.NotBuilt
 stored reply = fails fault.NotInProfile
 
 abbrev pub stores_global : List ℕ → Value → Piece
@@ -168,60 +183,48 @@ error_member error x =
     then (λ s k. k (Went (name_value error.name)) s)
     else fails fault.NotInProfile
 
--- what comes in place of the path of a namespace: a list
-abbrev pub Replaced : Type 0
-Replaced = ModRef → Piece
+abbrev pub member_value : Access → ModRef → List ℕ → Value → Piece
+member_value access m x v = if is_namespace_path v then replaces access m.mid m.name x else (λ s k. k (Went v) s)
 
--- only a module's `__path__` can be one
-abbrev pub replaces : Replaced → ModRef → List ℕ → Piece
-replaces path m x = if bytes_eq x (codes "__path__") then path m else fails fault.NotInProfile
+abbrev pub member_read : Access → ModRef → List ℕ → Reply → Piece
+member_read access m x (r.Value v) = member_value access m x v
+member_read access m x (r.Unset init) = fails (fault.NoAttribute init m.name x)
+member_read access m x reply = fails fault.NotInProfile
 
-abbrev pub member_value : Replaced → ModRef → List ℕ → Value → Piece
-member_value path m x v = if is_namespace_path v then replaces path m x else (λ s k. k (Went v) s)
+-- the reply to a read that was made raw or not
+abbrev pub member_came : Access → Bool → ModRef → List ℕ → Reply → Piece
+member_came access raw m x reply = accessed raw access.roused m (e.GetVar m.mid x true) (member_read access m x) reply
 
-abbrev pub member_read : Replaced → Reply → ModRef → List ℕ → Piece
-member_read path (r.Value v) m x = member_value path m x v
-member_read path (r.Unset init) m x = fails (fault.NoAttribute init m.name x)
-member_read path r.Sleeping m x = fails fault.NotBuilt
-member_read path reply m x = fails fault.NotInProfile
-
-abbrev pub member_at : Replaced → Value-F Value → List ℕ → Piece
-member_at path (Value-F.Module m) x = λ s k. calls (e.GetVar m.mid x false) (λ reply. member_read path reply m x s k)
-member_at path (Value-F.Error error) x = error_member error x
-member_at path Value-F.SysModules x = fails fault.NotBuilt
-member_at path Value-F.SysPath x = fails fault.NotBuilt
-member_at path v x = fails fault.NotInProfile
+abbrev pub member_at : Access → Value-F Value → List ℕ → Piece
+member_at access (Value-F.Module m) x = λ s k. calls (e.GetVar m.mid x false) (λ reply. member_came access false m x reply s k)
+member_at access (Value-F.Error error) x = error_member error x
+member_at access v x = fails fault.NotInProfile
 
 -- an attribute is read
-abbrev pub member : Replaced → Value → List ℕ → Piece
-member path v x = member_at path (out-Value v) x
+abbrev pub member : Access → Value → List ℕ → Piece
+member access v x = member_at access (out-Value v) x
 
-abbrev pub sets_member_at : Value-F Value → List ℕ → Value → Piece
-sets_member_at (Value-F.Module m) x v = λ s k. calls (e.SetVar m.mid x v false) (λ reply. stored reply s k)
-sets_member_at object x v = fails fault.NotInProfile
+abbrev pub member_stored : Access → Bool → ModRef → List ℕ → Value → Reply → Piece
+member_stored access raw m x v reply = accessed raw access.roused m (e.SetVar m.mid x v true) stored reply
 
-abbrev pub sets_member : Value → List ℕ → Value → Piece
-sets_member object x v = sets_member_at (out-Value object) x v
+abbrev pub sets_member_at : Access → Value-F Value → List ℕ → Value → Piece
+sets_member_at access (Value-F.Module m) x v = λ s k. calls (e.SetVar m.mid x v false) (λ reply. member_stored access false m x v reply s k)
+sets_member_at access object x v = fails fault.NotInProfile
 
-abbrev pub member_deleted : Reply → List ℕ → Piece
-member_deleted r.Done x = passes
-member_deleted (r.Unset init) x = fails (fault.NotDeleted x)
-member_deleted r.Sleeping x = fails fault.NotBuilt
-member_deleted reply x = fails fault.NotInProfile
+abbrev pub sets_member : Access → Value → List ℕ → Value → Piece
+sets_member access object x v = sets_member_at access (out-Value object) x v
 
-abbrev pub deletes_member_at : Value-F Value → List ℕ → Piece
-deletes_member_at (Value-F.Module m) x = λ s k. calls (e.DelVar m.mid x false) (λ reply. member_deleted reply x s k)
-deletes_member_at object x = fails fault.NotInProfile
+abbrev pub removed : List ℕ → Reply → Piece
+removed x r.Done = passes
+removed x (r.Unset init) = fails (fault.NotDeleted x)
+removed x reply = fails fault.NotInProfile
 
-abbrev pub deletes_member : Value → List ℕ → Piece
-deletes_member object x = deletes_member_at (out-Value object) x
+abbrev pub member_deleted : Access → Bool → ModRef → List ℕ → Reply → Piece
+member_deleted access raw m x reply = accessed raw access.roused m (e.DelVar m.mid x true) (removed x) reply
 
--- an item is set or deleted
-abbrev pub changes_item_at : Value-F Value → Value → Piece
-changes_item_at (Value-F.List items) object = fails fault.NotInProfile
-changes_item_at Value-F.SysModules object = fails fault.NotBuilt
-changes_item_at Value-F.SysPath object = fails fault.NotBuilt
-changes_item_at v object = fails (fault.NoItemAssignment (type_of object))
+abbrev pub deletes_member_at : Access → Value-F Value → List ℕ → Piece
+deletes_member_at access (Value-F.Module m) x = λ s k. calls (e.DelVar m.mid x false) (λ reply. member_deleted access false m x reply s k)
+deletes_member_at access object x = fails fault.NotInProfile
 
-abbrev pub changes_item : Value → Piece
-changes_item object = changes_item_at (out-Value object) object
+abbrev pub deletes_member : Access → Value → List ℕ → Piece
+deletes_member access object x = deletes_member_at access (out-Value object) x

@@ -1,13 +1,14 @@
 -- What a piece of a script does: from a state, and with what comes after it. The words that all forms of the language share.
-use Rattle.std.specs.Prelude.{ℕ, ◌+◌, ◌-◌, ◌^◌, ◌/◌, min, length, map, List, [], ◌∷◌, ◌++◌, Option, Some, None, Bool, true, false, nat_lt, if◌then◌else◌}
-use Rattle.std.specs.List.{sum, list_any}
-use Rattle.py_value.specs.Measures.{size_of, is_true}
-use Rattle.py_value.specs.declared.value.Value.{Value}
+use Rattle.std.specs.Prelude.{ℕ, List, [], ◌∷◌, ◌++◌, Bool, true, false, if◌then◌else◌}
+use Rattle.py_value.specs.Measures.{is_true}
+use Rattle.py_value.specs.declared.value.ModRef.{ModRef}
+use Rattle.py_value.specs.declared.value.Value.{Value, out-Value}
 use Rattle.py_value.specs.declared.value.Value.TheVariants as values
+use Rattle.py_value.specs.declared.value.Value.TheOpen.{Value-F}
 use Rattle.py_value.specs.declared.operator.Applied.{Applied}
 use Rattle.py_value.specs.declared.operator.Applied.TheVariants as applied
-use Rattle.value_operators.specs.Outcomes.{is_special}
 use Rattle.machine_events.specs.declared.event.Event.{Event}
+use Rattle.machine_events.specs.declared.event.Event.TheVariants as e
 use Rattle.machine_events.specs.declared.event.Reply.{Reply}
 use Rattle.machine_events.specs.declared.event.Reply.TheVariants as r
 use Rattle.meanings.specs.Runs.{Run}
@@ -73,22 +74,52 @@ abbrev pub gathers : List Piece → List Value → (List Value → Piece) → Pi
 gathers [] vs go s k = go vs s k
 gathers (p ∷ ps) vs go s k = p s (on_value k (λ v s. gathers ps (vs ++ v ∷ []) go s k))
 
--- a form with operands pays a unit after them and before it is applied
+-- a form is applied: a unit is paid before, and the size of its value behind
+abbrev pub applied_on : (List Value → Piece) → List Value → Piece
+applied_on apply vs s k = pay 1 (apply vs s (sized k))
+
+-- a form with operands
 abbrev pub operates : List Piece → (List Value → Piece) → Piece
-operates ps apply = gathers ps [] (λ vs s k. pay 1 (apply vs s (sized k)))
+operates ps apply = gathers ps [] (applied_on apply)
 
 -- one piece behind the other
 abbrev pub in_order : List Piece → Piece
 in_order [] = passes
 in_order (p ∷ ps) = λ s k. p s (on_value k (λ _ s. in_order ps s k))
 
--- what stands for the search path or the cache as an operand is not built yet
-abbrev pub built : List Value → Piece → Piece
-built vs p = if list_any is_special vs then fails fault.NotBuilt else p
+-- What stands for the search path is, as an operand, the list that PathGet replies; what stands for the cache is no operand.
+
+abbrev pub as_list : (Value → Piece) → Reply → Piece
+as_list go (r.Path items) = go (values.List items)
+as_list go reply = fails fault.NotInProfile
+
+abbrev pub lists_at : Value → Value-F Value → (Value → Piece) → Piece
+lists_at v Value-F.SysPath go = λ s k. calls e.PathGet (λ reply. as_list go reply s k)
+lists_at v Value-F.SysModules go = fails fault.NotInProfile
+lists_at v other go = go v
+
+-- goes on with an operand
+abbrev pub listed : Value → (Value → Piece) → Piece
+listed v go = lists_at v (out-Value v) go
+
+-- goes on with operands, from left to right
+abbrev pub all_listed : List Value → (List Value → Piece) → Piece
+all_listed [] go = go []
+all_listed (v ∷ vs) go = listed v (λ u. all_listed vs (λ us. go (u ∷ us)))
 
 -- goes on by whether a value counts as true
 abbrev pub decides : Value → Piece → Piece → Piece
-decides v good bad = built (v ∷ []) (if is_true v then good else bad)
+decides v good bad = listed v (λ u. if is_true u then good else bad)
+
+-- an access that met a lazy module asleep loads it first, and is then made raw
+abbrev pub awake : (ModRef → Piece) → ModRef → Event → (Reply → Piece) → Reply → Piece
+awake roused m raw go r.Sleeping = λ s k. roused m s (on_value k (λ _ s. calls raw (λ reply. go reply s k)))
+awake roused m raw go reply = go reply
+
+-- the same by whether it was made raw already
+abbrev pub accessed : Bool → (ModRef → Piece) → ModRef → Event → (Reply → Piece) → Reply → Piece
+accessed true roused m raw go reply = go reply
+accessed false roused m raw go reply = awake roused m raw go reply
 
 -- forms of one, two and three operands
 abbrev pub with_one : List Value → (Value → Piece) → Piece

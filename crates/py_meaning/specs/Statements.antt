@@ -15,7 +15,6 @@ use Rattle.py_syntax.specs.declared.expr.BinaryOp.{BinaryOp}
 use Rattle.py_syntax.specs.declared.expr.Expr.{Expr, out-Expr}
 use Rattle.py_syntax.specs.declared.expr.Expr.TheVariants as tree
 use Rattle.py_syntax.specs.declared.expr.Expr.TheOpen.{Expr-F}
-use Rattle.py_syntax.specs.declared.stmt.Alias.{Alias}
 use Rattle.py_syntax.specs.declared.stmt.Stmt.{Stmt}
 use Rattle.py_syntax.specs.declared.stmt.Stmt.TheOpen.{Stmt-F, Branch-F, FuncDef-F, Handler-F}
 use Rattle.py_syntax.specs.declared.stmt.Stmt.TheFolds.{fold-Stmt, fold-Branch, fold-Handler}
@@ -27,8 +26,10 @@ use Rattle.py_state.specs.declared.flow.Leave.TheVariants.{Raised, Return, Break
 use Rattle.py_state.specs.declared.flow.Flow.{Flow}
 use Rattle.py_state.specs.declared.flow.Flow.TheVariants.{Went, Left}
 use Rattle.py_state.specs.declared.thread.State.{State}
-use Rattle.py_meaning.specs.Pieces.{Piece, Onward, pay, calls, most, on_value, done, passes, fails, gives, sized, gathers, in_order, built, decides, with_one, with_two, with_three}
-use Rattle.py_meaning.specs.Names.{is_local_name, without_local, stores, deletes, sets_member, deletes_member, changes_item}
+use Rattle.py_meaning.specs.Pieces.{Piece, Onward, pay, calls, most, on_value, done, passes, fails, gives, sized, gathers, in_order, listed, all_listed, decides, with_one, with_two, with_three}
+use Rattle.py_meaning.specs.Names.{Access, is_local_name, without_local, stores, deletes, sets_member, deletes_member}
+use Rattle.py_value.specs.Names.{type_of}
+use Rattle.py_meaning.specs.Entries.{sets_entry, deletes_entry}
 use Rattle.py_meaning.specs.Operators.{Around, operator_of, eval}
 use Rattle.py_meaning.specs.ImportStatements.{imports_all, from_import}
 
@@ -45,28 +46,50 @@ target_operands_at target = []
 abbrev pub target_operands : Expr → List Expr
 target_operands target = target_operands_at (out-Expr target)
 
-abbrev pub assigns_at : Expr-F Expr → List Value → Piece
-assigns_at (Expr-F.Name x) vs = with_one vs (λ v. stores x v)
-assigns_at (Expr-F.Attribute object x) vs = with_two vs (λ v o. sets_member o x v)
-assigns_at (Expr-F.Subscript object index) vs = with_three vs (λ v o i. changes_item o)
-assigns_at target vs = fails fault.NotInProfile
+-- items of a list are not in the profile, and no other value has any that can be set or deleted, but for the cache
+abbrev pub refuses_item_at : Value → Value-F Value → Piece
+refuses_item_at object (Value-F.List items) = fails fault.NotInProfile
+refuses_item_at object v = fails (fault.NoItemAssignment (type_of object))
 
-abbrev pub assigns : Expr → List Value → Piece
-assigns target vs = assigns_at (out-Expr target) vs
+abbrev pub refuses_item : Value → Piece
+refuses_item object = refuses_item_at object (out-Value object)
 
-abbrev pub removes_at : Expr-F Expr → List Value → Piece
-removes_at (Expr-F.Name x) vs = deletes x
-removes_at (Expr-F.Attribute object x) vs = with_one vs (λ o. deletes_member o x)
-removes_at (Expr-F.Subscript object index) vs = with_two vs (λ o i. changes_item o)
-removes_at target vs = fails fault.NotInProfile
+abbrev pub sets_item_at : Value-F Value → Value → Value → Value → Piece
+sets_item_at Value-F.SysModules object index v = sets_entry index v
+sets_item_at other object index v = listed object refuses_item
 
-abbrev pub removes : Expr → List Value → Piece
-removes target vs = removes_at (out-Expr target) vs
+abbrev pub sets_item : Value → Value → Value → Piece
+sets_item object index v = sets_item_at (out-Value object) object index v
+
+abbrev pub deletes_item_at : Value-F Value → Value → Value → Piece
+deletes_item_at Value-F.SysModules object index = deletes_entry index
+deletes_item_at other object index = listed object refuses_item
+
+abbrev pub deletes_item : Value → Value → Piece
+deletes_item object index = deletes_item_at (out-Value object) object index
+
+abbrev pub assigns_at : Access → Expr-F Expr → List Value → Piece
+assigns_at access (Expr-F.Name x) vs = with_one vs (λ v. stores x v)
+assigns_at access (Expr-F.Attribute object x) vs = with_two vs (λ v o. sets_member access o x v)
+assigns_at access (Expr-F.Subscript object index) vs = with_three vs (λ v o i. sets_item o i v)
+assigns_at access target vs = fails fault.NotInProfile
+
+abbrev pub assigns : Access → Expr → List Value → Piece
+assigns access target vs = assigns_at access (out-Expr target) vs
+
+abbrev pub removes_at : Access → Expr-F Expr → List Value → Piece
+removes_at access (Expr-F.Name x) vs = deletes x
+removes_at access (Expr-F.Attribute object x) vs = with_one vs (λ o. deletes_member access o x)
+removes_at access (Expr-F.Subscript object index) vs = with_two vs (λ o i. deletes_item o i)
+removes_at access target vs = fails fault.NotInProfile
+
+abbrev pub removes : Access → Expr → List Value → Piece
+removes access target vs = removes_at access (out-Expr target) vs
 
 -- `x op= e` pays as its name, its expression and its operator
 abbrev pub augment : List ℕ → BinaryOp → List Value → Piece
 augment x o vs s k =
-    built vs (with_two vs (λ a b. gives (augmented (operator_of o) a b))) s (sized (on_value k (λ v s. stores x v s k)))
+    all_listed vs (λ vs. with_two vs (λ a b. gives (augmented (operator_of o) a b))) s (sized (on_value k (λ v s. stores x v s k)))
 
 abbrev pub augments : List ℕ → BinaryOp → List Value → Piece
 augments x o vs s k = pay 1 (augment x o vs s k)
@@ -83,7 +106,7 @@ raises_at (Value-F.Error error) = leaves (Left (Raised error))
 raises_at v = fails fault.NoException
 
 abbrev pub raises_value : Value → Piece
-raises_value v = built (v ∷ []) (raises_at (out-Value v))
+raises_value v = listed v (λ v. raises_at (out-Value v))
 
 abbrev pub raises_again : List Error → Piece
 raises_again [] = fails fault.NothingToRaise
@@ -108,17 +131,18 @@ stmt_operands_at (Stmt-F.Return e) = optional e
 stmt_operands_at (Stmt-F.Raise e) = optional e
 stmt_operands_at stmt = []
 
-abbrev pub performs_at : {B F H S : Type 0} → Stmt-F S B F H → List Value → Piece
-performs_at (Stmt-F.Evaluate e) vs = passes
-performs_at (Stmt-F.Assign target e) vs = assigns target vs
-performs_at (Stmt-F.Augment x o e) vs = augments x o vs
-performs_at (Stmt-F.Delete target) vs = removes target vs
-performs_at Stmt-F.Pass vs = passes
-performs_at Stmt-F.Break vs = leaves (Left Break)
-performs_at Stmt-F.Continue vs = leaves (Left Continue)
-performs_at (Stmt-F.Return e) vs = returns vs
-performs_at (Stmt-F.Raise e) vs = raises vs
-performs_at stmt vs = fails fault.NotBuilt
+-- what is no simple statement gets here nowhere
+abbrev pub performs_at : {B F H S : Type 0} → Access → Stmt-F S B F H → List Value → Piece
+performs_at access (Stmt-F.Evaluate e) vs = passes
+performs_at access (Stmt-F.Assign target e) vs = assigns access target vs
+performs_at access (Stmt-F.Augment x o e) vs = augments x o vs
+performs_at access (Stmt-F.Delete target) vs = removes access target vs
+performs_at access Stmt-F.Pass vs = passes
+performs_at access Stmt-F.Break vs = leaves (Left Break)
+performs_at access Stmt-F.Continue vs = leaves (Left Continue)
+performs_at access (Stmt-F.Return e) vs = returns vs
+performs_at access (Stmt-F.Raise e) vs = raises vs
+performs_at access stmt vs = fails fault.NotInProfile
 
 -- `if` and `while` (8.1 and 8.2).
 
@@ -223,7 +247,7 @@ chosen h error others (Some false) = others
 
 abbrev pub tries_handler : HandlerPiece → Error → Piece → Option Piece → Piece
 tries_handler h error others None = binds_error h error h.bound
-tries_handler h error others (Some kinds) = λ s k. kinds s (on_value k (λ v s. built (v ∷ []) (chosen h error others (takes error.kind v)) s k))
+tries_handler h error others (Some kinds) = λ s k. kinds s (on_value k (λ v s. listed v (λ v. chosen h error others (takes error.kind v)) s k))
 
 -- the handlers in order; an error that none takes goes on
 abbrev pub catches : List HandlerPiece → Error → Piece
@@ -288,7 +312,7 @@ paid_at around (Stmt-F.From dots parts names) = from_import around dots parts na
 paid_at around (Stmt-F.If branches otherwise) = tests branches (in_order otherwise)
 paid_at around (Stmt-F.Try body hs otherwise last) = guards last (tries (in_order body) hs (in_order otherwise))
 paid_at around (Stmt-F.Def f) = defines f
-paid_at around stmt = gathers (map (eval around) (stmt_operands_at stmt)) [] (performs_at stmt)
+paid_at around stmt = gathers (map (eval around) (stmt_operands_at stmt)) [] (performs_at around.access stmt)
 
 -- a statement pays a unit when it starts; a `while` pays one before each test instead
 abbrev pub stmt_at : Around → Stmt-F Piece BranchPiece DefPiece HandlerPiece → Piece

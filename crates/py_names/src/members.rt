@@ -1,21 +1,23 @@
 //! Attributes and items (Language Reference 6.3.1 and 7.2).
-ghost use Rattle.std.specs.Prelude.{◌≡◌, IfOk, true};
+ghost use Rattle.std.specs.Prelude.{◌≡◌, IfOk, true, false};
 ghost use Rattle.py_value.specs.declared.value.Value.{out-Value};
 ghost use Rattle.py_value.specs.declared.value.Value.TheOpen.{Value-F};
 ghost use Rattle.py_meaning.specs.Meaning.{around_at};
 ghost use Rattle.py_meaning.specs.Names as spec;
 ghost use Rattle.py_frames.specs.Does.{Does, pieces, begins, replies};
 ghost use Rattle.py_frames.specs.declared.work.Item.TheVariants as items;
-ghost use Rattle.py_frames.specs.declared.want.OnReply.TheVariants as ons;
+ghost use Rattle.py_frames.specs.declared.replies.OnReply.TheVariants as ons;
+ghost use Rattle.machine_events.specs.declared.event.Reply.TheVariants as reply_kinds;
 
 use crate::paths::member_value;
+use crate::rousing::rouse;
 use crate::ways::{fail, went};
 use base_types::{Exact, NoMemory, Text};
 use machine_events::{Event, Reply};
 use py_faults::Fault;
 use py_frames::{OnReply, Want};
 use py_state::Thread;
-use py_value::{Kind, ModRef, Raised, Value, type_of};
+use py_value::{Kind, ModRef, Raised, Value};
 use std::alloc::Global;
 
 /// Whether an error of the kind tells the name of a module.
@@ -54,7 +56,7 @@ fn error_member(
 
 /// An attribute of a module.
 fn module_member(thread: &Thread, module: ModRef, name: Text) -> Result<Want, NoMemory>
-    ensures { IfOk result (Does thread.now (pieces (λ w d. spec.member_at (around_at w d).replaced (Value-F.Module «module») name) thread.now)) }
+    ensures { IfOk result (Does thread.now (pieces (λ w d. spec.member_at (around_at w d).access (Value-F.Module «module») name) thread.now)) }
 {
     let _ = thread;
     let event = Event::GetVar {
@@ -62,7 +64,15 @@ fn module_member(thread: &Thread, module: ModRef, name: Text) -> Result<Want, No
         name: name.copy()?,
         raw: false,
     };
-    Ok(Want::Call(event, OnReply::Member { module, name }))
+    let is_raw = false;
+    Ok(Want::Call(
+        event,
+        OnReply::Member {
+            module,
+            name,
+            is_raw,
+        },
+    ))
 }
 
 /// An attribute is to be read.
@@ -72,7 +82,6 @@ pub fn member(alloc: Global, thread: &Thread, object: Value, name: Text) -> Resu
     match object {
         Value::Module(module) => module_member(thread, module, name),
         Value::Error(error) => error_member(alloc, thread, error, &name),
-        Value::SysModules | Value::SysPath => fail(alloc, thread, Fault::NotBuilt),
         other => {
             drop(other);
             fail(alloc, thread, Fault::NotInProfile)
@@ -80,15 +89,39 @@ pub fn member(alloc: Global, thread: &Thread, object: Value, name: Text) -> Resu
     }
 }
 
+/// The attribute of a module that is lazy, once it is loaded.
+fn member_awake(
+    alloc: Global,
+    thread: &Thread,
+    module: ModRef,
+    name: Text,
+) -> Result<Want, NoMemory>
+    ensures { IfOk result (Does thread.now (replies (ons.Member «module» name false) reply_kinds.Sleeping thread.now)) }
+{
+    let event = Event::GetVar {
+        mid: module.mid,
+        name: name.copy()?,
+        raw: true,
+    };
+    let lazy = module.copy()?;
+    let is_raw = true;
+    let reply = OnReply::Member {
+        module,
+        name,
+        is_raw,
+    };
+    rouse(alloc, thread, lazy, event, reply)
+}
+
 /// The reply to the read of an attribute.
-pub fn member_read(
+fn member_known(
     alloc: Global,
     thread: &Thread,
     module: ModRef,
     name: Text,
     reply: Reply,
 ) -> Result<Want, NoMemory>
-    ensures { IfOk result (Does thread.now (replies (ons.Member «module» name) reply thread.now)) }
+    ensures { IfOk result (Does thread.now (pieces (λ w d. spec.member_read (around_at w d).access «module» name reply) thread.now)) }
 {
     match reply {
         Reply::Value(value) => member_value(alloc, thread, module, &name, value),
@@ -101,7 +134,6 @@ pub fn member_read(
                 name,
             },
         ),
-        Reply::Sleeping => fail(alloc, thread, Fault::NotBuilt),
         other => {
             drop(other);
             fail(alloc, thread, Fault::NotInProfile)
@@ -109,18 +141,104 @@ pub fn member_read(
     }
 }
 
-/// The reply to a write.
+/// The reply to the read of an attribute, made raw or not.
+pub fn member_read(
+    alloc: Global,
+    thread: &Thread,
+    module: ModRef,
+    name: Text,
+    is_raw: bool,
+    reply: Reply,
+) -> Result<Want, NoMemory>
+    ensures { IfOk result (Does thread.now (replies (ons.Member «module» name is_raw) reply thread.now)) }
+{
+    match reply {
+        Reply::Sleeping if !is_raw => member_awake(alloc, thread, module, name),
+        reply => member_known(alloc, thread, module, name, reply),
+    }
+}
+
+/// The reply to a raw write.
 pub fn stored(alloc: Global, thread: &Thread, reply: Reply) -> Result<Want, NoMemory>
     ensures { IfOk result (Does thread.now (replies ons.Stored reply thread.now)) }
 {
     match reply {
         Reply::Done => Ok(went(thread, Value::Nothing)),
-        Reply::Sleeping => fail(alloc, thread, Fault::NotBuilt),
         other => {
             drop(other);
             fail(alloc, thread, Fault::NotInProfile)
         }
     }
+}
+
+/// The attribute of a module that is lazy is set, once it is loaded.
+fn store_awake(
+    alloc: Global,
+    thread: &Thread,
+    module: ModRef,
+    name: Text,
+    value: Value,
+) -> Result<Want, NoMemory>
+    ensures { IfOk result (Does thread.now (replies (ons.MemberStored «module» name value false) reply_kinds.Sleeping thread.now)) }
+{
+    let event = Event::SetVar {
+        mid: module.mid,
+        name,
+        value,
+        raw: true,
+    };
+    rouse(alloc, thread, module, event, OnReply::Stored)
+}
+
+/// The reply to the write of an attribute, made raw or not.
+pub fn member_stored(
+    alloc: Global,
+    thread: &Thread,
+    module: ModRef,
+    name: Text,
+    value: Value,
+    is_raw: bool,
+    reply: Reply,
+) -> Result<Want, NoMemory>
+    ensures { IfOk result (Does thread.now (replies (ons.MemberStored «module» name value is_raw) reply thread.now)) }
+{
+    match reply {
+        Reply::Sleeping if !is_raw => store_awake(alloc, thread, module, name, value),
+        reply => {
+            drop(module);
+            drop(name);
+            drop(value);
+            stored(alloc, thread, reply)
+        }
+    }
+}
+
+/// An attribute of a module is set.
+fn set_module_member(
+    thread: &Thread,
+    module: ModRef,
+    name: Text,
+    value: Value,
+) -> Result<Want, NoMemory>
+    ensures { IfOk result (Does thread.now (pieces (λ w d. spec.sets_member_at (around_at w d).access (Value-F.Module «module») name value) thread.now)) }
+{
+    let _ = thread;
+    let event = Event::SetVar {
+        mid: module.mid,
+        name: name.copy()?,
+        value: value.copy()?,
+        raw: false,
+    };
+    let is_raw = false;
+    Ok(Want::Call(
+        event,
+        OnReply::MemberStored {
+            module,
+            name,
+            value,
+            is_raw,
+        },
+    ))
 }
 
 /// An attribute is set.
@@ -131,23 +249,38 @@ pub fn set_member(
     name: Text,
     value: Value,
 ) -> Result<Want, NoMemory>
-    ensures { IfOk result (Does thread.now (pieces (λ w d. spec.sets_member object name value) thread.now)) }
+    ensures { IfOk result (Does thread.now (pieces (λ w d. spec.sets_member (around_at w d).access object name value) thread.now)) }
 {
     match object {
-        Value::Module(module) => {
-            let event = Event::SetVar {
-                mid: module.mid,
-                name,
-                value,
-                raw: false,
-            };
-            Ok(Want::Call(event, OnReply::Stored))
-        }
+        Value::Module(module) => set_module_member(thread, module, name, value),
         other => {
             drop(other);
+            drop(name);
+            drop(value);
             fail(alloc, thread, Fault::NotInProfile)
         }
     }
+}
+
+/// An attribute of a module is deleted.
+fn delete_module_member(thread: &Thread, module: ModRef, name: Text) -> Result<Want, NoMemory>
+    ensures { IfOk result (Does thread.now (pieces (λ w d. spec.deletes_member_at (around_at w d).access (Value-F.Module «module») name) thread.now)) }
+{
+    let _ = thread;
+    let event = Event::DelVar {
+        mid: module.mid,
+        name: name.copy()?,
+        raw: false,
+    };
+    let is_raw = false;
+    Ok(Want::Call(
+        event,
+        OnReply::MemberDeleted {
+            module,
+            name,
+            is_raw,
+        },
+    ))
 }
 
 /// An attribute is deleted.
@@ -157,37 +290,49 @@ pub fn delete_member(
     object: Value,
     name: Text,
 ) -> Result<Want, NoMemory>
-    ensures { IfOk result (Does thread.now (pieces (λ w d. spec.deletes_member object name) thread.now)) }
+    ensures { IfOk result (Does thread.now (pieces (λ w d. spec.deletes_member (around_at w d).access object name) thread.now)) }
 {
     match object {
-        Value::Module(module) => {
-            let event = Event::DelVar {
-                mid: module.mid,
-                name: name.copy()?,
-                raw: false,
-            };
-            Ok(Want::Call(event, OnReply::MemberDeleted(name)))
-        }
+        Value::Module(module) => delete_module_member(thread, module, name),
         other => {
             drop(other);
+            drop(name);
             fail(alloc, thread, Fault::NotInProfile)
         }
     }
 }
 
-/// The reply to the deletion of an attribute.
-pub fn member_deleted(
+/// The attribute of a module that is lazy is deleted, once it is loaded.
+fn delete_awake(
     alloc: Global,
     thread: &Thread,
+    module: ModRef,
     name: Text,
-    reply: Reply,
 ) -> Result<Want, NoMemory>
-    ensures { IfOk result (Does thread.now (replies (ons.MemberDeleted name) reply thread.now)) }
+    ensures { IfOk result (Does thread.now (replies (ons.MemberDeleted «module» name false) reply_kinds.Sleeping thread.now)) }
+{
+    let event = Event::DelVar {
+        mid: module.mid,
+        name: name.copy()?,
+        raw: true,
+    };
+    let lazy = module.copy()?;
+    let is_raw = true;
+    let reply = OnReply::MemberDeleted {
+        module,
+        name,
+        is_raw,
+    };
+    rouse(alloc, thread, lazy, event, reply)
+}
+
+/// The reply to the deletion of an attribute.
+fn removed(alloc: Global, thread: &Thread, name: Text, reply: Reply) -> Result<Want, NoMemory>
+    ensures { IfOk result (Does thread.now (pieces (λ w d. spec.removed name reply) thread.now)) }
 {
     match reply {
         Reply::Done => Ok(went(thread, Value::Nothing)),
         Reply::Unset(_) => fail(alloc, thread, Fault::NotDeleted(name)),
-        Reply::Sleeping => fail(alloc, thread, Fault::NotBuilt),
         other => {
             drop(other);
             fail(alloc, thread, Fault::NotInProfile)
@@ -195,13 +340,22 @@ pub fn member_deleted(
     }
 }
 
-/// An item is set or deleted.
-pub fn change_item(alloc: Global, thread: &Thread, object: &Value) -> Result<Want, NoMemory>
-    ensures { IfOk result (Does thread.now (pieces (λ w d. spec.changes_item object.now) thread.now)) }
+/// The reply to the deletion of an attribute, made raw or not.
+pub fn member_deleted(
+    alloc: Global,
+    thread: &Thread,
+    module: ModRef,
+    name: Text,
+    is_raw: bool,
+    reply: Reply,
+) -> Result<Want, NoMemory>
+    ensures { IfOk result (Does thread.now (replies (ons.MemberDeleted «module» name is_raw) reply thread.now)) }
 {
-    match object {
-        Value::List(_) => fail(alloc, thread, Fault::NotInProfile),
-        Value::SysModules | Value::SysPath => fail(alloc, thread, Fault::NotBuilt),
-        _ => fail(alloc, thread, Fault::NoItemAssignment(type_of(object))),
+    match reply {
+        Reply::Sleeping if !is_raw => delete_awake(alloc, thread, module, name),
+        reply => {
+            drop(module);
+            removed(alloc, thread, name, reply)
+        }
     }
 }

@@ -1,15 +1,17 @@
 //! Names (Language Reference 4.2.2).
 ghost use Rattle.std.specs.Prelude.{◌≡◌, IfOk, true};
 ghost use Rattle.thread_knowledge.specs.Shown.{is_namespace_path};
+ghost use Rattle.py_meaning.specs.Meaning.{around_at};
 ghost use Rattle.py_meaning.specs.Names as spec;
 ghost use Rattle.py_meaning.specs.Pieces as words;
 ghost use Rattle.py_state.specs.declared.flow.Flow.TheVariants.{Went};
 ghost use Rattle.py_frames.specs.Does.{Does, pieces, begins, replies};
 ghost use Rattle.py_frames.specs.declared.work.Item.TheVariants as items;
-ghost use Rattle.py_frames.specs.declared.want.OnReply.TheVariants as ons;
+ghost use Rattle.py_frames.specs.declared.replies.OnReply.TheVariants as ons;
 
 use crate::built_ins::built_in;
 use crate::locals::{is_local_name, local_value, set_local, unset_local};
+use crate::paths::replace_own;
 use crate::ways::{fail, went};
 use base_types::{Exact, NoMemory, Text};
 use machine_events::{Event, Reply};
@@ -30,11 +32,12 @@ pub fn is_namespace_path(value: &Value) -> bool
 }
 
 /// A variable's value.
-fn variable(alloc: Global, thread: &Thread, value: Value) -> Result<Want, NoMemory>
-    ensures { IfOk result (Does thread.now (pieces (λ w d. spec.variable value) thread.now)) }
+fn variable(alloc: Global, thread: &Thread, name: &Text, value: Value) -> Result<Want, NoMemory>
+    ensures { IfOk result (Does thread.now (pieces (λ w d. spec.variable (around_at w d).access name.now value) thread.now)) }
 {
     if is_namespace_path(&value) {
-        return fail(alloc, thread, Fault::NotBuilt);
+        drop(value);
+        return replace_own(alloc, thread, name);
     }
     Ok(went(thread, value))
 }
@@ -66,7 +69,7 @@ pub fn global(alloc: Global, thread: &Thread, name: Text, reply: Reply) -> Resul
     ensures { IfOk result (Does thread.now (replies (ons.Global name) reply thread.now)) }
 {
     match reply {
-        Reply::Value(value) => variable(alloc, thread, value),
+        Reply::Value(value) => variable(alloc, thread, &name, value),
         Reply::Unset(_) => read_built_in(alloc, thread, name),
         other => {
             drop(other);
@@ -142,7 +145,7 @@ pub fn sized(thread: &Thread, value: Value) -> Want
 
 /// A name is read, and its value's size is paid.
 pub fn read_name(alloc: Global, thread: &Thread, name: &Text) -> Result<Want, NoMemory>
-    ensures { IfOk result (Does thread.now (pieces (λ w d s k. spec.reads name.now s (words.sized k)) thread.now)) }
+    ensures { IfOk result (Does thread.now (pieces (λ w d s k. spec.reads (around_at w d).access name.now s (words.sized k)) thread.now)) }
 {
     if !is_local_name(thread, name) {
         return Ok(Want::Both(Item::ReadGlobal(name.copy()?), Frame::Sized));

@@ -1,35 +1,30 @@
 //! Operators on the values of their operands.
-ghost use Rattle.std.specs.Prelude.{◌≡◌, IfOk, [], ◌∷◌, not};
-ghost use Rattle.py_value.specs.Measures.{is_true};
+ghost use Rattle.std.specs.Prelude.{◌≡◌, IfOk, [], ◌∷◌, Some, None, true, false};
 ghost use Rattle.py_value.specs.declared.value.Value.TheVariants as kinds_of_value;
-ghost use Rattle.value_operators.specs.Arithmetic as arithmetic;
-ghost use Rattle.value_operators.specs.Items as item_table;
-ghost use Rattle.value_operators.specs.Outcomes.{truth_value};
 ghost use Rattle.py_syntax.specs.declared.expr.Expr.{out-Expr};
 ghost use Rattle.py_meaning.specs.Meaning.{around_at};
-ghost use Rattle.py_meaning.specs.Names as names;
 ghost use Rattle.py_meaning.specs.Operators as spec;
-ghost use Rattle.py_meaning.specs.Pieces as words;
 ghost use Rattle.py_operations.specs.Forms as forms;
-ghost use Rattle.py_operations.specs.Forms.{given_at, by_one, by_two, one_of, two_of};
-ghost use Rattle.py_frames.specs.Does.{Does, pieces, begins};
+ghost use Rattle.py_operations.specs.Forms.{by_one, by_two, member_of, one_of, two_of, sizes};
+ghost use Rattle.py_frames.specs.Does.{Does, begins};
 ghost use Rattle.py_frames.specs.declared.work.Item.TheVariants as items;
 
-use crate::values::{given, has_special, one, two};
+use crate::placing::place_of;
+use crate::values::{given, has_special, is_cache, one, two};
 use base_types::{Exact, NoMemory, Seq, Text};
 use py_faults::Fault;
 use py_frames::{Frame, Item, Want};
-use py_names::{fail, sized};
+use py_names::{fail, is_namespace_path, list_operand, sized};
 use py_state::{Flow, Leave, Thread};
 use py_syntax::{BinaryOp, Comparison, Expr};
-use py_value::{Applied, BinOp, CmpOp, Value, size, truth};
+use py_value::{Applied, BinOp, CmpOp, Value, truth};
 use shared::Shared;
 use std::alloc::Global;
 use value_operators::{
-    augmented, binary, compare, contains, identical, limited, negate, not_in_profile, subscript,
+    binary, compare, contains, identical, limited, negate, not_in_profile, subscript,
 };
 
-fn operator_of(op: BinaryOp) -> BinOp
+pub fn operator_of(op: BinaryOp) -> BinOp
     ensures { result ≡ spec.operator_of op }
 {
     match op {
@@ -92,7 +87,7 @@ fn attribute(
     name: &Text,
     values: Seq<Value>,
 ) -> Result<Want, NoMemory>
-    ensures { IfOk result (Does thread.now (pieces (λ w d s k. by_one (one_of values) (λ v. names.member (around_at w d).replaced v name.now) s (words.sized k)) thread.now)) }
+    ensures { IfOk result (Does thread.now (sizes (λ w d. member_of (around_at w d) name.now values) thread.now)) }
 {
     match one(values) {
         None => fail(alloc, thread, Fault::NotInProfile),
@@ -108,7 +103,7 @@ fn attribute(
 
 /// A call of the first value with the others.
 fn call(alloc: Global, thread: &Thread, values: Seq<Value>) -> Result<Want, NoMemory>
-    ensures { IfOk result (Does thread.now (pieces (λ w d s k. spec.calls_first (around_at w d) values s (words.sized k)) thread.now)) }
+    ensures { IfOk result (Does thread.now (sizes (λ w d. spec.calls_first (around_at w d) values) thread.now)) }
 {
     let mut arguments = values;
     if arguments.is_empty() {
@@ -118,35 +113,47 @@ fn call(alloc: Global, thread: &Thread, values: Seq<Value>) -> Result<Want, NoMe
     Ok(Want::Both(Item::Call { callee, arguments }, Frame::Sized))
 }
 
-/// An item, which is met as a variable that was read.
+/// An item of a list or tuple, of which none is the path of a namespace.
 fn item(alloc: Global, thread: &Thread, applied: Applied) -> Result<Want, NoMemory>
-    ensures { IfOk result (Does thread.now (pieces (λ w d s k. spec.gives_item applied s (words.sized k)) thread.now)) }
+    ensures { IfOk result (Does thread.now (sizes (λ w d. spec.gives_item applied) thread.now)) }
 {
     match applied {
-        Applied::Value(Value::NsPath) => fail(alloc, thread, Fault::NotBuilt),
-        Applied::Value(value) => Ok(sized(thread, value)),
+        Applied::Value(value) => {
+            if is_namespace_path(&value) {
+                return fail(alloc, thread, Fault::NotInProfile);
+            }
+            Ok(sized(thread, value))
+        }
         Applied::Raised(error) => Ok(Want::Go(Flow::Left(Leave::Raised(error)))),
     }
 }
 
-fn subscription(alloc: Global, thread: &Thread, values: Seq<Value>) -> Result<Want, NoMemory>
-    ensures { IfOk result (Does thread.now (pieces (λ w d s k. words.built values (by_two (two_of values) (λ v i. spec.gives_item (item_table.subscript v i))) s (words.sized k)) thread.now)) }
+/// An entry of the cache, an item, or a code point.
+fn item_of(alloc: Global, thread: &Thread, value: &Value, index: Value) -> Result<Want, NoMemory>
+    ensures { IfOk result (Does thread.now (sizes (λ w d. forms.item_of value.now index) thread.now)) }
 {
-    if has_special(&values) {
-        return fail(alloc, thread, Fault::NotBuilt);
+    if is_cache(value) {
+        let entry = Item::ReadEntry {
+            key: index,
+            default: None,
+        };
+        return Ok(Want::Both(entry, Frame::Sized));
     }
+    item(alloc, thread, subscript(alloc, value, &index)?)
+}
+
+fn subscription(alloc: Global, thread: &Thread, values: Seq<Value>) -> Result<Want, NoMemory>
+    ensures { IfOk result (Does thread.now (sizes (λ w d. by_two (two_of values) forms.item_of) thread.now)) }
+{
     match two(values) {
         None => fail(alloc, thread, Fault::NotInProfile),
-        Some((value, index)) => item(alloc, thread, subscript(alloc, &value, &index)?),
+        Some((value, index)) => item_of(alloc, thread, &value, index),
     }
 }
 
 fn negative(alloc: Global, thread: &Thread, values: Seq<Value>) -> Result<Want, NoMemory>
-    ensures { IfOk result (Does thread.now (pieces (λ w d s k. words.built values (by_one (one_of values) (λ v. words.gives (arithmetic.negated v))) s (words.sized k)) thread.now)) }
+    ensures { IfOk result (Does thread.now (sizes (λ w d. by_one (one_of values) forms.negative_of) thread.now)) }
 {
-    if has_special(&values) {
-        return fail(alloc, thread, Fault::NotBuilt);
-    }
     match one(values) {
         None => fail(alloc, thread, Fault::NotInProfile),
         Some(value) => Ok(given(thread, negate(alloc, &value)?)),
@@ -154,11 +161,8 @@ fn negative(alloc: Global, thread: &Thread, values: Seq<Value>) -> Result<Want, 
 }
 
 fn inverse(alloc: Global, thread: &Thread, values: Seq<Value>) -> Result<Want, NoMemory>
-    ensures { IfOk result (Does thread.now (pieces (λ w d s k. words.built values (by_one (one_of values) (λ v. words.gives (truth_value (not (is_true v))))) s (words.sized k)) thread.now)) }
+    ensures { IfOk result (Does thread.now (sizes (λ w d. by_one (one_of values) forms.inverse_of) thread.now)) }
 {
-    if has_special(&values) {
-        return fail(alloc, thread, Fault::NotBuilt);
-    }
     match one(values) {
         None => fail(alloc, thread, Fault::NotInProfile),
         Some(value) => Ok(sized(thread, Value::Bool(!truth(&value)))),
@@ -171,14 +175,44 @@ fn operation(
     op: BinaryOp,
     values: Seq<Value>,
 ) -> Result<Want, NoMemory>
-    ensures { IfOk result (Does thread.now (pieces (λ w d s k. words.built values (by_two (two_of values) (λ x y. words.gives (arithmetic.binary (spec.operator_of op) x y))) s (words.sized k)) thread.now)) }
+    ensures { IfOk result (Does thread.now (sizes (λ w d. by_two (two_of values) (forms.operation_of op)) thread.now)) }
 {
-    if has_special(&values) {
-        return fail(alloc, thread, Fault::NotBuilt);
-    }
     match two(values) {
         None => fail(alloc, thread, Fault::NotInProfile),
         Some((a, b)) => Ok(given(thread, binary(alloc, operator_of(op), &a, &b)?)),
+    }
+}
+
+/// Whether an item is in a list, tuple or text, or a key in the cache.
+fn told_in(
+    alloc: Global,
+    thread: &Thread,
+    op: Comparison,
+    is_negated: bool,
+    a: Value,
+    b: &Value,
+) -> Result<Want, NoMemory>
+    ensures { IfOk result (Does thread.now (sizes (λ w d. forms.told_in op is_negated a b.now) thread.now)) }
+{
+    if is_cache(b) {
+        return Ok(Want::Both(Item::HasEntry { key: a, is_negated }, Frame::Sized));
+    }
+    Ok(given(thread, compared(alloc, op, &a, b)?))
+}
+
+fn told(
+    alloc: Global,
+    thread: &Thread,
+    op: Comparison,
+    a: Value,
+    b: &Value,
+) -> Result<Want, NoMemory>
+    ensures { IfOk result (Does thread.now (sizes (λ w d. forms.told op a b.now) thread.now)) }
+{
+    match op {
+        Comparison::In => told_in(alloc, thread, op, false, a, b),
+        Comparison::NotIn => told_in(alloc, thread, op, true, a, b),
+        _ => Ok(given(thread, compared(alloc, op, &a, b)?)),
     }
 }
 
@@ -188,14 +222,11 @@ fn comparison(
     op: Comparison,
     values: Seq<Value>,
 ) -> Result<Want, NoMemory>
-    ensures { IfOk result (Does thread.now (pieces (λ w d s k. words.built values (by_two (two_of values) (λ x y. words.gives (spec.compared op x y))) s (words.sized k)) thread.now)) }
+    ensures { IfOk result (Does thread.now (sizes (λ w d. by_two (two_of values) (forms.told op)) thread.now)) }
 {
-    if has_special(&values) {
-        return fail(alloc, thread, Fault::NotBuilt);
-    }
     match two(values) {
         None => fail(alloc, thread, Fault::NotInProfile),
-        Some((a, b)) => Ok(given(thread, compared(alloc, op, &a, &b)?)),
+        Some((a, b)) => told(alloc, thread, op, a, &b),
     }
 }
 
@@ -208,14 +239,14 @@ fn is_call(expr: &Expr) -> bool
     }
 }
 
-/// An operator, by its form.
+/// An operator, by its form, on operands that have values.
 fn by_form(
     alloc: Global,
     thread: &Thread,
     expr: &Expr,
     values: Seq<Value>,
 ) -> Result<Want, NoMemory>
-    ensures { IfOk result (Does thread.now (pieces (λ w d s k. given_at (around_at w d) (out-Expr expr.now) values s (words.sized k)) thread.now)) }
+    ensures { IfOk result (Does thread.now (sizes (λ w d. forms.given_on (around_at w d) expr.now values) thread.now)) }
 {
     if is_call(expr) {
         return call(alloc, thread, values);
@@ -233,6 +264,24 @@ fn by_form(
     }
 }
 
+/// The operand at this place is the first in whose place a list comes, or which is none.
+fn apply_listed(
+    alloc: Global,
+    thread: &Thread,
+    expr: Shared<Expr>,
+    values: Seq<Value>,
+    at: usize,
+) -> Result<Want, NoMemory>
+    requires place { forms.place_at (out-Expr expr) values ≡ Some at }
+    ensures { IfOk result (Does thread.now (begins (items.Apply expr values) thread.now)) }
+{
+    let value = match values.get(at) {
+        None => return fail(alloc, thread, Fault::NotInProfile),
+        Some(value) => value.copy()?,
+    };
+    list_operand(alloc, thread, Item::Apply { expr, values }, at, value)
+}
+
 /// An operator on the values of its operands, once its unit is paid.
 pub fn apply(
     alloc: Global,
@@ -242,48 +291,8 @@ pub fn apply(
 ) -> Result<Want, NoMemory>
     ensures { IfOk result (Does thread.now (begins (items.Apply expr values) thread.now)) }
 {
-    by_form(alloc, thread, expr.get(), values)
-}
-
-/// An augmented assignment on its two values, once its operator's unit is paid.
-fn augment_two(
-    alloc: Global,
-    thread: &Thread,
-    name: Text,
-    op: BinaryOp,
-    values: Seq<Value>,
-) -> Result<Want, NoMemory>
-    ensures { IfOk result (Does thread.now (pieces (λ w d s k. words.built values (by_two (two_of values) (λ a b. words.gives (arithmetic.augmented (spec.operator_of op) a b))) s (words.sized (words.on_value k (λ v s. names.stores name v s k)))) thread.now)) }
-{
-    if has_special(&values) {
-        return fail(alloc, thread, Fault::NotBuilt);
+    match place_of(expr.get(), &values) {
+        None => by_form(alloc, thread, expr.get(), values),
+        Some(at) => apply_listed(alloc, thread, expr, values, at),
     }
-    let (a, b) = match two(values) {
-        None => return fail(alloc, thread, Fault::NotInProfile),
-        Some(both) => both,
-    };
-    match augmented(alloc, operator_of(op), &a, &b)? {
-        Applied::Value(value) => {
-            let units = size(&value);
-            Ok(Want::Pay {
-                of_tree: false,
-                units,
-                item: Item::Store { name, value },
-            })
-        }
-        Applied::Raised(error) => Ok(Want::Go(Flow::Left(Leave::Raised(error)))),
-    }
-}
-
-/// An augmented assignment, once its operator's unit is paid.
-pub fn augment(
-    alloc: Global,
-    thread: &Thread,
-    name: Text,
-    op: BinaryOp,
-    values: Seq<Value>,
-) -> Result<Want, NoMemory>
-    ensures { IfOk result (Does thread.now (begins (items.Augment name op values) thread.now)) }
-{
-    augment_two(alloc, thread, name, op, values)
 }

@@ -1,9 +1,7 @@
 //! How an expression begins.
-ghost use Rattle.std.specs.Prelude.{◌≡◌, IfOk, [], ◌∷◌, None};
+ghost use Rattle.std.specs.Prelude.{◌≡◌, IfOk, [], ◌∷◌, None, false};
 ghost use Rattle.py_syntax.specs.declared.expr.Expr.{out-Expr};
 ghost use Rattle.py_meaning.specs.Meaning.{around_at};
-ghost use Rattle.py_meaning.specs.Operators.{atom_at};
-ghost use Rattle.py_meaning.specs.Pieces as words;
 ghost use Rattle.py_operations.specs.Forms.{eval_at};
 ghost use Rattle.py_operations.specs.Forms as spec;
 ghost use Rattle.py_frames.specs.Does.{Does, pieces, begins};
@@ -24,7 +22,7 @@ use value_operators::limited;
 
 /// An atom's unit is paid, and then its value is looked for.
 fn pay_atom(thread: &Thread, expr: Shared<Expr>) -> Want
-    ensures { Does thread.now (pieces (λ w d s k. words.pay 1 (atom_at (out-Expr expr) s (words.sized k))) thread.now) result }
+    ensures { Does thread.now (pieces (λ w d. spec.atom_of (around_at w d) expr) thread.now) result }
 {
     let _ = thread;
     Want::Pay {
@@ -55,6 +53,38 @@ fn is_atom(expr: &Expr) -> bool
     }
 }
 
+/// The object of an attribute.
+fn object_of(expr: &Expr) -> Result<Option<Shared<Expr>>, NoMemory>
+    ensures { IfOk result (λ object. object ≡ spec.object_of (out-Expr expr.now)) }
+{
+    match expr {
+        Expr::Attribute(object, _) => Ok(Some(object.share()?)),
+        _ => Ok(None),
+    }
+}
+
+/// The object of the attribute that a call names.
+fn callee_object(expr: &Expr) -> Result<Option<Shared<Expr>>, NoMemory>
+    ensures { IfOk result (λ object. object ≡ spec.callee_object (out-Expr expr.now)) }
+{
+    match expr {
+        Expr::Call(callee, _) => object_of(callee.get()),
+        _ => Ok(None),
+    }
+}
+
+/// A form with operands. A call of an attribute begins with the object of that.
+fn operator(alloc: Global, thread: &Thread, expr: Shared<Expr>) -> Result<Want, NoMemory>
+    requires left { spec.left_of (out-Expr expr) ≡ None }
+    requires atom { spec.is_atom (out-Expr expr) ≡ false }
+    ensures { IfOk result (Does thread.now (pieces (λ w d. eval_at (around_at w d) (out-Expr expr)) thread.now)) }
+{
+    match callee_object(expr.get())? {
+        Some(object) => Ok(Want::Both(Item::Eval(object), Frame::Callee(expr))),
+        None => operands(alloc, thread, Form::Expression(expr), Seq::new(alloc)),
+    }
+}
+
 /// An expression that is no `and` and no `or`.
 fn without_left(alloc: Global, thread: &Thread, expr: Shared<Expr>) -> Result<Want, NoMemory>
     requires none { spec.left_of (out-Expr expr) ≡ None }
@@ -63,7 +93,7 @@ fn without_left(alloc: Global, thread: &Thread, expr: Shared<Expr>) -> Result<Wa
     if is_atom(expr.get()) {
         return Ok(pay_atom(thread, expr));
     }
-    operands(alloc, thread, Form::Expression(expr), Seq::new(alloc))
+    operator(alloc, thread, expr)
 }
 
 /// An expression, by its outermost form.

@@ -6,7 +6,7 @@ ghost use Rattle.py_syntax.specs.declared.stmt.Stmt.{out-Stmt};
 ghost use Rattle.py_meaning.specs.Operators.{operands_at};
 ghost use Rattle.py_meaning.specs.Statements.{target_operands, stmt_operands_at, optional};
 ghost use Rattle.py_meaning.specs.Meaning.{around_at};
-ghost use Rattle.py_frames.specs.Does.{Does, pieces, begins, goes_on, completes, operands_of, operands_of_stmt};
+ghost use Rattle.py_frames.specs.Does.{Does, pieces, begins, goes_on, arguments_of, completes, operands_of, operands_of_stmt};
 ghost use Rattle.py_frames.specs.declared.work.Item.TheVariants as items;
 ghost use Rattle.py_frames.specs.declared.work.Frame.TheVariants as frames;
 
@@ -136,6 +136,16 @@ fn of_stmt(alloc: Global, stmt: &Stmt, at: usize) -> Result<Operand, NoMemory>
     }
 }
 
+/// An argument of a call.
+fn argument(expr: &Expr, at: usize) -> Result<Operand, NoMemory>
+    ensures { IfOk result (λ found. found ≡ slice_get (arguments_of expr.now) at) }
+{
+    match expr {
+        Expr::Call(_, arguments) => among(arguments, at),
+        _ => Ok(None),
+    }
+}
+
 /// An operand of a form.
 fn operand(alloc: Global, form: &Form, at: usize) -> Result<Operand, NoMemory>
     ensures { IfOk result (λ found. found ≡ slice_get (operands_of form.now) at) }
@@ -146,6 +156,7 @@ fn operand(alloc: Global, form: &Form, at: usize) -> Result<Operand, NoMemory>
             None => Ok(None),
             Some(stmt) => of_stmt(alloc, stmt, at),
         },
+        Form::Method(expr, _) => argument(expr, at),
     }
 }
 
@@ -161,6 +172,15 @@ fn complete(thread: &Thread, form: Form, values: Seq<Value>) -> Want
             item: Item::Apply { expr, values },
         },
         Form::Statement(stmts, at) => Want::Then(Item::Perform { stmts, at, values }),
+        Form::Method(expr, object) => Want::Pay {
+            of_tree: false,
+            units: 1,
+            item: Item::Method {
+                expr,
+                object,
+                values,
+            },
+        },
     }
 }
 

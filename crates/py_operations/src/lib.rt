@@ -1,13 +1,18 @@
-//! Steps of expressions: atoms, operands from left to right, and operators on their values.
+//! Steps of expressions: atoms, operands from left to right, callees, and operators on their values.
 #![tactic(auto)]
 
 mod applying;
+mod augmenting;
+mod calling;
 mod choosing;
 mod evaluating;
 mod gathering;
+mod placing;
 mod values;
 
-pub use applying::{apply, augment};
+pub use applying::apply;
+pub use augmenting::augment;
+pub use calling::{call_callee, callee};
 pub use choosing::{choose, second};
 pub use evaluating::{atom, evaluate};
 pub use gathering::{operand_value, operands};

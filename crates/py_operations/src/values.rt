@@ -3,7 +3,7 @@ ghost use Rattle.std.specs.Prelude.{◌≡◌, ℕ, length};
 ghost use Rattle.std.specs.List.{list_any};
 ghost use Rattle.value_operators.specs.Outcomes.{is_special};
 ghost use Rattle.py_meaning.specs.Pieces as words;
-ghost use Rattle.py_operations.specs.Forms.{one_of, two_of};
+ghost use Rattle.py_operations.specs.Forms.{is_cache, one_of, two_of};
 ghost use Rattle.py_frames.specs.Does.{Does, pieces, goes_on};
 ghost use Rattle.py_frames.specs.declared.work.Frame.TheVariants as frames;
 
@@ -19,6 +19,16 @@ pub fn is_special(value: &Value) -> bool
 {
     match value {
         Value::SysModules | Value::SysPath | Value::NsPath => true,
+        _ => false,
+    }
+}
+
+/// Whether a value stands for the cache.
+pub fn is_cache(value: &Value) -> bool
+    ensures { result ≡ is_cache value.now }
+{
+    match value {
+        Value::SysModules => true,
         _ => false,
     }
 }

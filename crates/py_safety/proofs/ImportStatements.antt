@@ -1,5 +1,5 @@
 -- The `import` statements are safe.
-use Rattle.std.proofs.Common.{inl, inr, ℕ, zero, suc, Bool, true, false, ◌≡◌, List, [], ◌∷◌, map, codes, Option, Some, None, Result, Ok, Err, refl}
+use Rattle.std.proofs.Common.{inl, ℕ, zero, suc, Bool, true, false, ◌≡◌, List, [], ◌∷◌, map, codes, Option, Some, None, Result, Ok, Err, refl}
 use Rattle.std.specs.List.{filter}
 use Rattle.std.specs.Str.{bytes_eq}
 use Rattle.py_value.specs.declared.value.ModRef.{ModRef}
@@ -19,7 +19,7 @@ use Rattle.machine_events.specs.declared.event.Reply.TheVariants as r
 use Rattle.machine_events.specs.declared.module.Slot.{Slot}
 use Rattle.machine_events.specs.declared.module.Slot.TheVariants as slots
 use Rattle.thread_knowledge.specs.Shown.{Shown, shown_more}
-use Rattle.thread_knowledge.specs.Knowing.{Has, HasMid}
+use Rattle.thread_knowledge.specs.Knowing.{Has}
 use Rattle.py_syntax.specs.declared.stmt.Alias.{Alias}
 use Rattle.py_syntax.specs.declared.stmt.ImportedNames.{ImportedNames}
 use Rattle.py_syntax.specs.declared.stmt.ImportedNames.TheVariants as names
@@ -27,15 +27,16 @@ use Rattle.py_faults.specs.declared.fault.Fault.TheVariants as fault
 use Rattle.py_state.specs.declared.flow.Leave.TheVariants.{Raised, Return, Break, Continue}
 use Rattle.py_state.specs.declared.flow.Flow.{Flow}
 use Rattle.py_state.specs.declared.flow.Flow.TheVariants.{Went, Left}
-use Rattle.py_meaning.specs.Pieces.{Piece, calls, on_value, fails, in_order}
+use Rattle.py_meaning.specs.Pieces.{Piece, calls, on_value, fails, in_order, accessed}
 use Rattle.py_meaning.specs.Names.{stores, member}
 use Rattle.py_meaning.specs.Operators.{Around}
 use Rattle.py_meaning.specs.ImportStatements.{dotted_name, bound_as, with_module_at, with_module, namespace_taken, entry_taken, submodule_entry, looks_up, name_read, name_of, is_last, follows_parts, binds_import, imports_front, imports_parts, imports_one, imports_all, missed, is_missing, raised_for, tried_submodule, tries_submodule, submodule_read, submodule, if_package, asks_submodules, item_name, binds_item, binds_items, item_names, from_list, binds_star, binds_stars, all_names, is_one_part, stars_of, is_public, public_names, all_read, from_star, package_in, optional_name, from_name, from_resolved, from_relative, from_dots, imported_names, from_import}
 use Rattle.py_safety.specs.Known.{KnowsValue, KnowsFlow}
 use Rattle.py_safety.proofs.Growth.{grows_more}
-use Rattle.py_safety.proofs.Pieces.{SafeAt, Always, AllSafe, goes_safe, fails_safe, passes_safe, pick_safe, steady, behind, flows_safe, in_order_safe}
-use Rattle.py_safety.proofs.Values.{nothing_known, module_known, module_in}
-use Rattle.py_safety.proofs.Names.{value_answered, value_or_safe, path_shown, replaces_safe, stores_safe, member_safe}
+use Rattle.py_safety.proofs.Given.{has_number, value_answered, module_in}
+use Rattle.py_safety.proofs.Pieces.{SafeAt, Always, AllSafe, goes_safe, fails_safe, passes_safe, pick_safe, steady, behind, flows_safe, in_order_safe, reads_var_safe}
+use Rattle.py_safety.proofs.Values.{nothing_known, module_known}
+use Rattle.py_safety.proofs.Names.{value_or_safe, path_shown, replaces_safe, stores_safe, member_safe}
 use Rattle.py_safety.proofs.Expressions.{SafeAround}
 
 -- safe where the module exists
@@ -61,9 +62,6 @@ with_module_safe go safe s v known = at (out-Value v) refl
     at (Value-F.Module m) is = safe m s (module_in s v known.0 m is)
     at layer is = fails_safe fault.NotInProfile s
 
-has_number : (s : Shown) (m : ModRef) → Has s.modules m → HasMid s m.mid
-has_number s m has = inr (m, has, refl)
-
 -- ---- a name of a module
 
 entry_safe : (s : Shown) (n : List ℕ) (m : ModRef) (x : List ℕ) (init : Bool) (reply : Reply) → SafeAt (shown_more s (e.TabGet n, reply)) (submodule_entry m x init reply)
@@ -84,21 +82,24 @@ looks_up_safe m x init s =
 
 module _ (around : Around) (safe_around : SafeAround around) where
   taken_safe : (s : Shown) (is_bound : Bool) (m : ModRef) (x : List ℕ) → (bytes_eq x (codes "__path__") ≡ true → Has s.namespaces m.mid) → SafeAt s (namespace_taken around is_bound m x)
-  taken_safe s true m x shown = replaces_safe around.replaced safe_around.replaced s m x shown
+  taken_safe s true m x shown = replaces_safe around.access safe_around.access s m.mid m.name x shown
   taken_safe s false m x shown = fails_safe fault.NotInProfile s
 
-  name_read_safe : (s : Shown) (is_bound : Bool) (m : ModRef) (x : List ℕ) (reply : Reply) → SafeAt (shown_more s (e.GetVar m.mid x false, reply)) (name_read around is_bound m x reply)
-  name_read_safe s is_bound m x (r.Value v) =
-      let event : Event = e.GetVar m.mid x false in
+  name_read_safe : (is_bound : Bool) (m : ModRef) (x : List ℕ) (s : Shown) (raw : Bool) (reply : Reply) → SafeAt (shown_more s (e.GetVar m.mid x raw, reply)) (name_read around is_bound m x reply)
+  name_read_safe is_bound m x s raw (r.Value v) =
+      let event : Event = e.GetVar m.mid x raw in
       let next : Shown = shown_more s (event, r.Value v) in
-      value_or_safe next v (namespace_taken around is_bound m x) (value_answered s event v) (λ is. taken_safe next is_bound m x (path_shown s m.mid x false v is))
-  name_read_safe s is_bound m x (r.Unset init) = looks_up_safe m x init (shown_more s (e.GetVar m.mid x false, r.Unset init))
-  name_read_safe s is_bound m x r.Sleeping = fails_safe fault.NotBuilt (shown_more s (e.GetVar m.mid x false, r.Sleeping))
-  name_read_safe s is_bound m x reply = fails_safe fault.NotInProfile (shown_more s (e.GetVar m.mid x false, reply))
+      value_or_safe next v (namespace_taken around is_bound m x) (value_answered s event v) (λ is. taken_safe next is_bound m x (path_shown s m.mid x raw v is))
+  name_read_safe is_bound m x s raw (r.Unset init) = looks_up_safe m x init (shown_more s (e.GetVar m.mid x raw, r.Unset init))
+  name_read_safe is_bound m x s raw reply = fails_safe fault.NotInProfile (shown_more s (e.GetVar m.mid x raw, reply))
+
+  -- a variable of a module, which is roused first where it is lazy
+  accessed_safe : (m : ModRef) (x : List ℕ) (go : Reply → Piece) → ((s : Shown) → Has s.modules m → (raw : Bool) (reply : Reply) → SafeAt (shown_more s (e.GetVar m.mid x raw, reply)) (go reply))
+      → Having m (λ st k. calls (e.GetVar m.mid x false) (λ reply. accessed false around.access.roused m (e.GetVar m.mid x true) go reply st k))
+  accessed_safe m x go each s has = reads_var_safe around.access.roused safe_around.access.roused m x go each s has
 
   name_of_safe : (is_bound : Bool) (m : ModRef) (x : List ℕ) → Having m (name_of around is_bound m x)
-  name_of_safe is_bound m x s has = λ run.
-      steady s (e.GetVar m.mid x false) (λ reply. name_read around is_bound m x reply) (run, has_number s m has) (λ reply. refl) (λ reply. run) (name_read_safe s is_bound m x) run
+  name_of_safe is_bound m x = accessed_safe m x (name_read around is_bound m x) (λ s has raw reply. name_read_safe is_bound m x s raw reply)
 
   -- ---- `import`
 
@@ -161,13 +162,10 @@ module _ (around : Around) (safe_around : SafeAround around) where
   submodule_read_safe : (m : ModRef) (x : List ℕ) (reply : Reply) → Always (submodule_read around m x reply)
   submodule_read_safe m x (r.Value v) s = passes_safe s
   submodule_read_safe m x (r.Unset init) s = tries_safe (joined m.name x) s
-  submodule_read_safe m x r.Sleeping s = fails_safe fault.NotBuilt s
   submodule_read_safe m x reply s = fails_safe fault.NotInProfile s
 
   submodule_safe : (m : ModRef) (x : List ℕ) → Having m (submodule around m x)
-  submodule_safe m x s has = λ run.
-      let event : Event = e.GetVar m.mid x false in
-      steady s event (λ reply. submodule_read around m x reply) (run, has_number s m has) (λ reply. refl) (λ reply. run) (λ reply. submodule_read_safe m x reply (shown_more s (event, reply))) run
+  submodule_safe m x = accessed_safe m x (submodule_read around m x) (λ s has raw reply. submodule_read_safe m x reply (shown_more s (e.GetVar m.mid x raw, reply)))
 
   all_submodules : (m : ModRef) (xs : List (List ℕ)) → AllHaving m (map (submodule around m) xs)
   all_submodules m [] = tt
@@ -176,14 +174,12 @@ module _ (around : Around) (safe_around : SafeAround around) where
   if_package_safe : (m : ModRef) (xs : List (List ℕ)) (reply : Reply) → Having m (if_package around m xs reply)
   if_package_safe m xs (r.Value v) s has = in_order_having m (map (submodule around m) xs) (all_submodules m xs) s has
   if_package_safe m xs (r.Unset init) s has = passes_safe s
-  if_package_safe m xs r.Sleeping s has = fails_safe fault.NotBuilt s
   if_package_safe m xs reply s has = fails_safe fault.NotInProfile s
 
   asks_submodules_safe : (m : ModRef) (xs : List (List ℕ)) → Having m (asks_submodules around m xs)
-  asks_submodules_safe m xs s has = λ run.
-      let event : Event = e.GetVar m.mid (codes "__path__") false in
-      steady s event (λ reply. if_package around m xs reply) (run, has_number s m has) (λ reply. refl) (λ reply. run)
-      (λ reply. if_package_safe m xs reply (shown_more s (event, reply)) ((grows_more s event reply).modules m has)) run
+  asks_submodules_safe m xs =
+      accessed_safe m (codes "__path__") (if_package around m xs)
+      (λ s has raw reply. if_package_safe m xs reply (shown_more s (e.GetVar m.mid (codes "__path__") raw, reply)) ((grows_more s (e.GetVar m.mid (codes "__path__") raw) reply).modules m has))
 
   -- ---- `from n import x, y as z`
 
@@ -205,7 +201,7 @@ module _ (around : Around) (safe_around : SafeAround around) where
 
   binds_star_safe : (m : ModRef) (x : List ℕ) → Having m (binds_star around m x)
   binds_star_safe m x s has =
-      behind s (member around.replaced (values.Module m) x) (λ v. stores x v) (member_safe around.replaced safe_around.replaced s (values.Module m) x (module_known s m has))
+      behind s (member around.access (values.Module m) x) (λ v. stores x v) (member_safe around.access safe_around.access s (values.Module m) x (module_known s m has))
       (λ s' g v known. stores_safe s' x v known)
 
   all_stars : (m : ModRef) (xs : List (List ℕ)) → AllHaving m (map (binds_star around m) xs)
@@ -234,14 +230,12 @@ module _ (around : Around) (safe_around : SafeAround around) where
   all_read_safe : (m : ModRef) (reply : Reply) → Having m (all_read around m reply)
   all_read_safe m (r.Value v) s has = stars_of_safe m (all_names (out-Value v)) s has
   all_read_safe m (r.Unset init) s has = names_safe m s has
-  all_read_safe m r.Sleeping s has = fails_safe fault.NotBuilt s
   all_read_safe m reply s has = fails_safe fault.NotInProfile s
 
   from_star_safe : OnModule (from_star around)
-  from_star_safe m s has = λ run.
-      let event : Event = e.GetVar m.mid (codes "__all__") false in
-      steady s event (λ reply. all_read around m reply) (run, has_number s m has) (λ reply. refl) (λ reply. run)
-      (λ reply. all_read_safe m reply (shown_more s (event, reply)) ((grows_more s event reply).modules m has)) run
+  from_star_safe m =
+      accessed_safe m (codes "__all__") (all_read around m)
+      (λ s has raw reply. all_read_safe m reply (shown_more s (e.GetVar m.mid (codes "__all__") raw, reply)) ((grows_more s (e.GetVar m.mid (codes "__all__") raw) reply).modules m has))
 
   -- ---- names, absolute and relative
 

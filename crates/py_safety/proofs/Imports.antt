@@ -1,9 +1,6 @@
--- The import of one name is safe: the lock is held from Take to Add or Release, and the load from Add to Finish.
-use Rattle.std.proofs.Common.{◌≡◌, inl, ℕ, zero, suc, Bool, true, false, if◌then◌else◌, nat_eq, List, [], ◌∷◌, Option, Some, None, refl, sym, subst, ◌∙◌}
-use Rattle.std.proofs.lemmas.Bool.{eq-eqb}
-use Rattle.std.specs.Cmp.Lexicographic.{pointwise}
+-- The import of one name is safe: the lock is held from Take to Add, AddLazy or Release, and the load from Add to Finish.
+use Rattle.std.proofs.Common.{◌≡◌, inl, ℕ, zero, suc, Bool, true, false, List, [], ◌∷◌, Option, Some, None, refl, sym, subst, ◌∙◌}
 use Rattle.base_types.specs.Path.{Path}
-use Rattle.py_value.specs.declared.value.ModRef.{ModRef}
 use Rattle.py_value.specs.declared.value.NsState.{NsState}
 use Rattle.py_value.specs.declared.value.Value.{Value, out-Value}
 use Rattle.py_value.specs.declared.value.Value.TheOpen.{Value-F}
@@ -20,97 +17,40 @@ use Rattle.machine_events.specs.declared.event.Reply.{Reply}
 use Rattle.machine_events.specs.declared.event.Reply.TheVariants as r
 use Rattle.machine_events.specs.declared.module.Slot.{Slot}
 use Rattle.machine_events.specs.declared.module.Slot.TheVariants as slots
-use Rattle.thread_knowledge.specs.Holdings.{Holding, Taken, Loading, without, becoming}
+use Rattle.thread_knowledge.specs.Holdings.{Taken, Loading}
 use Rattle.thread_knowledge.specs.Shown.{Shown, Running, shown_more, holds, does, answered}
-use Rattle.thread_knowledge.specs.Knowing.{Has, HasMid, KnowsItems, MayAdd}
+use Rattle.thread_knowledge.specs.Knowing.{Has, KnowsItems, MayAdd, MayBeLazy}
 use Rattle.path_finder.specs.Entries as entries
-use Rattle.path_finder.specs.Steps.{searches}
 use Rattle.path_finder.specs.declared.words.Found.{Found}
 use Rattle.path_finder.specs.declared.words.Found.TheVariants as found
-use Rattle.search_meaning.specs.Searches.{searches_in, IsNamed}
-use Rattle.meanings.specs.Runs.{Safe, MayMake}
+use Rattle.search_meaning.specs.Searches.{IsNamed}
+use Rattle.meanings.specs.Runs.{Safe}
 use Rattle.py_faults.specs.declared.fault.Fault.{Fault}
 use Rattle.py_faults.specs.declared.fault.Fault.TheVariants as fault
 use Rattle.py_state.specs.declared.flow.Flow.{Flow}
 use Rattle.py_state.specs.declared.flow.Flow.TheVariants.{Went, Left}
 use Rattle.py_state.specs.declared.thread.State.{State}
 use Rattle.py_meaning.specs.Pieces.{Piece, Onward, most, calls, fails, raise, after_reply}
-use Rattle.py_meaning.specs.Paths.{path_of}
-use Rattle.py_meaning.specs.Imports.{Inside, answers, met, halts, asked, taken, gives_back, gives_back_and, lost_parent, finished, finishes, added, adds, has_text, opens, reads_file, namespace_made, namespace_added, namespace_of, adds_namespace, loads, discovers, finds, on_search_path, on_path, on_parent_path, on_parent, on_entry, reads_path, has_lock, takes, after_parent, misses, asks}
+use Rattle.py_meaning.specs.Imports.{Inside, roused, path_of, answers, met, halts, asked, taken, gives_back, gives_back_and, lost_parent, finished, finishes, added, adds, added_lazy, adds_lazy, makes, has_text, opens, reads_file, namespace_made, namespace_added, namespace_of, adds_namespace, loads, discovers, finds, on_search_path, on_path, on_parent_path, on_parent, on_entry, reads_path, has_lock, takes, after_parent, misses, asks}
 use Rattle.py_safety.specs.Known.{Knows, KnowsFlow}
-use Rattle.py_safety.proofs.Growth.{Grows, Later, Fits, fits_refl, grows_then, later_then, grows_more, later_more, fits_more, items_grow, state_grows, leave_grows, flow_grows}
-use Rattle.py_safety.proofs.Pieces.{SafeOn, SafeAt, Always, on_later, goes_safe, fails_safe, passes_safe, pay_safe, calls_safe, behind}
-use Rattle.py_safety.proofs.Values.{nothing_known, module_known}
-use Rattle.py_safety.proofs.Searches.{search_safe}
-use Rattle.py_safety.proofs.Paths.{list_items, path_answered, path_of_safe}
-
-abbrev pub SafeBody : (ℕ → ℕ → List ℕ → Piece) → Type 0
-SafeBody body = (s : Shown) (mid load : ℕ) (text : List ℕ) → HasMid s mid → Has s.loads load → SafeAt s (body mid load text)
+use Rattle.py_safety.proofs.Growth.{Grows, Later, fits_refl, grows_more, later_more, items_grow, state_grows, flow_grows}
+use Rattle.py_safety.proofs.Given.{path_answered, list_items}
+use Rattle.py_safety.proofs.Pieces.{SafeOn, SafeAt, SafeModules, Always, on_later, fails_safe, passes_safe, pay_safe, calls_safe, behind}
+use Rattle.py_safety.proofs.Values.{nothing_known}
+use Rattle.py_safety.proofs.Paths.{paths_safe}
+use Rattle.py_safety.proofs.Within.{SafeBody, answers_safe, WithinAt, Within, released_first, loaded_first, loaded_named, lazy_named, holds_first, pick_within, steady_within, flows_within, searches_within, after, again_after}
+use Rattle.py_safety.proofs.Lazy.{good_finish, bad_finish, rouses_safe}
 
 -- the bodies of modules that exist and the imports of parents are safe
 pub record SafeInside (inside : Inside) : Type 0 where
   pub body : SafeBody inside.body
   pub parent : (n : List ℕ) → Always (inside.parent n)
 
-answers_safe : (s : Shown) (m : ModRef) → Has s.modules m → SafeAt s (answers m)
-answers_safe s m h = goes_safe s (Went (values.Module m)) (module_known s m h)
+pub roused_safe : (inside : Inside) → SafeInside inside → SafeModules (roused inside)
+roused_safe inside safe = rouses_safe inside.body safe.body most
 
--- ---- what is held
-
-same_name : (n : List ℕ) → pointwise nat_eq n n ≡ true
-same_name [] = refl
-same_name (b ∷ bs) = rw (eq-eqb b b refl) (same_name bs)
-
--- a lock that was taken is given back
-released_first : (n : List ℕ) (held : List Holding) → without (Taken n) (Taken n ∷ held) ≡ held
-released_first n held = rw (same_name n) refl
-
-loaded_first : (load : ℕ) (n : List ℕ) (held : List Holding) → becoming (Taken n) (Loading load) (Taken n ∷ held) ≡ Loading load ∷ held
-loaded_first load n held = rw (same_name n) refl
-
--- the same for a name that is equal
-loaded_named : (load : ℕ) (name n : List ℕ) (held : List Holding) → name ≡ n → becoming (Taken name) (Loading load) (Taken n ∷ held) ≡ Loading load ∷ held
-loaded_named load name n held is = subst (λ (x : List ℕ). becoming (Taken x) (Loading load) (Taken n ∷ held) ≡ Loading load ∷ held) (sym is) (loaded_first load n held)
-
-ended_first : (load : ℕ) (held : List Holding) → without (Loading load) (Loading load ∷ held) ≡ held
-ended_first load held = rw (eq-eqb load load refl) refl
-
-holds_first : (s s' : Shown) (held : Holding) → Later s s' (held ∷ s.held) → Has s'.held held
-holds_first s s' held f = subst (λ (all : List Holding). Has all held) (sym f.held_is) (inl refl)
-
--- ---- while one thing more is held
-
--- a piece is safe at s' where this is held besides what s holds, and its rest is safe where it is not
-abbrev WithinAt : Shown → Holding → Shown → Piece → Type 0
-WithinAt s held s' p = Later s s' (held ∷ s.held) → (st : State) → Knows s' st → (k : Onward) → SafeOn s k → Safe s' (p st k)
-
-abbrev Within : Shown → Holding → Piece → Type 0
-Within s held p = (s' : Shown) → WithinAt s held s' p
-
-pick_within : (s : Shown) (held : Holding) (s' : Shown) (b : Bool) (p q : Piece) → WithinAt s held s' p → WithinAt s held s' q → WithinAt s held s' (if b then p else q)
-pick_within s held s' true p q good bad = good
-pick_within s held s' false p q good bad = bad
-
--- an event that changes nothing of what is held
-steady_within : (s : Shown) (held : Holding) (s' : Shown) (event : Event) (p : Reply → Piece) → MayMake s' event → ((reply : Reply) → holds event reply (held ∷ s.held) ≡ held ∷ s.held)
-    → ((reply : Reply) → does event reply s'.doing ≡ Running) → ((reply : Reply) → WithinAt s held (shown_more s' (event, reply)) (p reply)) → WithinAt s held s' (λ st k. calls event (λ reply. p reply st k))
-steady_within s held s' event p may same runs each f st knows k safe =
-    calls_safe s' event (λ reply. p reply st k) f.runs may runs
-    (λ reply. let next : Shown = shown_more s' (event, reply) in
-    each reply (later_more s s' (held ∷ s.held) (held ∷ s.held) event reply f (same reply) (runs reply)) st (state_grows s' next (grows_more s' event reply) st knows) k safe)
-
--- a piece that is safe anywhere, and by how it ends what is safe while this is held
-flows_within : (s : Shown) (held : Holding) (s' : Shown) (p : Piece) (q : Flow → Piece) → SafeAt s' p
-    → ((later : Shown) → Grows s' later → (flow : Flow) → KnowsFlow later flow → WithinAt s held later (q flow)) → WithinAt s held s' (λ st k. p st (λ flow st'. q flow st' k))
-flows_within s held s' p q h each f st knows k safe =
-    h f.runs st knows (λ flow st'. q flow st' k) (λ later g flow known st' knows'. each later g.grows flow known (later_then s s' later (held ∷ s.held) f g) st' knows' k safe)
-
-searches_within : (s : Shown) (held : Holding) (s' : Shown) (n : List ℕ) (path : List Value) (q : Option Found → Piece)
-    → ((later : Shown) → Grows s' later → (answer : Option Found) → IsNamed n answer → WithinAt s held later (q answer))
-    → WithinAt s held s' (λ st k. searches_in (searches n path []) (λ answer. q answer st k))
-searches_within s held s' n path q each f st knows k safe =
-    search_safe s' n path (λ answer. q answer st k) f.runs
-    (λ later g answer named. each later g.grows answer named (later_then s s' later (held ∷ s.held) f g) st (state_grows s' later g.grows st knows) k safe)
+pub path_of_safe : (inside : Inside) → SafeInside inside → SafeModules (path_of inside)
+path_of_safe inside safe = paths_safe (roused inside) (roused_safe inside safe) most
 
 -- ---- the lock is given back
 
@@ -136,19 +76,9 @@ finished_safe again more n r.Lost s = fails_safe (fault.Lost n) s
 finished_safe again more n r.LostParent s = lost_parent_safe n (parent_of n) s
 finished_safe again more n reply s = fails_safe fault.NotInProfile s
 
-after_finish : (s s' : Shown) (load : ℕ) (good : Bool) (reply : Reply) → Later s s' (Loading load ∷ s.held) → Fits s (shown_more s' (e.Finish load good, reply))
-after_finish s s' load good reply f = later_more s s' (Loading load ∷ s.held) s.held (e.Finish load good) reply f (ended_first load s.held) f.runs
-
 finishes_safe : (s : Shown) (load : ℕ) (again : Piece) → Always again → (n : List ℕ) (s' : Shown) (flow : Flow) → KnowsFlow s' flow → WithinAt s (Loading load) s' (finishes load again n flow)
-finishes_safe s load again more n s' (Went v) known f st knows k safe =
-    calls_safe s' (e.Finish load true) (λ reply. finished again n reply st k) f.runs (f.runs, holds_first s s' (Loading load) f) (λ reply. f.runs)
-    (λ reply. let next : Shown = shown_more s' (e.Finish load true, reply) in
-    finished_safe again more n reply next f.runs st (state_grows s' next (grows_more s' (e.Finish load true) reply) st knows) k (on_later s next k (after_finish s s' load true reply f) safe))
-finishes_safe s load again more n s' (Left leave) known f st knows k safe =
-    calls_safe s' (e.Finish load false) (λ _. k (Left leave) st) f.runs (f.runs, holds_first s s' (Loading load) f) (λ reply. f.runs)
-    (λ reply. let next : Shown = shown_more s' (e.Finish load false, reply) in
-    let g : Grows s' next = grows_more s' (e.Finish load false) reply in
-    safe next (after_finish s s' load false reply f) (Left leave) (leave_grows s' next g leave known) st (state_grows s' next g st knows))
+finishes_safe s load again more n s' (Went v) known = good_finish s load s' (finished again n) (finished_safe again more n)
+finishes_safe s load again more n s' (Left leave) known = bad_finish s load s' leave known
 
 -- ---- the path
 
@@ -156,7 +86,7 @@ finishes_safe s load again more n s' (Left leave) known f st knows k safe =
 abbrev SafeGo : Shown → List ℕ → (List Value → Piece) → Type 0
 SafeGo s n go = (s' : Shown) (items : List Value) → KnowsItems s' items → WithinAt s (Taken n) s' (go items)
 
-module _ (s : Shown) (n : List ℕ) (go : List Value → Piece) (safe_go : SafeGo s n go) where
+module _ (inside : Inside) (safe_inside : SafeInside inside) (s : Shown) (n : List ℕ) (go : List Value → Piece) (safe_go : SafeGo s n go) where
   on_search_path_safe : (s' : Shown) (reply : Reply) → WithinAt s (Taken n) (shown_more s' (e.PathGet, reply)) (on_search_path go n reply)
   on_search_path_safe s' (r.Path items) = safe_go (shown_more s' (e.PathGet, r.Path items)) items (path_answered s' e.PathGet items)
   on_search_path_safe s' reply = gives_back_safe s n fault.NotInProfile (shown_more s' (e.PathGet, reply))
@@ -169,22 +99,22 @@ module _ (s : Shown) (n : List ℕ) (go : List Value → Piece) (safe_go : SafeG
       at layer is = gives_back_safe s n (fault.NotPackage n p) s'
   on_parent_path_safe s' p (Left leave) known = gives_back_and_safe s n s' (Left leave) known
 
-  on_entry_safe : (s' : Shown) (p : List ℕ) (reply : Reply) → WithinAt s (Taken n) (shown_more s' (e.TabGet p, reply)) (on_entry go n p reply)
+  on_entry_safe : (s' : Shown) (p : List ℕ) (reply : Reply) → WithinAt s (Taken n) (shown_more s' (e.TabGet p, reply)) (on_entry inside go n p reply)
   on_entry_safe s' p (r.Slot slot) = at slot
     where
-      at : (slot : Slot) → WithinAt s (Taken n) (shown_more s' (e.TabGet p, r.Slot slot)) (on_parent go n p slot)
+      at : (slot : Slot) → WithinAt s (Taken n) (shown_more s' (e.TabGet p, r.Slot slot)) (on_parent inside go n p slot)
       at slots.Absent = gives_back_safe s n (fault.Lost p) (shown_more s' (e.TabGet p, r.Slot slots.Absent))
       at slots.Halted = gives_back_safe s n (fault.NotPackage n p) (shown_more s' (e.TabGet p, r.Slot slots.Halted))
       at (slots.Module m) =
           let next : Shown = shown_more s' (e.TabGet p, r.Slot (slots.Module m)) in
-          flows_within s (Taken n) next (path_of m) (λ flow. on_parent_path go n p flow) (path_of_safe next m (inl refl)) (λ later g flow known. on_parent_path_safe later p flow known)
+          flows_within s (Taken n) next (path_of inside m) (λ flow. on_parent_path go n p flow) (path_of_safe inside safe_inside next m (inl refl)) (λ later g flow known. on_parent_path_safe later p flow known)
   on_entry_safe s' p reply = gives_back_safe s n fault.NotInProfile (shown_more s' (e.TabGet p, reply))
 
-  reads_path_safe : (parent : Option (List ℕ)) → Within s (Taken n) (reads_path go n parent)
+  reads_path_safe : (parent : Option (List ℕ)) → Within s (Taken n) (reads_path inside go n parent)
   reads_path_safe None s' f =
       steady_within s (Taken n) s' e.PathGet (λ reply. on_search_path go n reply) (f.runs, tt) (λ reply. refl) (λ reply. f.runs) (on_search_path_safe s') f
   reads_path_safe (Some p) s' f =
-      steady_within s (Taken n) s' (e.TabGet p) (λ reply. on_entry go n p reply) (f.runs, tt) (λ reply. refl) (λ reply. f.runs) (on_entry_safe s' p) f
+      steady_within s (Taken n) s' (e.TabGet p) (λ reply. on_entry inside go n p reply) (f.runs, tt) (λ reply. refl) (λ reply. f.runs) (on_entry_safe s' p) f
 
 module _ (inside : Inside) (safe_inside : SafeInside inside) (again : Piece) (more : Always again) (n : List ℕ) where
   -- ---- a module of a file
@@ -196,7 +126,7 @@ module _ (inside : Inside) (safe_inside : SafeInside inside) (again : Piece) (mo
         let event : Event = e.Add spec text in
         let next : Shown = shown_more s' (event, r.Load load mid) in
         let loading : Later s next (Loading load ∷ s.held) = later_more s s' (Taken n ∷ s.held) (Loading load ∷ s.held) event (r.Load load mid) f (loaded_named load spec.name n s.held named) f.runs in
-        flows_within s (Loading load) next (inside.body mid load text) (λ flow. finishes load again n flow) (safe_inside.body next mid load text (inl (inl refl)) (inl refl))
+        flows_within s (Loading load) next (inside.body mid load n text) (λ flow. finishes load again n flow) (safe_inside.body next mid load n text (inl (inl refl)) (inl refl))
         (λ later g flow known. finishes_safe s load again more n later flow known) loading st (state_grows s' next (grows_more s' event (r.Load load mid)) st knows) k safe
     added_safe text s' f st knows k safe reply =
         let event : Event = e.Add spec text in
@@ -211,28 +141,52 @@ module _ (inside : Inside) (safe_inside : SafeInside inside) (again : Piece) (mo
     adds_safe text may s' f st knows k safe =
         calls_safe s' (e.Add spec text) (λ reply. added inside again n text reply st k) f.runs (f.runs, (holds_named s' f, may)) (λ reply. f.runs) (added_safe text s' f st knows k safe)
 
-    abbrev AnyText : Type 0
-    AnyText = (text : List ℕ) → MayAdd spec.kind text
+    added_lazy_safe : (event : Event) (s' : Shown) (reply : Reply) → SafeAt (shown_more s' (event, reply)) (added_lazy n reply)
+    added_lazy_safe event s' (r.Module m) = answers_safe (shown_more s' (event, r.Module m)) m (inl refl)
+    added_lazy_safe event s' reply = fails_safe fault.NotInProfile (shown_more s' (event, reply))
 
-    has_text_safe : AnyText → (text : Option (List ℕ)) → Within s (Taken n) (has_text inside again n spec text)
+    adds_lazy_safe : (text : List ℕ) → MayBeLazy spec.kind → Within s (Taken n) (adds_lazy n spec text)
+    adds_lazy_safe text may s' f st knows k safe =
+        let event : Event = e.AddLazy spec text in
+        calls_safe s' event (λ reply. added_lazy n reply st k) f.runs (f.runs, (holds_named s' f, may)) (λ reply. f.runs)
+        (λ reply. let next : Shown = shown_more s' (event, reply) in
+        added_lazy_safe event s' reply f.runs st (state_grows s' next (grows_more s' event reply) st knows) k
+        (on_later s next k (later_more s s' (Taken n ∷ s.held) s.held event reply f (lazy_named spec.name n s.held named) f.runs) safe))
+
+    -- a module of any text may be made
+    record MayMakeAny : Type 0 where
+      now : (text : List ℕ) → MayAdd spec.kind text
+      later : MayBeLazy spec.kind
+
+    makes_safe : MayMakeAny → (text : List ℕ) → Within s (Taken n) (makes inside again n spec text)
+    makes_safe may text s' =
+        pick_within s (Taken n) s' inside.is_lazy (adds_lazy n spec text) (adds inside again n spec text) (adds_lazy_safe text may.later s') (adds_safe text (may.now text) s')
+
+    has_text_safe : MayMakeAny → (text : Option (List ℕ)) → Within s (Taken n) (has_text inside again n spec text)
     has_text_safe may None = gives_back_safe s n fault.TooLong
-    has_text_safe may (Some text) = adds_safe text (may text)
+    has_text_safe may (Some text) = makes_safe may text
 
     abbrev opened : Path → Stamp → Piece
     opened path at st k = opens path (gives_back n (fault.NotFound n) st k) (λ text. has_text inside again n spec text st k) at
 
-    opens_safe : AnyText → (path : Path) (at : Stamp) → Within s (Taken n) (opened path at)
+    opens_safe : MayMakeAny → (path : Path) (at : Stamp) → Within s (Taken n) (opened path at)
     opens_safe may path (stamps.File size) s' f st knows k safe = (f.runs, (f.runs, λ text. has_text_safe may text s' f st knows k safe))
     opens_safe may path (stamps.Dir time) s' f st knows k safe = gives_back_safe s n (fault.NotFound n) s' f st knows k safe
     opens_safe may path stamps.Absent s' f st knows k safe = gives_back_safe s n (fault.NotFound n) s' f st knows k safe
 
-    reads_file_safe : AnyText → (path : Option Path) → Within s (Taken n) (reads_file inside again n spec path)
+    reads_file_safe : MayMakeAny → (path : Option Path) → Within s (Taken n) (reads_file inside again n spec path)
     reads_file_safe may None = gives_back_safe s n (fault.NotFound n)
     reads_file_safe may (Some path) = λ s' f st knows k safe. (f.runs, λ at. opens_safe may path at s' f st knows k safe)
 
+    may_make : (kind : SpecKind) → spec.kind ≡ kind → ((text : List ℕ) → MayAdd kind text) → MayBeLazy kind → MayMakeAny
+    may_make kind is now later = record {
+      now = λ text. subst (λ (kind : SpecKind). MayAdd kind text) (sym is) (now text);
+      later = subst (λ (kind : SpecKind). MayBeLazy kind) (sym is) later;
+    }
+
     loads_safe : (kind : SpecKind) → spec.kind ≡ kind → Within s (Taken n) (loads inside again n spec kind)
-    loads_safe (kinds.Source file) is = reads_file_safe (λ text. subst (λ (kind : SpecKind). MayAdd kind text) (sym is) tt) (entries.path_of file)
-    loads_safe (kinds.Package file path) is = reads_file_safe (λ text. subst (λ (kind : SpecKind). MayAdd kind text) (sym is) tt) (entries.path_of file)
+    loads_safe (kinds.Source file) is = reads_file_safe (may_make (kinds.Source file) is (λ text. tt) tt) (entries.path_of file)
+    loads_safe (kinds.Package file path) is = reads_file_safe (may_make (kinds.Package file path) is (λ text. tt) tt) (entries.path_of file)
     loads_safe kind is = gives_back_safe s n fault.NotInProfile
 
   -- ---- a namespace
@@ -282,37 +236,23 @@ module _ (inside : Inside) (safe_inside : SafeInside inside) (again : Piece) (mo
       (λ later g answer named. discovers_safe s epoch path later (items_grow s' later g path known) answer named)
 
   has_lock_safe : (s : Shown) (epoch : ℕ) → Within s (Taken n) (has_lock inside again n epoch)
-  has_lock_safe s epoch = reads_path_safe s n (finds inside again n epoch) (finds_safe s epoch) (parent_of n)
+  has_lock_safe s epoch = reads_path_safe inside safe_inside s n (finds inside again n epoch) (finds_safe s epoch) (parent_of n)
 
   -- ---- looks into the cache
 
-  -- the lock that the thread waited for is free
-  woken : (s : Shown) (event : Event) (reply answer : Reply) → holds event reply s.held ≡ s.held → Fits s (shown_more (shown_more s (event, reply)) (e.Wake, answer))
-  woken s event reply answer same = record {
-    grows = grows_then s (shown_more s (event, reply)) (shown_more (shown_more s (event, reply)) (e.Wake, answer)) (grows_more s event reply) (grows_more (shown_more s (event, reply)) e.Wake answer);
-    held_is = same;
-    runs = refl;
-  }
-
-  again_woken : (s : Shown) (event : Event) (reply answer : Reply) → holds event reply s.held ≡ s.held → (st : State) → Knows s st → (k : Onward) → SafeOn s k → Safe (shown_more (shown_more s (event, reply)) (e.Wake, answer)) (again st k)
-  again_woken s event reply answer same st knows k safe =
-      let f : Fits s (shown_more (shown_more s (event, reply)) (e.Wake, answer)) = woken s event reply answer same in
-      more (shown_more (shown_more s (event, reply)) (e.Wake, answer)) refl st (state_grows s (shown_more (shown_more s (event, reply)) (e.Wake, answer)) f.grows st knows) k
-      (on_later s (shown_more (shown_more s (event, reply)) (e.Wake, answer)) k f safe)
-
   module _ (s : Shown) (run : s.doing ≡ Running) (st : State) (knows : Knows s st) (k : Onward) (safe : SafeOn s k) where
     -- a piece that is safe after one more pair
-    after : (event : Event) (reply : Reply) (p : Piece) → holds event reply s.held ≡ s.held → does event reply s.doing ≡ Running → SafeAt (shown_more s (event, reply)) p → Safe (shown_more s (event, reply)) (p st k)
-    after event reply p same runs h = h runs st (state_grows s (shown_more s (event, reply)) (grows_more s event reply) st knows) k (on_later s (shown_more s (event, reply)) k (fits_more s event reply run same runs) safe)
+    next_safe : (event : Event) (reply : Reply) (p : Piece) → holds event reply s.held ≡ s.held → does event reply s.doing ≡ Running → SafeAt (shown_more s (event, reply)) p → Safe (shown_more s (event, reply)) (p st k)
+    next_safe = after s run st knows k safe
 
     -- a look whose reply may be that the thread is to wait
     met_safe : (event : Event) (reply : Reply) → holds event reply s.held ≡ s.held → does event reply s.doing ≡ answered reply s.doing → Safe (shown_more s (event, reply)) (after_reply reply (met again n reply st k))
-    met_safe event (r.Module m) same runs = (runs ∙ run, after event (r.Module m) (answers m) same (runs ∙ run) (answers_safe (shown_more s (event, r.Module m)) m (inl refl)))
-    met_safe event (r.Cycle m) same runs = (runs ∙ run, after event (r.Cycle m) (answers m) same (runs ∙ run) (answers_safe (shown_more s (event, r.Cycle m)) m (inl refl)))
-    met_safe event r.Halted same runs = (runs ∙ run, after event r.Halted (fails (fault.Halted n)) same (runs ∙ run) (fails_safe (fault.Halted n) (shown_more s (event, r.Halted))))
-    met_safe event r.Deadlock same runs = (runs ∙ run, after event r.Deadlock (fails (fault.Deadlock n)) same (runs ∙ run) (fails_safe (fault.Deadlock n) (shown_more s (event, r.Deadlock))))
-    met_safe event (r.Wait l) same runs = (runs, λ answer. again_woken s event (r.Wait l) answer same st knows k safe)
-    met_safe event reply same runs = (runs ∙ run, after event reply (fails fault.NotInProfile) same (runs ∙ run) (fails_safe fault.NotInProfile (shown_more s (event, reply))))
+    met_safe event (r.Module m) same runs = (runs ∙ run, next_safe event (r.Module m) (answers m) same (runs ∙ run) (answers_safe (shown_more s (event, r.Module m)) m (inl refl)))
+    met_safe event (r.Cycle m) same runs = (runs ∙ run, next_safe event (r.Cycle m) (answers m) same (runs ∙ run) (answers_safe (shown_more s (event, r.Cycle m)) m (inl refl)))
+    met_safe event r.Halted same runs = (runs ∙ run, next_safe event r.Halted (fails (fault.Halted n)) same (runs ∙ run) (fails_safe (fault.Halted n) (shown_more s (event, r.Halted))))
+    met_safe event r.Deadlock same runs = (runs ∙ run, next_safe event r.Deadlock (fails (fault.Deadlock n)) same (runs ∙ run) (fails_safe (fault.Deadlock n) (shown_more s (event, r.Deadlock))))
+    met_safe event (r.Wait l) same runs = again_after s run st knows k safe event l again (λ later g. more later) same runs
+    met_safe event reply same runs = (runs ∙ run, next_safe event reply (fails fault.NotInProfile) same (runs ∙ run) (fails_safe fault.NotInProfile (shown_more s (event, reply))))
 
     taken_safe : (reply : Reply) → Safe (shown_more s (e.Take n, reply)) (after_reply reply (taken again (has_lock inside again n) n reply st k))
     taken_safe (r.Mine epoch) =
@@ -325,8 +265,8 @@ module _ (inside : Inside) (safe_inside : SafeInside inside) (again : Piece) (mo
     halts_safe false = fails_safe (fault.Halted n)
 
     asked_safe : (missing : Piece) → Always missing → (is_parent : Bool) (reply : Reply) → Safe (shown_more s (e.Ask n, reply)) (after_reply reply (asked again missing is_parent n reply st k))
-    asked_safe missing next is_parent r.Missing = (run, after (e.Ask n) r.Missing missing refl run (next (shown_more s (e.Ask n, r.Missing))))
-    asked_safe missing next is_parent r.Halted = (run, after (e.Ask n) r.Halted (halts is_parent n) refl run (halts_safe is_parent (shown_more s (e.Ask n, r.Halted))))
+    asked_safe missing next is_parent r.Missing = (run, next_safe (e.Ask n) r.Missing missing refl run (next (shown_more s (e.Ask n, r.Missing))))
+    asked_safe missing next is_parent r.Halted = (run, next_safe (e.Ask n) r.Halted (halts is_parent n) refl run (halts_safe is_parent (shown_more s (e.Ask n, r.Halted))))
     asked_safe missing next is_parent reply = met_safe (e.Ask n) reply refl refl
 
   takes_safe : Always (takes inside again n)

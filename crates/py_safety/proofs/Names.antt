@@ -1,5 +1,5 @@
 -- Names, attributes and items are safe.
-use Rattle.std.proofs.Common.{◌≡◌, inl, inr, ℕ, Bool, true, false, if◌then◌else◌, ◌&&◌, List, [], ◌∷◌, ◌++◌, codes, Option, Some, None, refl, sym, ◌∙◌, subst, cond}
+use Rattle.std.proofs.Common.{◌≡◌, inl, ℕ, Bool, true, false, if◌then◌else◌, ◌&&◌, List, codes, Option, Some, None, refl, sym, ◌∙◌, subst, cond}
 use Rattle.std.specs.FinMap as maps
 use Rattle.std.specs.FinMap.{FinMap, get-insert, get-remove}
 use Rattle.std.specs.Cmp.{IsTotalOrder}
@@ -7,7 +7,6 @@ use Rattle.std.proofs.lemmas.Cmp.{nat_list_cmp_total}
 use Rattle.std.specs.Ordering.{eq_by_cmp}
 use Rattle.std.specs.declared.cmp.Ordering.{Ordering}
 use Rattle.std.specs.Str.{bytes_eq}
-use Rattle.py_value.specs.Names.{type_of}
 use Rattle.py_value.specs.declared.kind.Kind.{Kind}
 use Rattle.py_value.specs.declared.kind.Native.{Native}
 use Rattle.py_value.specs.declared.value.ModRef.{ModRef}
@@ -19,33 +18,23 @@ use Rattle.machine_events.specs.declared.event.Event.{Event}
 use Rattle.machine_events.specs.declared.event.Event.TheVariants as e
 use Rattle.machine_events.specs.declared.event.Reply.{Reply}
 use Rattle.machine_events.specs.declared.event.Reply.TheVariants as r
-use Rattle.thread_knowledge.specs.Shown.{Shown, shown_more, is_namespace_path, modules_in, loads_in}
-use Rattle.thread_knowledge.specs.Knowing.{Has, HasAll, KnowsAll}
-use Rattle.meanings.specs.Runs.{Run, Safe}
+use Rattle.thread_knowledge.specs.Shown.{Shown, shown_more, is_namespace_path}
+use Rattle.thread_knowledge.specs.Knowing.{Has, KnowsAll}
 use Rattle.value_parts.proofs.Parts.{plain}
 use Rattle.py_faults.specs.declared.fault.Fault.TheVariants as fault
 use Rattle.py_state.specs.declared.flow.Flow.TheVariants.{Went}
 use Rattle.py_state.specs.declared.thread.FunctionScope.{FunctionScope}
+use Rattle.py_state.specs.declared.thread.Source.{Source}
 use Rattle.py_state.specs.declared.thread.State.{State}
 use Rattle.py_meaning.specs.Pieces.{Piece, fails, done}
 use Rattle.py_meaning.specs.Names as names
 use Rattle.py_safety.specs.Known.{KnowsValue, KnowsLocals, Knows}
-use Rattle.py_safety.proofs.Growth.{fits_refl, all_grows}
-use Rattle.py_safety.proofs.Pieces.{SafeAt, Always, goes_safe, fails_safe, passes_safe, pick_safe, steady}
-use Rattle.py_safety.proofs.Values.{nothing_known, module_in}
+use Rattle.py_safety.proofs.Growth.{fits_refl, value_grows}
+use Rattle.py_safety.proofs.Given.{has_number, value_answered, module_in}
+use Rattle.py_safety.proofs.Pieces.{SafeAt, SafeIn, SafeModules, Quiet, Always, safe_in, goes_safe, fails_safe, passes_safe, pick_safe, pick_run, steady, steady_in, accesses_safe, reads_var_safe}
+use Rattle.py_safety.proofs.Values.{nothing_known}
 
-pub pick_run : (s : Shown) (b : Bool) (p q : Run) → Safe s p → Safe s q → Safe s (if b then p else q)
-pick_run s true p q good bad = good
-pick_run s false p q good bad = bad
-
--- ---- what a reply shows of its value
-
-pub all_here : {X : Type 0} (xs ys : List X) → HasAll (xs ++ ys) xs
-all_here [] ys = tt
-all_here (x ∷ xs) ys = (inl refl, all_grows (xs ++ ys) (x ∷ (xs ++ ys)) xs (λ z h. inr h) (all_here xs ys))
-
-pub value_answered : (s : Shown) (event : Event) (v : Value) → KnowsAll (shown_more s (event, r.Value v)) v
-value_answered s event v = (all_here (modules_in v) s.modules, all_here (loads_in v) s.loads)
+-- ---- what a reply shows
 
 -- a value that is read, where another piece stands for the path of a namespace
 pub value_or_safe : (s : Shown) (v : Value) (p : Piece) → KnowsAll s v → (is_namespace_path v ≡ true → SafeAt s p) → SafeAt s (if is_namespace_path v then p else (λ st k. k (Went v) st))
@@ -54,9 +43,6 @@ value_or_safe s v p h path = at (is_namespace_path v) refl
     at : (b : Bool) → is_namespace_path v ≡ b → SafeAt s (if b then p else (λ st k. k (Went v) st))
     at true is = path is
     at false is = goes_safe s (Went v) (h, is)
-
-pub variable_safe : (s : Shown) (v : Value) → KnowsAll s v → SafeAt s (names.variable v)
-variable_safe s v h = value_or_safe s v (fails fault.NotBuilt) h (λ is. fails_safe fault.NotBuilt s)
 
 -- ---- maps
 
@@ -99,6 +85,26 @@ with_local_known s st x v knows known = in_function s st (names.set_in st.scope.
 pub without_local_known : (s : Shown) (st : State) (x : List ℕ) → Knows s st → Knows s (names.without_local st x)
 without_local_known s st x knows = in_function s st (names.unset_in st.scope.function x) knows (unset_known s st.scope.function x knows.locals)
 
+-- ---- accesses
+
+-- a `__path__` that was read as that of a namespace shows it
+pub path_shown : (s : Shown) (mid : ℕ) (x : List ℕ) (raw : Bool) (v : Value) → is_namespace_path v ≡ true → bytes_eq x (codes "__path__") ≡ true
+    → Has (shown_more s (e.GetVar mid x raw, r.Value v)).namespaces mid
+path_shown s mid x raw v is named = rw named (rw is (inl refl))
+
+-- the first uses of modules that exist are safe, and what comes in place of the path of a namespace is where it is shown that
+-- the module is one
+pub record SafeAccess (access : names.Access) : Type 0 where
+  pub roused : SafeModules access.roused
+  pub replaced : (s : Shown) (mid : ℕ) (n : List ℕ) → Has s.namespaces mid → SafeAt s (access.replaced mid n)
+
+pub replaces_safe : (access : names.Access) → SafeAccess access → (s : Shown) (mid : ℕ) (n x : List ℕ) → (bytes_eq x (codes "__path__") ≡ true → Has s.namespaces mid) → SafeAt s (names.replaces access mid n x)
+replaces_safe access safe s mid n x shown = at (bytes_eq x (codes "__path__")) refl
+  where
+    at : (b : Bool) → bytes_eq x (codes "__path__") ≡ b → SafeAt s (if b then access.replaced mid n else fails fault.NotInProfile)
+    at true named = safe.replaced s mid n (shown named)
+    at false named = fails_safe fault.NotInProfile s
+
 -- ---- reads
 
 built_in_safe : (s : Shown) (x : List ℕ) (native : Option Native) (kind : Option Kind) → SafeAt s (names.read_built_in (names.built_in_value native kind) x)
@@ -106,31 +112,49 @@ built_in_safe s x (Some native) kind = goes_safe s (Went (values.Native native))
 built_in_safe s x None (Some kind) = goes_safe s (Went (values.Kind kind)) ((plain s).kind kind, refl)
 built_in_safe s x None None = fails_safe (fault.NotDefined x) s
 
-read_global_safe : (s : Shown) (event : Event) (x : List ℕ) (reply : Reply) → SafeAt (shown_more s (event, reply)) (names.read_global reply x)
-read_global_safe s event x (r.Value v) = variable_safe (shown_more s (event, r.Value v)) v (value_answered s event v)
-read_global_safe s event x (r.Unset init) = built_in_safe (shown_more s (event, r.Unset init)) x (names.native_named x names.built_in_natives) (names.kind_named x names.built_in_kinds)
-read_global_safe s event x reply = fails_safe fault.NotInProfile (shown_more s (event, reply))
+module _ (access : names.Access) (safe_access : SafeAccess access) where
+  own_safe : (s : Shown) (st : State) (source : Option Source) (x : List ℕ) → (bytes_eq x (codes "__path__") ≡ true → Has s.namespaces st.scope.mid) → SafeIn s st (names.replaces_own access source x)
+  own_safe s st None x shown = safe_in s st (fails fault.NotInProfile) (fails_safe fault.NotInProfile s)
+  own_safe s st (Some source) x shown = λ run knows k safe. replaces_safe access safe_access s st.scope.mid source.name x shown run st knows k safe
 
-pub reads_global_safe : (x : List ℕ) → Always (names.reads_global x)
-reads_global_safe x s run st knows k safe =
-    let event : Event = e.GetVar st.scope.mid x true in
-    steady s event (λ reply. names.read_global reply x) (run, knows.mid) (λ reply. refl) (λ reply. run) (read_global_safe s event x) run st knows k safe
+  variable_safe : (s : Shown) (st : State) (x : List ℕ) (v : Value) → KnowsAll s v
+      → (is_namespace_path v ≡ true → bytes_eq x (codes "__path__") ≡ true → Has s.namespaces st.scope.mid) → SafeIn s st (names.variable access x v)
+  variable_safe s st x v known shown = at (is_namespace_path v) refl
+    where
+      at : (b : Bool) → is_namespace_path v ≡ b → SafeIn s st (λ st' k. if b then names.replaces_own access (maps.get st'.kept st'.scope.load) x st' k else k (Went v) st')
+      at true is = own_safe s st (maps.get st.kept st.scope.load) x (shown is)
+      at false is = safe_in s st (λ st' k. k (Went v) st') (goes_safe s (Went v) (known, is))
+
+  read_global_safe : (s : Shown) (st : State) (x : List ℕ) (reply : Reply) → SafeIn (shown_more s (e.GetVar st.scope.mid x true, reply)) st (names.read_global access reply x)
+  read_global_safe s st x (r.Value v) =
+      let event : Event = e.GetVar st.scope.mid x true in
+      variable_safe (shown_more s (event, r.Value v)) st x v (value_answered s event v) (path_shown s st.scope.mid x true v)
+  read_global_safe s st x (r.Unset init) =
+      let next : Shown = shown_more s (e.GetVar st.scope.mid x true, r.Unset init) in
+      safe_in next st (names.read_built_in (names.built_in x) x) (built_in_safe next x (names.native_named x names.built_in_natives) (names.kind_named x names.built_in_kinds))
+  read_global_safe s st x reply =
+      let next : Shown = shown_more s (e.GetVar st.scope.mid x true, reply) in
+      safe_in next st (fails fault.NotInProfile) (fails_safe fault.NotInProfile next)
+
+  reads_global_safe : (x : List ℕ) → Always (names.reads_global access x)
+  reads_global_safe x s run st knows k safe =
+      let event : Event = e.GetVar st.scope.mid x true in
+      steady_in s st event (λ reply. names.read_global access reply x) (run, knows.mid) (λ reply. refl) (λ reply. run) (read_global_safe s st x) run knows k safe
 
 reads_local_safe : (s : Shown) (x : List ℕ) (v : Option Value) → ((w : Value) → v ≡ Some w → KnowsValue s w) → SafeAt s (names.reads_local v x)
 reads_local_safe s x None each = fails_safe (fault.Unbound x) s
 reads_local_safe s x (Some v) each = goes_safe s (Went v) (each v refl)
 
-pub reads_safe : (x : List ℕ) → Always (names.reads x)
-reads_safe x s run st knows k safe =
-    pick_run s (names.is_local_name st x) (names.reads_local (names.local_value st x) x st k) (names.reads_global x st k)
+pub reads_safe : (access : names.Access) → SafeAccess access → (x : List ℕ) → Always (names.reads access x)
+reads_safe access safe_access x s run st knows k safe =
+    pick_run s (names.is_local_name st x) (names.reads_local (names.local_value st x) x st k) (names.reads_global access x st k)
     (reads_local_safe s x (names.local_value st x) (local_known s st.scope.function knows.locals x) run st knows k safe)
-    (reads_global_safe x s run st knows k safe)
+    (reads_global_safe access safe_access x s run st knows k safe)
 
 -- ---- writes and deletions
 
 stored_safe : (s : Shown) (reply : Reply) → SafeAt s (names.stored reply)
 stored_safe s r.Done = passes_safe s
-stored_safe s r.Sleeping = fails_safe fault.NotBuilt s
 stored_safe s reply = fails_safe fault.NotInProfile s
 
 stores_global_safe : (s : Shown) (x : List ℕ) (v : Value) → KnowsValue s v → SafeAt s (names.stores_global x v)
@@ -175,75 +199,61 @@ error_member_safe error x s =
     name_known None = nothing_known s
     name_known (Some n) = ((plain s).text n, refl)
 
--- what comes in place of the path of a namespace is safe where it is shown that the module is one
-abbrev pub SafeReplaced : names.Replaced → Type 0
-SafeReplaced path = (s : Shown) (m : ModRef) → Has s.namespaces m.mid → SafeAt s (path m)
+removed_safe : (s : Shown) (x : List ℕ) (reply : Reply) → SafeAt s (names.removed x reply)
+removed_safe s x r.Done = passes_safe s
+removed_safe s x (r.Unset init) = fails_safe (fault.NotDeleted x) s
+removed_safe s x reply = fails_safe fault.NotInProfile s
 
--- a `__path__` that was read as that of a namespace shows it
-pub path_shown : (s : Shown) (mid : ℕ) (x : List ℕ) (raw : Bool) (v : Value) → is_namespace_path v ≡ true → bytes_eq x (codes "__path__") ≡ true
-    → Has (shown_more s (e.GetVar mid x raw, r.Value v)).namespaces mid
-path_shown s mid x raw v is named = rw named (rw is (inl refl))
-
-pub replaces_safe : (path : names.Replaced) → SafeReplaced path → (s : Shown) (m : ModRef) (x : List ℕ) → (bytes_eq x (codes "__path__") ≡ true → Has s.namespaces m.mid) → SafeAt s (names.replaces path m x)
-replaces_safe path safe s m x shown = at (bytes_eq x (codes "__path__")) refl
-  where
-    at : (b : Bool) → bytes_eq x (codes "__path__") ≡ b → SafeAt s (if b then path m else fails fault.NotInProfile)
-    at true named = safe s m (shown named)
-    at false named = fails_safe fault.NotInProfile s
-
-module _ (path : names.Replaced) (safe_path : SafeReplaced path) where
-  member_read_safe : (s : Shown) (m : ModRef) (x : List ℕ) (reply : Reply) → SafeAt (shown_more s (e.GetVar m.mid x false, reply)) (names.member_read path reply m x)
-  member_read_safe s m x (r.Value v) =
-      let event : Event = e.GetVar m.mid x false in
+module _ (access : names.Access) (safe_access : SafeAccess access) where
+  member_read_safe : (m : ModRef) (x : List ℕ) (s : Shown) (raw : Bool) (reply : Reply) → SafeAt (shown_more s (e.GetVar m.mid x raw, reply)) (names.member_read access m x reply)
+  member_read_safe m x s raw (r.Value v) =
+      let event : Event = e.GetVar m.mid x raw in
       let next : Shown = shown_more s (event, r.Value v) in
-      value_or_safe next v (names.replaces path m x) (value_answered s event v) (λ is. replaces_safe path safe_path next m x (path_shown s m.mid x false v is))
-  member_read_safe s m x (r.Unset init) = fails_safe (fault.NoAttribute init m.name x) (shown_more s (e.GetVar m.mid x false, r.Unset init))
-  member_read_safe s m x r.Sleeping = fails_safe fault.NotBuilt (shown_more s (e.GetVar m.mid x false, r.Sleeping))
-  member_read_safe s m x reply = fails_safe fault.NotInProfile (shown_more s (e.GetVar m.mid x false, reply))
+      value_or_safe next v (names.replaces access m.mid m.name x) (value_answered s event v) (λ is. replaces_safe access safe_access next m.mid m.name x (path_shown s m.mid x raw v is))
+  member_read_safe m x s raw (r.Unset init) = fails_safe (fault.NoAttribute init m.name x) (shown_more s (e.GetVar m.mid x raw, r.Unset init))
+  member_read_safe m x s raw reply = fails_safe fault.NotInProfile (shown_more s (e.GetVar m.mid x raw, reply))
 
-  pub member_safe : (s : Shown) (v : Value) (x : List ℕ) → KnowsValue s v → SafeAt s (names.member path v x)
+  pub member_safe : (s : Shown) (v : Value) (x : List ℕ) → KnowsValue s v → SafeAt s (names.member access v x)
   member_safe s v x known = at (out-Value v) refl
     where
-      at : (layer : Value-F Value) → out-Value v ≡ layer → SafeAt s (names.member_at path layer x)
-      at (Value-F.Module m) is = λ run st knows k safe.
-          let event : Event = e.GetVar m.mid x false in
-          steady s event (λ reply. names.member_read path reply m x) (run, inr (m, module_in s v known.0 m is, refl)) (λ reply. refl) (λ reply. run) (member_read_safe s m x) run st knows k safe
+      at : (layer : Value-F Value) → out-Value v ≡ layer → SafeAt s (names.member_at access layer x)
+      at (Value-F.Module m) is =
+          reads_var_safe access.roused safe_access.roused m x (names.member_read access m x) (λ s' has raw reply. member_read_safe m x s' raw reply) s (module_in s v known.0 m is)
       at (Value-F.Error error) is = error_member_safe error x s
-      at Value-F.SysModules is = fails_safe fault.NotBuilt s
-      at Value-F.SysPath is = fails_safe fault.NotBuilt s
       at layer is = fails_safe fault.NotInProfile s
 
-pub sets_member_safe : (s : Shown) (object : Value) (x : List ℕ) (v : Value) → KnowsValue s object → KnowsValue s v → SafeAt s (names.sets_member object x v)
-sets_member_safe s object x v object_known known = at (out-Value object) refl
-  where
-    at : (layer : Value-F Value) → out-Value object ≡ layer → SafeAt s (names.sets_member_at layer x v)
-    at (Value-F.Module m) is = λ run st knows k safe.
-        let event : Event = e.SetVar m.mid x v false in
-        steady s event names.stored (run, (inr (m, module_in s object object_known.0 m is, refl), known.1, known.0)) (λ reply. refl) (λ reply. run)
-        (λ reply. stored_safe (shown_more s (event, reply)) reply) run st knows k safe
-    at layer is = fails_safe fault.NotInProfile s
+  setting : (m : ModRef) (x : List ℕ) (v : Value) → Quiet (λ raw. e.SetVar m.mid x v raw) (λ s. Has s.modules m × KnowsValue s v)
+  setting m x v = record {
+    stays = λ s s' g h. (g.modules m h.0, value_grows s s' g v h.1);
+    may = λ s h raw run. (run, (has_number s m h.0, h.1.1, h.1.0));
+    same = λ held raw reply. refl;
+    runs = λ s raw reply. refl;
+  }
 
-member_deleted_safe : (s : Shown) (x : List ℕ) (reply : Reply) → SafeAt s (names.member_deleted reply x)
-member_deleted_safe s x r.Done = passes_safe s
-member_deleted_safe s x (r.Unset init) = fails_safe (fault.NotDeleted x) s
-member_deleted_safe s x r.Sleeping = fails_safe fault.NotBuilt s
-member_deleted_safe s x reply = fails_safe fault.NotInProfile s
+  pub sets_member_safe : (s : Shown) (object : Value) (x : List ℕ) (v : Value) → KnowsValue s object → KnowsValue s v → SafeAt s (names.sets_member access object x v)
+  sets_member_safe s object x v object_known known = at (out-Value object) refl
+    where
+      at : (layer : Value-F Value) → out-Value object ≡ layer → SafeAt s (names.sets_member_at access layer x v)
+      at (Value-F.Module m) is =
+          let has : Has s.modules m = module_in s object object_known.0 m is in
+          accesses_safe access.roused safe_access.roused m (λ raw. e.SetVar m.mid x v raw) (λ s'. Has s'.modules m × KnowsValue s' v) (setting m x v) names.stored
+          (λ s' has' p raw reply. stored_safe (shown_more s' (e.SetVar m.mid x v raw, reply)) reply) s has (has, known)
+      at layer is = fails_safe fault.NotInProfile s
 
-pub deletes_member_safe : (s : Shown) (object : Value) (x : List ℕ) → KnowsValue s object → SafeAt s (names.deletes_member object x)
-deletes_member_safe s object x known = at (out-Value object) refl
-  where
-    at : (layer : Value-F Value) → out-Value object ≡ layer → SafeAt s (names.deletes_member_at layer x)
-    at (Value-F.Module m) is = λ run st knows k safe.
-        let event : Event = e.DelVar m.mid x false in
-        steady s event (λ reply. names.member_deleted reply x) (run, inr (m, module_in s object known.0 m is, refl)) (λ reply. refl) (λ reply. run)
-        (λ reply. member_deleted_safe (shown_more s (event, reply)) x reply) run st knows k safe
-    at layer is = fails_safe fault.NotInProfile s
+  deleting : (m : ModRef) (x : List ℕ) → Quiet (λ raw. e.DelVar m.mid x raw) (λ s. Has s.modules m)
+  deleting m x = record {
+    stays = λ s s' g h. g.modules m h;
+    may = λ s h raw run. (run, has_number s m h);
+    same = λ held raw reply. refl;
+    runs = λ s raw reply. refl;
+  }
 
-pub changes_item_safe : (object : Value) → Always (names.changes_item object)
-changes_item_safe object s = at (out-Value object)
-  where
-    at : (layer : Value-F Value) → SafeAt s (names.changes_item_at layer object)
-    at (Value-F.List items) = fails_safe fault.NotInProfile s
-    at Value-F.SysModules = fails_safe fault.NotBuilt s
-    at Value-F.SysPath = fails_safe fault.NotBuilt s
-    at layer = fails_safe (fault.NoItemAssignment (type_of object)) s
+  pub deletes_member_safe : (s : Shown) (object : Value) (x : List ℕ) → KnowsValue s object → SafeAt s (names.deletes_member access object x)
+  deletes_member_safe s object x known = at (out-Value object) refl
+    where
+      at : (layer : Value-F Value) → out-Value object ≡ layer → SafeAt s (names.deletes_member_at access layer x)
+      at (Value-F.Module m) is =
+          let has : Has s.modules m = module_in s object known.0 m is in
+          accesses_safe access.roused safe_access.roused m (λ raw. e.DelVar m.mid x raw) (λ s'. Has s'.modules m) (deleting m x) (names.removed x)
+          (λ s' has' p raw reply. removed_safe (shown_more s' (e.DelVar m.mid x raw, reply)) x reply) s has has
+      at layer is = fails_safe fault.NotInProfile s

@@ -1,5 +1,5 @@
 -- The paths of modules are safe: their reads, and the search of a namespace's portions.
-use Rattle.std.proofs.Common.{◌≡◌, inl, inr, ℕ, zero, suc, true, false, List, [], ◌∷◌, codes, flat_map, Option, Some, None, refl, sym, ap, ◌∙◌, subst}
+use Rattle.std.proofs.Common.{◌≡◌, inl, ℕ, zero, suc, Bool, true, List, [], ◌∷◌, codes, Option, Some, None, refl, sym, ap, ◌∙◌}
 use Rattle.py_value.specs.declared.value.ModRef.{ModRef}
 use Rattle.py_value.specs.declared.value.NsState.{NsState}
 use Rattle.py_value.specs.declared.value.Value.{Value, out-Value, roll-Value, roll-out-Value}
@@ -14,39 +14,27 @@ use Rattle.machine_events.specs.declared.event.Reply.{Reply}
 use Rattle.machine_events.specs.declared.event.Reply.TheVariants as r
 use Rattle.machine_events.specs.declared.module.Slot.{Slot}
 use Rattle.machine_events.specs.declared.module.Slot.TheVariants as slots
-use Rattle.thread_knowledge.specs.Shown.{Shown, shown_more, modules_in, loads_in, is_namespace_path}
+use Rattle.thread_knowledge.specs.Shown.{Shown, shown_more, is_namespace_path}
 use Rattle.thread_knowledge.specs.Knowing.{Has, KnowsAll, KnowsItems}
 use Rattle.namespace_path.specs.Recompute.{recomputed}
 use Rattle.namespace_path.specs.Fresh.{is_fresh}
-use Rattle.value_parts.proofs.Parts.{KnowsLayer, plain, displays, known_open, each_known}
+use Rattle.value_parts.proofs.Parts.{plain, displays}
 use Rattle.py_faults.specs.declared.fault.Fault.TheVariants as fault
 use Rattle.py_state.specs.declared.flow.Flow.TheVariants.{Went}
 use Rattle.py_meaning.specs.Pieces.{Piece, most, fails}
-use Rattle.py_meaning.specs.Paths.{has_path, texts_of, has_portions, keeps_state, computes_again, below, below_at, below_value, below_top, below_slot, below_entry, below_parent, has_state, namespace_path, path_at, path_read, paths, path_of, replaced}
+use Rattle.py_meaning.specs.Paths.{Space, has_path, texts_of, has_portions, keeps_state, computes_again, below, below_at, below_value, below_top, below_slot, below_entry, below_parent, has_state, namespace_path, path_at, path_read, paths, replaced}
 use Rattle.py_safety.proofs.Growth.{items_grow, state_grows}
-use Rattle.py_safety.proofs.Pieces.{SafeAt, Always, Each, on_later, goes_safe, fails_safe, pick_safe, pay_safe, steady, behind}
-use Rattle.py_safety.proofs.Values.{nothing_known, items_known}
-use Rattle.py_safety.proofs.Names.{SafeReplaced, all_here, value_answered, path_shown}
+use Rattle.py_safety.proofs.Given.{value_answered, path_answered, list_items, tuple_items}
+use Rattle.py_safety.proofs.Pieces.{SafeAt, SafeModules, Always, Each, on_later, goes_safe, fails_safe, pick_safe, pay_safe, steady, behind, reads_var_safe}
+use Rattle.py_safety.proofs.Values.{items_known}
+use Rattle.py_safety.proofs.Names.{path_shown}
 use Rattle.py_safety.proofs.Searches.{search_safe}
 
--- ---- what is known of entries
-
--- the items of a list and of a tuple
-pub list_items : (s : Shown) (v : Value) → KnowsAll s v → (items : List Value) → out-Value v ≡ Value-F.List items → KnowsItems s items
-list_items s v h items is = each_known s items (subst (KnowsLayer s) is (known_open s v h))
-
-pub tuple_items : (s : Shown) (v : Value) → KnowsAll s v → (items : List Value) → out-Value v ≡ Value-F.Tuple items → KnowsItems s items
-tuple_items s v h items is = each_known s items (subst (KnowsLayer s) is (known_open s v h))
-
--- the entries that a reply gave
-pub path_answered : (s : Shown) (event : Event) (items : List Value) → KnowsItems (shown_more s (event, r.Path items)) items
-path_answered s event items = (all_here (flat_map modules_in items) s.modules, all_here (flat_map loads_in items) s.loads)
+-- ---- a path
 
 texts_known : (s : Shown) (texts : List (List ℕ)) → Each s (texts_of texts)
 texts_known s [] = tt
 texts_known s (text ∷ texts) = (((plain s).text text, refl), texts_known s texts)
-
--- ---- a path
 
 has_path_safe : (s : Shown) (items : List Value) → KnowsItems s items → SafeAt s (has_path items)
 has_path_safe s items h = goes_safe s (Went (values.List items)) ((displays s items h).list, refl)
@@ -56,7 +44,7 @@ portions_safe state s = has_path_safe s (texts_of state.portions) (items_known s
 
 -- ---- the path of a namespace
 
-module _ (m : ModRef) where
+module _ (m : Space) where
   keeps_state_safe : (s : Shown) (state : NsState) → Has s.namespaces m.mid → KnowsItems s state.parent_path → SafeAt s (keeps_state m state)
   keeps_state_safe s state has known = λ run.
       steady s (e.NsSet m.mid state) (λ _. has_portions state) (run, (has, known)) (λ reply. refl) (λ reply. run)
@@ -83,11 +71,7 @@ module _ (m : ModRef) where
   below_top_safe s state epoch (r.Path items) has = below_safe (shown_more s (e.PathGet, r.Path items)) state epoch items has (path_answered s e.PathGet items)
   below_top_safe s state epoch reply has = fails_safe fault.NotInProfile (shown_more s (e.PathGet, reply))
 
--- the path of each module that exists is safe
-abbrev pub SafePath : (ModRef → Piece) → Type 0
-SafePath path = (s : Shown) (m : ModRef) → Has s.modules m → SafeAt s (path m)
-
-module _ (path : ModRef → Piece) (safe_path : SafePath path) (m : ModRef) where
+module _ (path : ModRef → Piece) (safe_path : SafeModules path) (m : Space) where
   below_entry_safe : (s : Shown) (p : List ℕ) (state : NsState) (epoch : ℕ) (reply : Reply) → Has s.namespaces m.mid → SafeAt (shown_more s (e.TabGet p, reply)) (below_entry path m state epoch reply)
   below_entry_safe s p state epoch (r.Slot slot) has = at slot
     where
@@ -114,16 +98,17 @@ module _ (path : ModRef → Piece) (safe_path : SafePath path) (m : ModRef) wher
   namespace_safe s has = λ run.
       steady s (e.NsGet m.mid) (λ reply. has_state path m reply) (run, has) (λ reply. refl) (λ reply. run) (λ reply. has_state_safe (shown_more s (e.NsGet m.mid, reply)) reply has) run
 
-  -- ---- the path of any module
+-- ---- the path of any module
 
-  is_path : (v : Value) → out-Value v ≡ Value-F.NsPath → is_namespace_path v ≡ true
-  is_path v is = let it : v ≡ values.NsPath = sym (roll-out-Value v) ∙ ap roll-Value is ∙ rolls-NsPath in ap is_namespace_path it
+is_path : (v : Value) → out-Value v ≡ Value-F.NsPath → is_namespace_path v ≡ true
+is_path v is = let it : v ≡ values.NsPath = sym (roll-out-Value v) ∙ ap roll-Value is ∙ rolls-NsPath in ap is_namespace_path it
 
-  path_read_safe : (s : Shown) (reply : Reply) → SafeAt (shown_more s (e.GetVar m.mid (codes "__path__") false, reply)) (path_read path m reply)
-  path_read_safe s (r.Value v) = at (out-Value v) refl
+module _ (path : ModRef → Piece) (safe_path : SafeModules path) (m : ModRef) where
+  path_read_safe : (s : Shown) (raw : Bool) (reply : Reply) → SafeAt (shown_more s (e.GetVar m.mid (codes "__path__") raw, reply)) (path_read path m reply)
+  path_read_safe s raw (r.Value v) = at (out-Value v) refl
     where
       event : Event
-      event = e.GetVar m.mid (codes "__path__") false
+      event = e.GetVar m.mid (codes "__path__") raw
 
       next : Shown
       next = shown_more s (event, r.Value v)
@@ -131,20 +116,19 @@ module _ (path : ModRef → Piece) (safe_path : SafePath path) (m : ModRef) wher
       at : (layer : Value-F Value) → out-Value v ≡ layer → SafeAt next (path_at path m layer)
       at (Value-F.List items) is = has_path_safe next items (list_items next v (value_answered s event v) items is)
       at (Value-F.Tuple items) is = has_path_safe next items (tuple_items next v (value_answered s event v) items is)
-      at Value-F.NsPath is = namespace_safe next (path_shown s m.mid (codes "__path__") false v (is_path v is) refl)
+      at Value-F.NsPath is = namespace_safe path safe_path (record { mid = m.mid; name = m.name }) next (path_shown s m.mid (codes "__path__") raw v (is_path v is) refl)
       at layer is = fails_safe fault.NotInProfile next
-  path_read_safe s (r.Unset init) = let next : Shown = shown_more s (e.GetVar m.mid (codes "__path__") false, r.Unset init) in goes_safe next (Went values.Nothing) (nothing_known next)
-  path_read_safe s r.Sleeping = fails_safe fault.NotBuilt (shown_more s (e.GetVar m.mid (codes "__path__") false, r.Sleeping))
-  path_read_safe s reply = fails_safe fault.NotInProfile (shown_more s (e.GetVar m.mid (codes "__path__") false, reply))
+  path_read_safe s raw (r.Unset init) =
+      let next : Shown = shown_more s (e.GetVar m.mid (codes "__path__") raw, r.Unset init) in
+      goes_safe next (Went (values.Bool init)) ((plain next).bool init, refl)
+  path_read_safe s raw reply = fails_safe fault.NotInProfile (shown_more s (e.GetVar m.mid (codes "__path__") raw, reply))
 
-paths_safe : (turns : ℕ) → SafePath (paths turns)
-paths_safe zero s m has = pay_safe s most (fails fault.NotInProfile) (fails_safe fault.NotInProfile s)
-paths_safe (suc turns) s m has = λ run.
-    steady s (e.GetVar m.mid (codes "__path__") false) (λ reply. path_read (paths turns) m reply) (run, inr (m, has, refl)) (λ reply. refl) (λ reply. run)
-    (path_read_safe (paths turns) (paths_safe turns) m s) run
+module _ (roused : ModRef → Piece) (safe_roused : SafeModules roused) where
+  pub paths_safe : (turns : ℕ) → SafeModules (paths roused turns)
+  paths_safe zero s m has = pay_safe s most (fails fault.NotInProfile) (fails_safe fault.NotInProfile s)
+  paths_safe (suc turns) s m has =
+      let path : ModRef → Piece = paths roused turns in
+      reads_var_safe roused safe_roused m (codes "__path__") (path_read path m) (λ s' has' raw reply. path_read_safe path (paths_safe turns) m s' raw reply) s has
 
-pub path_of_safe : SafePath path_of
-path_of_safe = paths_safe most
-
-pub replaced_safe : SafeReplaced replaced
-replaced_safe s m has = namespace_safe (paths most) (paths_safe most) m s has
+  pub replaced_safe : (s : Shown) (mid : ℕ) (n : List ℕ) → Has s.namespaces mid → SafeAt s (replaced roused mid n)
+  replaced_safe s mid n has = namespace_safe (paths roused most) (paths_safe most) (record { mid = mid; name = n }) s has

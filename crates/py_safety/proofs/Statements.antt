@@ -64,8 +64,8 @@ module _ (around : Around) (safe_around : SafeAround around) where
   evals_safe [] = tt
   evals_safe (e ∷ es) = (eval_safe around safe_around e, evals_safe es)
 
-  simple_safe : (d : Stmt-F Piece BranchPiece DefPiece HandlerPiece) → Always (gathers (map (eval around) (stmt_operands_at d)) [] (performs_at d))
-  simple_safe d s = gathers_safe (map (eval around) (stmt_operands_at d)) (evals_safe (stmt_operands_at d)) (performs_at d) (performs_safe d) s [] tt
+  simple_safe : (d : Stmt-F Piece BranchPiece DefPiece HandlerPiece) → Always (gathers (map (eval around) (stmt_operands_at d)) [] (performs_at around.access d))
+  simple_safe d s = gathers_safe (map (eval around) (stmt_operands_at d)) (evals_safe (stmt_operands_at d)) (performs_at around.access d) (performs_safe around.access safe_around.access d) s [] tt
 
   paid_safe : (y : Told) → Always (paid_at around (pieces (forms y)))
   paid_safe (Stmt-F.Import items) = imports_all_safe around safe_around items

@@ -13,13 +13,13 @@ use Rattle.py_state.specs.declared.flow.Leave.TheVariants.{Raised, Return, Break
 use Rattle.py_state.specs.declared.flow.Flow.{Flow}
 use Rattle.py_state.specs.declared.flow.Flow.TheVariants.{Went, Left}
 use Rattle.py_state.specs.declared.thread.State.{State}
-use Rattle.py_meaning.specs.Pieces.{Piece, Onward, calls, built, in_order}
+use Rattle.py_meaning.specs.Pieces.{Piece, Onward, calls, in_order, listed}
 use Rattle.py_meaning.specs.Names.{is_local_name, without_local, stores}
 use Rattle.py_meaning.specs.Statements.{leaves, HandlerPiece, handling, handled, unbinds_name, unbinds, handles, binds_error, chosen, tries_handler, catches, catches_kind, tried, tries, enters, exits, after, resumes, finishes, guards, takes}
 use Rattle.py_safety.specs.Known.{Knows, KnowsFlow}
 use Rattle.py_safety.proofs.Growth.{fits_refl, grows_more, flow_grows}
-use Rattle.py_safety.proofs.Pieces.{SafeOn, SafeAt, Always, AllSafe, on_later, goes_safe, fails_safe, steady, behind, in_order_safe, built_safe}
-use Rattle.py_safety.proofs.Names.{pick_run, without_local_known, stores_safe}
+use Rattle.py_safety.proofs.Pieces.{SafeOn, SafeAt, Always, AllSafe, on_later, goes_safe, fails_safe, steady, pick_run, behind, in_order_safe, listed_safe}
+use Rattle.py_safety.proofs.Names.{without_local_known, stores_safe}
 
 handling_known : (s : Shown) (error : Error) (st : State) → Knows s st → Knows s (handling error st)
 handling_known s error st knows = record { mid = knows.mid; load = knows.load; locals = knows.locals; kept = knows.kept }
@@ -67,8 +67,8 @@ chosen_safe h safe_h error others safe (Some false) s = safe s
 tries_handler_safe : (h : HandlerPiece) → SafeHandler h → (error : Error) (others : Piece) → Always others → (kinds : Option Piece) → SomeSafe kinds → Always (tries_handler h error others kinds)
 tries_handler_safe h safe_h error others safe None kinds_safe s = binds_error_safe h safe_h error h.bound s
 tries_handler_safe h safe_h error others safe (Some kinds) kinds_safe s =
-    behind s kinds (λ v. built (v ∷ []) (chosen h error others (takes error.kind v))) (kinds_safe s)
-    (λ s' g v known. built_safe s' (v ∷ []) (chosen h error others (takes error.kind v)) (chosen_safe h safe_h error others safe (takes error.kind v) s'))
+    behind s kinds (λ v. listed v (λ u. chosen h error others (takes error.kind u))) (kinds_safe s)
+    (λ s' g v known. listed_safe s' v known (λ u. chosen h error others (takes error.kind u)) (λ later g' u known'. chosen_safe h safe_h error others safe (takes error.kind u) later))
 
 abbrev pub AllHandlers : List HandlerPiece → Type 0
 AllHandlers [] = Unit {0}

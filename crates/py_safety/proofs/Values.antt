@@ -50,10 +50,6 @@ tuple_known s vs h =
 pub module_known : (s : Shown) (m : ModRef) → Has s.modules m → KnowsValue s (values.Module m)
 module_known s m h = ((plain s).module_of m h, refl)
 
--- the module that a value is
-pub module_in : (s : Shown) (v : Value) → KnowsAll s v → (m : ModRef) → out-Value v ≡ Value-F.Module m → Has s.modules m
-module_in s v h m is = (subst (KnowsLayer s) is (known_open s v h)).0.0
-
 -- the load of the function that a value is
 pub load_in : (s : Shown) (v : Value) → KnowsAll s v → (load index : ℕ) (name : List ℕ) → out-Value v ≡ Value-F.Func load index name → Has s.loads load
 load_in s v h load index name is = (subst (KnowsLayer s) is (known_open s v h)).1.0

@@ -1,6 +1,7 @@
 //! What a thread keeps.
 use crate::locals::Locals;
 use crate::stack::Stack;
+use base_types::Text;
 use py_functions::{Function, Program};
 use py_value::Raised;
 use shared::Shared;
@@ -13,10 +14,12 @@ pub enum Parsing {
     Faulty(Raised),
 }
 
-/// A source whose text the thread has: the module that it belongs to, by its number, and its script.
+/// A source whose text the thread has: the module that it belongs to, by its number and its name, and
+/// its script.
 #[derive(Drop)]
 pub struct Source {
     pub mid: u32,
+    pub name: Text,
     pub program: Program,
 }
 

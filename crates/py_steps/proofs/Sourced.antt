@@ -9,7 +9,7 @@ use Rattle.py_state.specs.declared.thread.Thread.{Thread}
 use Rattle.py_meaning.specs.Meaning.{World}
 use Rattle.py_sources.specs.Sources.{sources}
 use Rattle.py_frames.specs.Does.{Does, DoesIn, Rest, begins, goes_on, replies}
-use Rattle.py_frames.specs.declared.want.OnReply.{OnReply}
+use Rattle.py_frames.specs.declared.replies.OnReply.{OnReply}
 use Rattle.py_frames.specs.declared.want.Want.{Want}
 use Rattle.py_frames.specs.declared.work.Frame.{Frame}
 use Rattle.py_frames.specs.declared.work.Item.{Item}

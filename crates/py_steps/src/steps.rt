@@ -3,37 +3,119 @@ ghost use Rattle.std.specs.Prelude.{IfOk};
 ghost use Rattle.py_sources.specs.Sources.{sources};
 ghost use Rattle.py_frames.specs.Does as meant;
 ghost use Rattle.py_frames.specs.Does.{Does, DoesIn, begins, goes_on, pieces, replies};
-ghost use Rattle.py_frames.specs.declared.want.OnReply.TheVariants as ons;
+ghost use Rattle.py_frames.specs.declared.replies.OnReply.TheVariants as ons;
 
 use base_types::NoMemory;
 use find_load::In;
 use machine_events::Reply;
-use py_blocks::{
-    begin_block, begin_branches, begin_imports, begin_statement, begin_test, begin_turn, begun,
-    go_on_block, go_on_decide, go_on_imports, go_on_loop, go_on_store, go_on_test, perform,
-};
-use py_bodies::{begin as begin_body, source_came, start};
-use py_calls::{call, come_back, give_default, tell};
-use py_frames::{Frame, Item, OnReply, Procedure, Want};
-use py_from::{
-    begin_alias, begin_ask_submodules, begin_binding, begin_bindings, begin_from,
-    begin_from_module, begin_star, begin_stars, begin_submodule, begin_submodules, go_on_bindings,
-    go_on_from, go_on_front, go_on_fronted, go_on_parts, go_on_stars, go_on_submodules,
-    go_on_tried_submodule, replied_all, replied_entry, replied_from_module, replied_if_package,
-    replied_missed, replied_names, replied_package, replied_submodule,
-};
-use py_imports::{
-    begin_feed, begin_import, fed as fed_procedure, go_on_imported, go_on_open, replied_feed,
-};
-use py_names::{deleted, global, member, member_deleted, member_read, read_global, store, stored};
-use py_operations::{
-    apply, atom, augment, choose, evaluate, give_sized, operand_value, operands, second,
-};
-use py_state::{Flow, Thread};
-use py_tries::{
-    begin_bind, begin_handle, begin_match, begin_try, go_on_catch, go_on_end_handler,
-    go_on_finally, go_on_handle, go_on_handlers, go_on_resume, unbound,
-};
+use py_blocks::begin_block;
+use py_blocks::begin_branches;
+use py_blocks::begin_imports;
+use py_blocks::begin_statement;
+use py_blocks::begin_test;
+use py_blocks::begin_turn;
+use py_blocks::begun;
+use py_blocks::go_on_block;
+use py_blocks::go_on_decide;
+use py_blocks::go_on_imports;
+use py_blocks::go_on_loop;
+use py_blocks::go_on_store;
+use py_blocks::go_on_test;
+use py_blocks::perform;
+use py_bodies::begin as begin_body;
+use py_bodies::source_came;
+use py_bodies::start;
+use py_calls::call;
+use py_calls::come_back;
+use py_calls::give_default;
+use py_calls::tell;
+use py_entries::add_entry;
+use py_entries::delete_entry;
+use py_entries::entry_deleted;
+use py_entries::entry_found;
+use py_entries::entry_popped;
+use py_entries::entry_set;
+use py_entries::entry_told;
+use py_entries::has_entry;
+use py_entries::method;
+use py_entries::path_added;
+use py_entries::pop_entry;
+use py_entries::read_entry;
+use py_entries::set_entry;
+use py_frames::Frame;
+use py_frames::Item;
+use py_frames::OnReply;
+use py_frames::Procedure;
+use py_frames::Want;
+use py_from::begin_alias;
+use py_from::begin_ask_submodules;
+use py_from::begin_binding;
+use py_from::begin_bindings;
+use py_from::begin_from;
+use py_from::begin_from_module;
+use py_from::begin_star;
+use py_from::begin_stars;
+use py_from::begin_submodule;
+use py_from::begin_submodules;
+use py_from::go_on_bindings;
+use py_from::go_on_from;
+use py_from::go_on_front;
+use py_from::go_on_fronted;
+use py_from::go_on_parts;
+use py_from::go_on_stars;
+use py_from::go_on_submodules;
+use py_from::go_on_tried_submodule;
+use py_from::replied_all;
+use py_from::replied_entry;
+use py_from::replied_from_module;
+use py_from::replied_if_package;
+use py_from::replied_missed;
+use py_from::replied_names;
+use py_from::replied_package;
+use py_from::replied_submodule;
+use py_imports::begin_feed;
+use py_imports::begin_import;
+use py_imports::fed as fed_procedure;
+use py_imports::go_on_imported;
+use py_imports::go_on_open;
+use py_imports::replied_feed;
+use py_names::deleted;
+use py_names::global;
+use py_names::listed;
+use py_names::member;
+use py_names::member_deleted;
+use py_names::member_read;
+use py_names::member_stored;
+use py_names::read_global;
+use py_names::roused;
+use py_names::search_path;
+use py_names::search_path_read;
+use py_names::store;
+use py_names::stored;
+use py_operations::apply;
+use py_operations::atom;
+use py_operations::augment;
+use py_operations::call_callee;
+use py_operations::callee;
+use py_operations::choose;
+use py_operations::evaluate;
+use py_operations::give_sized;
+use py_operations::operand_value;
+use py_operations::operands;
+use py_operations::second;
+use py_state::Flow;
+use py_state::Thread;
+use py_tries::begin_bind;
+use py_tries::begin_handle;
+use py_tries::begin_match;
+use py_tries::begin_try;
+use py_tries::go_on_catch;
+use py_tries::go_on_end_handler;
+use py_tries::go_on_finally;
+use py_tries::go_on_handle;
+use py_tries::go_on_handlers;
+use py_tries::go_on_resume;
+use py_tries::unbound;
 use py_value::Value;
 use std::alloc::Global;
 
@@ -48,6 +130,19 @@ pub fn begin(alloc: Global, item: Item, thread: &mut Thread) -> Result<Want, NoM
         Item::Atom(expr) => atom(alloc, thread, expr),
         Item::Operands { form, done } => operands(alloc, thread, form, done),
         Item::Apply { expr, values } => apply(alloc, thread, expr, values),
+        Item::Callee { expr, object } => call_callee(alloc, thread, expr, object),
+        Item::Method {
+            expr,
+            object,
+            values,
+        } => method(alloc, thread, expr, object, values),
+        Item::SearchPath => Ok(search_path(thread)),
+        Item::ReadEntry { key, default } => read_entry(alloc, thread, key, default),
+        Item::HasEntry { key, is_negated } => has_entry(alloc, thread, key, is_negated),
+        Item::SetEntry { key, value } => set_entry(alloc, thread, key, value),
+        Item::DeleteEntry(key) => delete_entry(alloc, thread, key),
+        Item::PopEntry { key, default } => pop_entry(alloc, thread, key, default),
+        Item::AddEntry { at, value } => add_entry(alloc, thread, at, value),
         Item::Perform { stmts, at, values } => perform(alloc, thread, stmts, at, values),
         Item::Choose { expr, left } => choose(alloc, thread, expr, left),
         Item::ReadGlobal(name) => read_global(thread, name),
@@ -60,7 +155,11 @@ pub fn begin(alloc: Global, item: Item, thread: &mut Thread) -> Result<Want, NoM
         Item::Begun { stmts, at } => begun(alloc, thread, stmts, at),
         Item::Imports { stmts, at, place } => begin_imports(thread, stmts, at, place),
         Item::Alias { stmts, at, place } => begin_alias(alloc, thread, &stmts, at, place),
-        Item::Import { name, is_parent } => begin_import(alloc, name, is_parent, thread),
+        Item::Import {
+            name,
+            is_parent,
+            is_lazy,
+        } => begin_import(alloc, name, is_parent, is_lazy, thread),
         Item::From { stmts, at } => begin_from(alloc, thread, stmts, at),
         Item::FromModule {
             module,
@@ -85,8 +184,18 @@ pub fn begin(alloc: Global, item: Item, thread: &mut Thread) -> Result<Want, NoM
         Item::Stars { module, names, at } => begin_stars(thread, module, names, at),
         Item::Star { module, name } => begin_star(thread, module, name),
         Item::Feed(procedure, input) => begin_feed(alloc, procedure, input, thread),
-        Item::Start { mid, load, text } => start(alloc, thread, mid, load, text),
-        Item::Begin { mid, load, text } => begin_body(alloc, thread, mid, load, text),
+        Item::Start {
+            mid,
+            load,
+            name,
+            text,
+        } => start(alloc, thread, mid, load, name, text),
+        Item::Begin {
+            mid,
+            load,
+            name,
+            text,
+        } => begin_body(alloc, thread, mid, load, name, text),
         Item::Branches {
             branches,
             at,
@@ -121,6 +230,9 @@ pub fn go_on(alloc: Global, frame: Frame, flow: Flow, thread: &mut Thread) -> Re
     match frame {
         Frame::Sized => Ok(give_sized(thread, flow)),
         Frame::Operands { form, done } => operand_value(alloc, thread, form, done, flow),
+        Frame::Callee(expr) => Ok(callee(thread, expr, flow)),
+        Frame::Listed { item, at } => listed(alloc, thread, item, at, flow),
+        Frame::Roused { event, reply } => Ok(roused(thread, event, reply, flow)),
         Frame::Second(expr) => Ok(second(thread, expr, flow)),
         Frame::Block { stmts, at } => Ok(go_on_block(thread, stmts, at, flow)),
         Frame::Test {
@@ -200,10 +312,24 @@ pub fn replied(
     match on {
         OnReply::Done => Ok(done(thread, reply)),
         OnReply::Global(name) => global(alloc, thread, name, reply),
-        OnReply::Member { module, name } => member_read(alloc, thread, module, name, reply),
+        OnReply::Member {
+            module,
+            name,
+            is_raw,
+        } => member_read(alloc, thread, module, name, is_raw, reply),
         OnReply::Stored => stored(alloc, thread, reply),
+        OnReply::MemberStored {
+            module,
+            name,
+            value,
+            is_raw,
+        } => member_stored(alloc, thread, module, name, value, is_raw, reply),
         OnReply::Deleted(name) => deleted(alloc, thread, name, reply),
-        OnReply::MemberDeleted(name) => member_deleted(alloc, thread, name, reply),
+        OnReply::MemberDeleted {
+            module,
+            name,
+            is_raw,
+        } => member_deleted(alloc, thread, module, name, is_raw, reply),
         OnReply::Unbound(flow) => Ok(unbound(thread, flow, reply)),
         OnReply::Sourced {
             load,
@@ -215,21 +341,33 @@ pub fn replied(
             module,
             name,
             is_bound,
-        } => replied_from_module(alloc, thread, module, name, is_bound, reply),
+            is_raw,
+        } => replied_from_module(alloc, thread, module, name, is_bound, is_raw, reply),
         OnReply::Entry {
             module,
             name,
             is_initialising,
         } => replied_entry(alloc, thread, module, name, is_initialising, reply),
-        OnReply::IfPackage { module, names } => {
-            replied_if_package(alloc, thread, module, names, reply)
-        }
-        OnReply::Submodule { module, name } => {
-            replied_submodule(alloc, thread, &module, &name, reply)
-        }
+        OnReply::IfPackage {
+            module,
+            names,
+            is_raw,
+        } => replied_if_package(alloc, thread, module, names, is_raw, reply),
+        OnReply::Submodule {
+            module,
+            name,
+            is_raw,
+        } => replied_submodule(alloc, thread, &module, &name, is_raw, reply),
         OnReply::Missed(error) => Ok(replied_missed(thread, error, reply)),
-        OnReply::All(module) => replied_all(alloc, thread, module, reply),
+        OnReply::All { module, is_raw } => replied_all(alloc, thread, module, is_raw, reply),
         OnReply::Names(module) => replied_names(alloc, thread, module, reply),
+        OnReply::SearchPath => search_path_read(alloc, thread, reply),
+        OnReply::EntryFound { key, default } => entry_found(alloc, thread, key, default, reply),
+        OnReply::EntryTold(is_negated) => entry_told(alloc, thread, is_negated, reply),
+        OnReply::EntrySet => entry_set(alloc, thread, reply),
+        OnReply::EntryDeleted(key) => entry_deleted(alloc, thread, key, reply),
+        OnReply::EntryPopped { key, default } => entry_popped(alloc, thread, key, default, reply),
+        OnReply::PathAdded => path_added(alloc, thread, reply),
         OnReply::Package { stmts, at } => replied_package(alloc, thread, &stmts, at, reply),
     }
 }

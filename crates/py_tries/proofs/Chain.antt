@@ -6,7 +6,7 @@ use Rattle.py_syntax.specs.declared.stmt.Handler.{Handler, fold-roll-Handler}
 use Rattle.py_state.specs.declared.flow.Leave.TheVariants.{Raised}
 use Rattle.py_state.specs.declared.flow.Flow.TheVariants.{Left}
 use Rattle.py_state.specs.declared.thread.State.{State}
-use Rattle.py_meaning.specs.Pieces.{Piece, Onward, on_value, built}
+use Rattle.py_meaning.specs.Pieces.{Piece, Onward, on_value, listed}
 use Rattle.py_meaning.specs.Operators.{Around, eval}
 use Rattle.py_meaning.specs.Statements.{BranchPiece, DefPiece, HandlerPiece, stmt_at, branch_at, def_at, handler_at, leaves, handling, handled, takes, catches, tries_handler, binds_error, unbinds, eval_some, handler, run_all}
 use Rattle.py_frames.specs.Does.{handlers, binds_some, handles_some, chosen_some, catches_from}
@@ -58,10 +58,10 @@ catches_all a hs at h error is none =
 
 -- else its kinds come first
 pub catches_kinds : (a : Around) (hs : List Handler) (at : ℕ) (h : Handler) (error : Error) (e : Expr) (s : State) (k : Onward) → slice_get hs at ≡ Some h → h.kinds ≡ Some e
-    → eval a e s (on_value k (λ v s. built (v ∷ []) (chosen_at a hs at error (takes error.kind v)) s k))
+    → eval a e s (on_value k (λ v s. listed v (λ v. chosen_at a hs at error (takes error.kind v)) s k))
     ≡ catches_from a hs at error s k
 catches_kinds a hs at h error e s k is some =
-    ap (λ (o : Option Handler). eval a e s (on_value k (λ v s. built (v ∷ []) (chosen_some a o error (others a hs at error) (takes error.kind v)) s k))) is
+    ap (λ (o : Option Handler). eval a e s (on_value k (λ v s. listed v (λ v. chosen_some a o error (others a hs at error) (takes error.kind v)) s k))) is
     ∙ ap (λ (ks : Option Expr). tries_handler (handler a h) error (others a hs at error) (eval_some a ks) s k) (sym some)
     ∙ ap (λ (p : Piece). p s k) (first a hs at h error is)
 

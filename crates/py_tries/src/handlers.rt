@@ -1,17 +1,19 @@
 //! The handlers of an error.
-ghost use Rattle.std.specs.Prelude.{◌≡◌, ◌<◌, IfOk, length, suc};
+ghost use Rattle.std.specs.Prelude.{◌≡◌, ◌<◌, IfOk, length, suc, true};
 ghost use Rattle.py_meaning.specs.Meaning.{around_at};
 ghost use Rattle.py_frames.specs.Does.{Does, begins, catches_from, goes_on, pieces};
 ghost use Rattle.py_frames.specs.declared.work.Frame.TheVariants as frames;
 ghost use Rattle.py_frames.specs.declared.work.Item.TheVariants as items;
+ghost use Rattle.py_names.specs.Listing.{is_listed};
+ghost use Rattle.py_state.specs.declared.flow.Flow.TheVariants.{Went};
 ghost use Rattle.py_tries.specs.Parts.{chosen_at, handles_by};
 
 use crate::handling::begin_handling;
-use crate::kinds::{is_unbuilt, takes};
+use crate::kinds::takes;
 use base_types::{Exact, NoMemory, Seq};
 use py_faults::Fault;
 use py_frames::{Frame, Item, Want};
-use py_names::fail;
+use py_names::{fail, is_listed};
 use py_state::{Flow, Leave, Thread};
 use py_syntax::Handler;
 use py_value::{Raised, Value};
@@ -89,6 +91,34 @@ fn choose(
     }
 }
 
+/// A list comes in place of what a handler names, or it is no operand.
+fn wait_catch(
+    alloc: Global,
+    thread: &Thread,
+    handlers: Shared<Seq<Handler>>,
+    at: usize,
+    error: Raised,
+    value: Value,
+) -> Result<Want, NoMemory>
+    requires listed { is_listed value ≡ true }
+    ensures { IfOk result (Does thread.now (goes_on (frames.Catch handlers at error) (Went value) thread.now)) }
+{
+    match value {
+        Value::SysPath => Ok(Want::Both(
+            Item::SearchPath,
+            Frame::Catch {
+                handlers,
+                at,
+                error,
+            },
+        )),
+        other => {
+            drop(other);
+            fail(alloc, thread, Fault::NotInProfile)
+        }
+    }
+}
+
 /// What a handler names has a value.
 pub fn go_on_catch(
     alloc: Global,
@@ -104,8 +134,8 @@ pub fn go_on_catch(
         Flow::Left(leave) => return Ok(Want::Go(Flow::Left(leave))),
         Flow::Went(value) => value,
     };
-    if is_unbuilt(&value) {
-        return fail(alloc, thread, Fault::NotBuilt);
+    if is_listed(&value) {
+        return wait_catch(alloc, thread, handlers, at, error, value);
     }
     let taken = takes(error.kind, &value);
     choose(alloc, thread, handlers, at, error, taken)

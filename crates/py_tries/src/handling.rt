@@ -2,7 +2,7 @@
 ghost use Rattle.std.specs.Prelude.{◌≡◌, ◌∷◌, OnOk};
 ghost use Rattle.py_meaning.specs.Statements.{handled, handling, unbinds_name};
 ghost use Rattle.py_frames.specs.Does.{Does, goes_on, pieces, replies};
-ghost use Rattle.py_frames.specs.declared.want.OnReply.TheVariants as ons;
+ghost use Rattle.py_frames.specs.declared.replies.OnReply.TheVariants as ons;
 ghost use Rattle.py_frames.specs.declared.work.Frame.TheVariants as frames;
 
 use base_types::{NoMemory, Text};

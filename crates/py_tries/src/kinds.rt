@@ -1,8 +1,6 @@
 //! Which errors an `except` takes.
 ghost use Rattle.std.specs.Prelude.{◌≡◌, ◌∷◌, [], Some};
-ghost use Rattle.std.specs.List.{list_any};
 ghost use Rattle.py_value.specs.declared.value.Value.{out-Value};
-ghost use Rattle.value_operators.specs.Outcomes.{is_special};
 ghost use Rattle.py_meaning.specs.Statements.{either, is_within, kind_at, takes, takes_any, takes_kind};
 
 use py_value::{Items, Kind, Value};
@@ -78,15 +76,5 @@ pub fn takes(kind: Kind, value: &Value) -> Option<bool>
     match value {
         Value::Tuple(values) => takes_any(kind, values),
         _ => takes_kind(kind, kind_of(value)),
-    }
-}
-
-/// Whether a value stands for something in the machine, which is no operand so far.
-pub fn is_unbuilt(value: &Value) -> bool
-    ensures { result ≡ list_any is_special (value.now ∷ []) }
-{
-    match value {
-        Value::SysModules | Value::SysPath | Value::NsPath => true,
-        _ => false,
     }
 }

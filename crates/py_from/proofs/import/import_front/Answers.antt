@@ -1,4 +1,4 @@
-use Rattle.std.proofs.Common.{◌≡◌, ◌∙◌, sym, ap, List, slice_get}
+use Rattle.std.proofs.Common.{◌∙◌, sym, ap, List, slice_get}
 use Rattle.py_syntax.specs.declared.stmt.Stmt.{Stmt}
 use Rattle.py_faults.specs.declared.fault.Fault.TheVariants as fault
 use Rattle.py_meaning.specs.Pieces.{fails}

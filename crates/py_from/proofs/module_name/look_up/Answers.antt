@@ -1,4 +1,4 @@
-use Rattle.std.proofs.Common.{◌≡◌, false, true, IsTrue, List, ℕ}
+use Rattle.std.proofs.Common.{◌≡◌, false, IsTrue, List, ℕ}
 use Rattle.spec_core.specs.Identifiers.{is_dotted}
 use Rattle.py_faults.specs.declared.fault.Fault.TheVariants as fault
 use Rattle.py_meaning.specs.Pieces.{fails}

@@ -1,4 +1,4 @@
-use Rattle.std.proofs.Common.{◌≡◌, ◌∙◌, sym}
+use Rattle.std.proofs.Common.{◌∙◌, sym}
 use Rattle.py_meaning.specs.Meaning.{around_at}
 use Rattle.py_meaning.specs.ImportStatements.{binds_star}
 use Rattle.py_from.proofs.Parts.{order_ends, order_goes}

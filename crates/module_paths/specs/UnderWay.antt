@@ -1,0 +1,36 @@
+-- What the reading of a path that is under way goes on by.
+use Rattle.std.specs.Prelude.{ℕ, List, Option}
+use Rattle.py_value.specs.declared.value.ModRef.{ModRef}
+use Rattle.py_value.specs.declared.value.Value.{Value}
+use Rattle.machine_events.specs.declared.module.Slot.{Slot}
+use Rattle.py_meaning.specs.Pieces.{Piece}
+use Rattle.py_meaning.specs.Imports.{Inside}
+use Rattle.py_meaning.specs.Paths.{below, below_slot, below_parent, computes_again}
+use Rattle.find_load.specs.declared.words.In.{In}
+use Rattle.module_paths.specs.Means.{above, does, named}
+use Rattle.module_paths.specs.declared.reader.Namespace.{Namespace}
+use Rattle.module_paths.specs.declared.reader.Stage.{Stage}
+use Rattle.module_paths.specs.declared.reader.PathReader.{PathReader}
+
+-- what it does at a stage by what it is fed
+abbrev pub does_at : PathReader → Stage → In → Inside → Piece
+does_at p at input inside = does inside p.turns p.module at input
+
+-- the paths of the modules above
+abbrev pub paths_of : PathReader → Inside → ModRef → Piece
+paths_of p inside = above inside p.turns
+
+-- the path of a namespace below a path, below what the cache has for its parent's name, and below that name
+abbrev pub searched_below : PathReader → Namespace → List Value → Inside → Piece
+searched_below p namespace path inside = computes_again (named p.module namespace) namespace.state namespace.epoch path
+
+abbrev pub below_path : PathReader → Namespace → List Value → Inside → Piece
+below_path p namespace path inside = below (named p.module namespace) namespace.state namespace.epoch path
+
+abbrev pub below_entry : PathReader → Namespace → Slot → Inside → Piece
+below_entry p namespace slot inside =
+    below_slot (paths_of p inside) (named p.module namespace) namespace.state namespace.epoch slot
+
+abbrev pub below_name : PathReader → Namespace → Option (List ℕ) → Inside → Piece
+below_name p namespace parent inside =
+    below_parent (paths_of p inside) (named p.module namespace) namespace.state namespace.epoch parent

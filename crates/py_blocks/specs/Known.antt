@@ -1,0 +1,154 @@
+-- Statements on operands that have values of their own, and the operand in whose place a list comes, or which is none.
+use Rattle.std.specs.Prelude.{ℕ, suc, drop, slice_get, List, [], ◌∷◌, Option, Some, None, Bool, true, false, if◌then◌else◌}
+use Rattle.py_value.specs.Measures.{is_true}
+use Rattle.py_value.specs.declared.value.Value.{Value, out-Value}
+use Rattle.py_value.specs.declared.value.Value.TheOpen.{Value-F}
+use Rattle.py_syntax.specs.declared.expr.Expr.{Expr, out-Expr}
+use Rattle.py_syntax.specs.declared.expr.Expr.TheOpen.{Expr-F}
+use Rattle.py_syntax.specs.declared.stmt.Branch.{Branch}
+use Rattle.py_syntax.specs.declared.stmt.FuncDef.{FuncDef}
+use Rattle.py_syntax.specs.declared.stmt.Handler.{Handler}
+use Rattle.py_syntax.specs.declared.stmt.Stmt.{Stmt, out-Stmt}
+use Rattle.py_syntax.specs.declared.stmt.Stmt.TheOpen.{Stmt-F}
+use Rattle.py_faults.specs.declared.fault.Fault.TheVariants as fault
+use Rattle.py_state.specs.declared.flow.Flow.TheVariants.{Left}
+use Rattle.py_state.specs.declared.flow.Leave.TheVariants.{Break, Continue}
+use Rattle.py_state.specs.declared.thread.Thread.{Thread}
+use Rattle.meanings.specs.Runs.{Run}
+use Rattle.py_meaning.specs.Pieces.{Piece, fails, passes, with_one, with_two, with_three}
+use Rattle.py_meaning.specs.Entries.{sets_entry, deletes_entry}
+use Rattle.py_meaning.specs.Names.{stores, deletes, sets_member, deletes_member}
+use Rattle.py_meaning.specs.Operators.{Around, eval}
+use Rattle.py_meaning.specs.Statements.{refuses_item, augments, returns, raises_at, raises_again, leaves, looped, tests, turns, run_all}
+use Rattle.py_meaning.specs.Meaning.{World, around_at}
+use Rattle.py_names.specs.Listing.{is_listed}
+use Rattle.py_frames.specs.Does.{Rest, branches, pieces}
+
+-- what a piece does in what stands around it
+abbrev pub acts : (Around → Piece) → Thread → World → Rest → Run
+acts piece = pieces (λ w d. piece (around_at w d))
+
+-- what stands for the cache, and for the search path
+abbrev pub is_cache_at : Value-F Value → Bool
+is_cache_at Value-F.SysModules = true
+is_cache_at v = false
+
+abbrev pub is_cache : Value → Bool
+is_cache v = is_cache_at (out-Value v)
+
+abbrev pub is_path_at : Value-F Value → Bool
+is_path_at Value-F.SysPath = true
+is_path_at v = false
+
+abbrev pub is_path : Value → Bool
+is_path v = is_path_at (out-Value v)
+
+-- ---- statements
+
+abbrev pub sets_known : Value → Value → Value → Piece
+sets_known o i v = if is_cache o then sets_entry i v else refuses_item o
+
+abbrev pub deletes_known : Value → Value → Piece
+deletes_known o i = if is_cache o then deletes_entry i else refuses_item o
+
+abbrev pub assigns_item : List Value → Piece
+assigns_item vs = with_three vs (λ v o i. sets_known o i v)
+
+abbrev pub assigns_member : Around → List ℕ → List Value → Piece
+assigns_member around x vs = with_two vs (λ v o. sets_member around.access o x v)
+
+abbrev pub assigns_known : Around → Expr-F Expr → List Value → Piece
+assigns_known around (Expr-F.Name x) vs = with_one vs (λ v. stores x v)
+assigns_known around (Expr-F.Attribute object x) vs = assigns_member around x vs
+assigns_known around (Expr-F.Subscript object index) vs = assigns_item vs
+assigns_known around target vs = fails fault.NotInProfile
+
+abbrev pub assigns : Around → Expr → List Value → Piece
+assigns around target vs = assigns_known around (out-Expr target) vs
+
+abbrev pub removes_member : Around → List ℕ → List Value → Piece
+removes_member around x vs = with_one vs (λ o. deletes_member around.access o x)
+
+abbrev pub removes_known : Around → Expr-F Expr → List Value → Piece
+removes_known around (Expr-F.Name x) vs = deletes x
+removes_known around (Expr-F.Attribute object x) vs = removes_member around x vs
+removes_known around (Expr-F.Subscript object index) vs = with_two vs deletes_known
+removes_known around target vs = fails fault.NotInProfile
+
+abbrev pub removes : Around → Expr → List Value → Piece
+removes around target vs = removes_known around (out-Expr target) vs
+
+abbrev pub raises_known : List Value → Piece
+raises_known [] = λ s k. raises_again s.handling s k
+raises_known vs = with_one vs (λ v. raises_at (out-Value v))
+
+abbrev pub performs_known : Around → Stmt-F Stmt Branch FuncDef Handler → List Value → Piece
+performs_known around (Stmt-F.Evaluate e) vs = passes
+performs_known around (Stmt-F.Assign target e) vs = assigns around target vs
+performs_known around (Stmt-F.Augment x o e) vs = augments x o vs
+performs_known around (Stmt-F.Delete target) vs = removes around target vs
+performs_known around Stmt-F.Pass vs = passes
+performs_known around Stmt-F.Break vs = leaves (Left Break)
+performs_known around Stmt-F.Continue vs = leaves (Left Continue)
+performs_known around (Stmt-F.Return e) vs = returns vs
+performs_known around (Stmt-F.Raise e) vs = raises_known vs
+performs_known around stmt vs = fails fault.NotInProfile
+
+abbrev pub performs : Around → Stmt → List Value → Piece
+performs around s vs = performs_known around (out-Stmt s) vs
+
+abbrev pub performs_some : Around → Option Stmt → List Value → Piece
+performs_some around None vs = fails fault.NotInProfile
+performs_some around (Some s) vs = performs around s vs
+
+-- ---- the place of the operand in whose place a list comes, or which is none
+
+abbrev pub place_behind : List Value → Option ℕ
+place_behind (v ∷ o ∷ i ∷ []) = if is_path o then Some 1 else None
+place_behind vs = None
+
+abbrev pub place_before : List Value → Option ℕ
+place_before (o ∷ i ∷ []) = if is_path o then Some 0 else None
+place_before vs = None
+
+abbrev pub place_of_one : List Value → Option ℕ
+place_of_one (v ∷ []) = if is_listed v then Some 0 else None
+place_of_one vs = None
+
+abbrev pub place_assigned : Expr-F Expr → List Value → Option ℕ
+place_assigned (Expr-F.Subscript object index) vs = place_behind vs
+place_assigned target vs = None
+
+abbrev pub place_removed : Expr-F Expr → List Value → Option ℕ
+place_removed (Expr-F.Subscript object index) vs = place_before vs
+place_removed target vs = None
+
+abbrev pub place_at : Stmt-F Stmt Branch FuncDef Handler → List Value → Option ℕ
+place_at (Stmt-F.Assign target e) vs = place_assigned (out-Expr target) vs
+place_at (Stmt-F.Delete target) vs = place_removed (out-Expr target) vs
+place_at (Stmt-F.Raise e) vs = place_of_one vs
+place_at stmt vs = None
+
+abbrev pub place_some : Option Stmt → List Value → Option ℕ
+place_some None vs = None
+place_some (Some s) vs = place_at (out-Stmt s) vs
+
+-- ---- tests that have values of their own
+
+abbrev pub picks : Around → Option Branch → Value → Piece → Piece
+picks around None v others = fails fault.NotInProfile
+picks around (Some b) v others = if is_true v then run_all around b.body else others
+
+-- the branches behind one
+abbrev pub behind : Around → List Branch → ℕ → List Stmt → Piece
+behind around bs at otherwise = tests (branches around (drop (suc at) bs)) (run_all around otherwise)
+
+abbrev pub picked : Around → List Branch → ℕ → List Stmt → Value → Piece
+picked around bs at otherwise v = picks around (slice_get bs at) v (behind around bs at otherwise)
+
+-- a turn, and the others behind it
+abbrev pub turn_more : Around → Expr → List Stmt → ℕ → Piece
+turn_more around test body n s k = run_all around body s (looped k (turns n (eval around test) (run_all around body)))
+
+abbrev pub loops : Around → Expr → List Stmt → ℕ → Value → Piece
+loops around test body n v = if is_true v then turn_more around test body n else passes

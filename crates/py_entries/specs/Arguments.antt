@@ -1,0 +1,47 @@
+-- The arguments of methods, by how many they are.
+use Rattle.std.specs.Prelude.{ℕ, List, [], ◌∷◌, Option, Some, None}
+use Rattle.py_value.specs.declared.value.Value.{Value}
+use Rattle.py_value.specs.declared.value.Value.TheVariants as values
+use Rattle.py_faults.specs.declared.fault.Fault.TheVariants as fault
+use Rattle.value_operators.specs.Outcomes.{number_of}
+use Rattle.py_meaning.specs.Pieces.{Piece, fails}
+use Rattle.py_meaning.specs.Entries.{reads_entry, pops_entry}
+use Rattle.py_meaning.specs.Methods.{adds_entry, inserts_at}
+
+abbrev pub one_of : List Value → Option Value
+one_of (a ∷ []) = Some a
+one_of vs = None
+
+abbrev pub two_of : List Value → Option (Value × Value)
+two_of (a ∷ b ∷ []) = Some (a, b)
+two_of vs = None
+
+-- a key, and what comes in place of its entry
+abbrev pub key_of : List Value → Option (Value × Option Value)
+key_of (a ∷ []) = Some (a, None)
+key_of (a ∷ b ∷ []) = Some (a, Some b)
+key_of vs = None
+
+-- goes on with the arguments, where they are as many as the method takes
+abbrev pub counted : {A : Type 0} → List ℕ → Option A → (A → Piece) → Piece
+counted x None go = fails (fault.MethodCount x)
+counted x (Some a) go = go a
+
+-- `.get` answers `None` where no other default is given
+abbrev pub or_nothing : Option Value → Value
+or_nothing None = values.Nothing
+or_nothing (Some d) = d
+
+-- the methods by their arguments
+
+abbrev pub appends_one : List ℕ → List Value → Piece
+appends_one x vs = counted x (one_of vs) (adds_entry None)
+
+abbrev pub inserts_two : List ℕ → List Value → Piece
+inserts_two x vs = counted x (two_of vs) (λ both. inserts_at (number_of both.0) both.1)
+
+abbrev pub gets_key : List ℕ → List Value → Piece
+gets_key x vs = counted x (key_of vs) (λ both. reads_entry both.0 (Some (or_nothing both.1)))
+
+abbrev pub pops_key : List ℕ → List Value → Piece
+pops_key x vs = counted x (key_of vs) (λ both. pops_entry both.0 both.1)

@@ -1,0 +1,4 @@
+pub mod Rouse
+pub mod Rousing
+pub mod Reload
+pub mod Reloading

@@ -1,0 +1,16 @@
+-- What the first use of a lazy module goes on by.
+use Rattle.py_meaning.specs.Pieces.{Piece}
+use Rattle.py_meaning.specs.Lazy.{rouses}
+use Rattle.py_meaning.specs.Imports.{Inside}
+use Rattle.find_load.specs.declared.words.In.{In}
+use Rattle.reload_lazy.specs.Rouse.{does}
+use Rattle.reload_lazy.specs.declared.rouser.RouseStage.{RouseStage}
+use Rattle.reload_lazy.specs.declared.rouser.Rouser.{Rouser}
+
+-- what it does at a stage by what it is fed
+abbrev pub does_at : Rouser → RouseStage → In → Inside → Piece
+does_at p at input inside = does inside.body p.turns p.module at input
+
+-- its next turn
+abbrev pub again : Rouser → Inside → Piece
+again p inside = rouses inside.body p.turns p.module
