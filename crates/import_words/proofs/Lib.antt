@@ -1,5 +1,4 @@
-mod Fronts
-mod Options
+mod Narrowed
 mod Slashes
 mod Cuts
 mod Digits

@@ -1,3 +1,3 @@
+pub mod Words
 pub mod Plans
 pub mod Usage
-pub mod Words

@@ -1,9 +1,9 @@
 -- The usage line for refused words, by the first of them.
 use Rattle.std.specs.Prelude.{List, [], ◌∷◌, codes, Option, Some, None}
-use Rattle.import_words.specs.Words.{Word}
+use Rattle.command_words.specs.Words.{Word}
 use Rattle.import_words.specs.Plans.{command_of}
-use Rattle.import_words.specs.declared.command.Command.{Command}
-use Rattle.import_words.specs.declared.command.Command.TheVariants as command
+use Rattle.command_words.specs.declared.command.Command.{Command}
+use Rattle.command_words.specs.declared.command.Command.TheVariants as command
 
 abbrev pub usage_by : Option Command → Word
 usage_by (Some command.Check) = codes "pyimport: usage: pyimport check [--path LIST] [--fuel N] (TRACE SCRIPT.. | --rounds FILE TRACE) | pyimport convert TRACE"

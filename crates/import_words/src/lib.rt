@@ -3,7 +3,6 @@
 
 mod command;
 mod number;
-mod option;
 mod path;
 mod plan;
 mod read;

@@ -1,5 +1,6 @@
 //! What a command line asks for.
 use base_types::{NoMemory, Text, Texts};
+use thiserror::Error;
 
 /// A run of scripts, or of modules as programs.
 #[derive(Drop)]
@@ -52,10 +53,12 @@ pub enum Plan {
 }
 
 /// Why there is no plan.
-#[derive(Drop)]
+#[derive(Clone, Copy, Debug, Error)]
 pub enum WordsError {
     /// The words are refused.
+    #[error("the words are refused")]
     Usage,
+    #[error("out of memory")]
     NoMemory,
 }
 

@@ -1,17 +1,17 @@
 //! From words to plans.
-ghost use Rattle.std.specs.Prelude.{◌≡◌, IfOk, map};
+ghost use Rattle.std.specs.Prelude.{◌≡◌, IfOk, false, map};
 ghost use Rattle.std.specs.List.{list_any};
 ghost use Rattle.std.specs.String.{string_bytes};
-ghost use Rattle.import_words.specs.Words.{is_refused};
+ghost use Rattle.command_words.specs.Words.{is_refused};
 ghost use Rattle.import_words.specs.Plans.{plan_of, plan_by, gen_of, run_plan, check_plan, module_plan, report_plan, has_path_alone, only_word, Plans, behind_options};
 
-use crate::command::{Command, command_of};
+use crate::command::command_of;
 use crate::number::{digits_of, number_of};
-use crate::option::{Settings, is_dashed, options};
 use crate::path::path_of;
 use crate::plan::{Plan, WordsError};
-use crate::run::{are_names, are_scripts, run_of, run_with};
+use crate::run::{are_names, are_scripts, is_dashed, run_of, run_with};
 use base_types::{Exact, NoMemory, Text, Texts};
+use command_words::{Command, Settings, take_apart};
 use std::alloc::Global;
 
 fn is_refused(word: &str) -> bool
@@ -47,22 +47,43 @@ fn gen_of(words: &[Text]) -> Option<Plan>
     })
 }
 
-fn run_plan(alloc: Global, words: &[Text]) -> Result<Option<Plan>, NoMemory>
-    ensures { IfOk result (λ o. o ≡ behind_options run_plan words.now) }
+fn gen_plan(alloc: Global, words: &[String]) -> Result<Option<Plan>, NoMemory>
+    requires { list_any is_refused (map string_bytes words.now) ≡ false }
+    ensures { IfOk result (λ o. o ≡ gen_of (map string_bytes words.now)) }
 {
-    let Some(front) = options(alloc, Settings::none(), words)? else {
-        return Ok(None);
-    };
-    match run_of(alloc, front.settings, front.rest.as_slice())? {
+    let found = take_apart(alloc, Command::Gen, words)?;
+    match found {
+        Some(front) => Ok(gen_of(front.rest.as_slice())),
+        None => Ok(None),
+    }
+}
+
+fn ran(alloc: Global, settings: Settings, scripts: &[Text]) -> Result<Option<Plan>, NoMemory>
+    ensures { IfOk result (λ o. o ≡ run_plan settings scripts.now) }
+{
+    match run_of(alloc, settings, scripts)? {
         Some(run) => Ok(Some(Plan::Run(run))),
         None => Ok(None),
     }
 }
 
-fn check_plan(alloc: Global, words: &[Text]) -> Result<Option<Plan>, NoMemory>
-    ensures { IfOk result (λ o. o ≡ behind_options check_plan words.now) }
+fn run_plan(alloc: Global, words: &[String]) -> Result<Option<Plan>, NoMemory>
+    requires { list_any is_refused (map string_bytes words.now) ≡ false }
+    ensures { IfOk result (λ o. o ≡ behind_options run_plan (map string_bytes words.now)) }
 {
-    match options(alloc, Settings::none(), words)? {
+    let found = take_apart(alloc, Command::Run, words)?;
+    match found {
+        Some(front) => ran(alloc, front.settings, front.rest.as_slice()),
+        None => Ok(None),
+    }
+}
+
+fn check_plan(alloc: Global, words: &[String]) -> Result<Option<Plan>, NoMemory>
+    requires { list_any is_refused (map string_bytes words.now) ≡ false }
+    ensures { IfOk result (λ o. o ≡ behind_options check_plan (map string_bytes words.now)) }
+{
+    let found = take_apart(alloc, Command::Check, words)?;
+    match found {
         Some(front) => check_of(alloc, front.settings, front.rest.as_slice()),
         None => Ok(None),
     }
@@ -86,10 +107,12 @@ fn check_of(alloc: Global, settings: Settings, words: &[Text]) -> Result<Option<
     }
 }
 
-fn module_plan(alloc: Global, words: &[Text]) -> Result<Option<Plan>, NoMemory>
-    ensures { IfOk result (λ o. o ≡ behind_options module_plan words.now) }
+fn module_plan(alloc: Global, words: &[String]) -> Result<Option<Plan>, NoMemory>
+    requires { list_any is_refused (map string_bytes words.now) ≡ false }
+    ensures { IfOk result (λ o. o ≡ behind_options module_plan (map string_bytes words.now)) }
 {
-    match options(alloc, Settings::none(), words)? {
+    let found = take_apart(alloc, Command::Module, words)?;
+    match found {
         Some(front) => module_of(alloc, front.settings, front.rest),
         None => Ok(None),
     }
@@ -113,10 +136,12 @@ fn module_of(alloc: Global, settings: Settings, names: Texts) -> Result<Option<P
     }
 }
 
-fn report_plan(alloc: Global, words: &[Text]) -> Result<Option<Plan>, NoMemory>
-    ensures { IfOk result (λ o. o ≡ behind_options report_plan words.now) }
+fn report_plan(alloc: Global, words: &[String]) -> Result<Option<Plan>, NoMemory>
+    requires { list_any is_refused (map string_bytes words.now) ≡ false }
+    ensures { IfOk result (λ o. o ≡ behind_options report_plan (map string_bytes words.now)) }
 {
-    match options(alloc, Settings::none(), words)? {
+    let found = take_apart(alloc, Command::Report, words)?;
+    match found {
         Some(front) => report_of(front.settings, front.rest.as_slice()),
         None => Ok(None),
     }
@@ -159,20 +184,43 @@ fn only_word(words: &[Text]) -> Result<Option<Text>, NoMemory>
     Ok(Some(word.copy()?))
 }
 
-fn plan_by(alloc: Global, command: Command, words: &[Text]) -> Result<Option<Plan>, NoMemory>
-    ensures { IfOk result (λ o. o ≡ plan_by (Some command) words.now) }
+fn convert_word(alloc: Global, words: &[String]) -> Result<Option<Text>, NoMemory>
+    requires { list_any is_refused (map string_bytes words.now) ≡ false }
+    ensures { IfOk result (λ o. o ≡ only_word (map string_bytes words.now)) }
+{
+    let found = take_apart(alloc, Command::Convert, words)?;
+    match found {
+        Some(front) => only_word(front.rest.as_slice()),
+        None => Ok(None),
+    }
+}
+
+fn bundle_word(alloc: Global, words: &[String]) -> Result<Option<Text>, NoMemory>
+    requires { list_any is_refused (map string_bytes words.now) ≡ false }
+    ensures { IfOk result (λ o. o ≡ only_word (map string_bytes words.now)) }
+{
+    let found = take_apart(alloc, Command::Bundle, words)?;
+    match found {
+        Some(front) => only_word(front.rest.as_slice()),
+        None => Ok(None),
+    }
+}
+
+fn plan_by(alloc: Global, command: Command, words: &[String]) -> Result<Option<Plan>, NoMemory>
+    requires { list_any is_refused (map string_bytes words.now) ≡ false }
+    ensures { IfOk result (λ o. o ≡ plan_by (Some command) (map string_bytes words.now)) }
 {
     match command {
         Command::Run => run_plan(alloc, words),
-        Command::Gen => Ok(gen_of(words)),
+        Command::Gen => gen_plan(alloc, words),
         Command::Check => check_plan(alloc, words),
-        Command::Convert => match only_word(words)? {
+        Command::Convert => match convert_word(alloc, words)? {
             Some(trace_file) => Ok(Some(Plan::Convert { trace_file })),
             None => Ok(None),
         },
         Command::Module => module_plan(alloc, words),
         Command::Report => report_plan(alloc, words),
-        Command::Bundle => match only_word(words)? {
+        Command::Bundle => match bundle_word(alloc, words)? {
             Some(dir) => Ok(Some(Plan::Bundle { dir })),
             None => Ok(None),
         },
@@ -189,27 +237,35 @@ fn texts_of(alloc: Global, words: &[String]) -> Result<Texts, NoMemory>
     Ok(texts)
 }
 
-fn plan_of(alloc: Global, words: &[Text]) -> Result<Option<Plan>, NoMemory>
-    ensures { IfOk result (λ o. o ≡ plan_of words.now) }
+/// The plan behind words of which none is refused by itself.
+fn plan_behind(alloc: Global, words: &[String]) -> Result<Option<Plan>, NoMemory>
+    requires { list_any is_refused (map string_bytes words.now) ≡ false }
+    ensures { IfOk result (λ o. o ≡ plan_of (map string_bytes words.now)) }
 {
     let Some((word, rest)) = words.split_first() else {
         return Ok(None);
     };
-    if any_refused(words) {
-        return Ok(None);
-    }
     match command_of(word.as_str()) {
         Some(command) => plan_by(alloc, command, rest),
         None => Ok(None),
     }
 }
 
+fn plan_of(alloc: Global, words: &[String]) -> Result<Option<Plan>, NoMemory>
+    ensures { IfOk result (λ o. o ≡ plan_of (map string_bytes words.now)) }
+{
+    let texts = texts_of(alloc, words)?;
+    if any_refused(texts.as_slice()) {
+        return Ok(None);
+    }
+    plan_behind(alloc, words)
+}
+
 /// What the words of a command line ask for. Usage exactly where they are refused.
 pub fn read_words(alloc: Global, words: &[String]) -> Result<Plan, WordsError>
     ensures { Plans (plan_of (map string_bytes words.now)) result }
 {
-    let texts = texts_of(alloc, words)?;
-    match plan_of(alloc, texts.as_slice())? {
+    match plan_of(alloc, words)? {
         Some(plan) => Ok(plan),
         None => Err(WordsError::Usage),
     }

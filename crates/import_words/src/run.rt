@@ -2,16 +2,36 @@
 ghost use Rattle.std.specs.Prelude.{◌≡◌, IfOk, not};
 ghost use Rattle.std.specs.List.{list_all};
 ghost use Rattle.spec_core.specs.Identifiers.{is_dotted};
-ghost use Rattle.import_words.specs.Words.{is_dashed};
+ghost use Rattle.command_words.specs.Words.{is_dashed};
 ghost use Rattle.import_words.specs.Plans.{run_with, run_of, are_scripts};
 
 use crate::number::fuel_of;
-use crate::option::{Settings, is_dashed};
 use crate::path::{folder_of, path_of};
 use crate::plan::RunPlan;
 use base_types::{Exact, NoMemory, Text, Texts};
+use command_words::Settings;
 use spec_core::Dotted;
 use std::alloc::Global;
+
+pub(crate) fn is_dashed(word: &str) -> bool
+    ensures { result ≡ is_dashed word.now }
+{
+    match word.as_bytes().first() {
+        Some(b) => *b == b'-',
+        None => false,
+    }
+}
+
+/// The words as texts of their own.
+fn owned(alloc: Global, words: &[Text]) -> Result<Texts, NoMemory>
+    ensures { IfOk result (λ it. it ≡ words.now) }
+{
+    let mut texts = Texts::new(alloc);
+    for word in words {
+        texts.push(word.copy()?)?;
+    }
+    Ok(texts)
+}
 
 fn are_undashed(words: &[Text]) -> bool
     ensures { result ≡ list_all (λ word. not (is_dashed word)) words.now }
@@ -92,7 +112,7 @@ pub(crate) fn run_of(
                 return Ok(None);
             }
             let folder = folder_of(script)?;
-            let all = crate::option::owned(alloc, scripts)?;
+            let all = owned(alloc, scripts)?;
             run_with(settings, &folder, all)
         }
     }

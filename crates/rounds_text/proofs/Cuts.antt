@@ -1,11 +1,11 @@
 -- Lists that are cut at a byte.
-use Rattle.std.proofs.Common.{◌≡◌, ◌∙◌, refl, sym, ap, subst, ℕ, zero, suc, ◌+◌, ◌<◌, ◌≤◌, List, [], ◌∷◌, ◌++◌, length, take, drop, length-append, true, false, Bool, not, cond, eqb, ltb, ◌&&◌, Some, None, Option, arith, All, IsTrue}
+use Rattle.std.proofs.Common.{◌≡◌, ◌∙◌, refl, sym, ap, subst, ℕ, zero, suc, ◌+◌, ◌<◌, List, [], ◌∷◌, ◌++◌, length, take, drop, length-append, true, false, Bool, not, cond, eqb, ltb, Some, None, Option, arith, All}
 use Rattle.std.proofs.Math.Seq.{drop-append_seam, take-append_seam}
-use Rattle.std.proofs.lemmas.Bool.{and_from, and_parts, cond-true, cond-false, not-true, lt-ltb, ltb-true, eqb-true}
+use Rattle.std.proofs.lemmas.Bool.{and_from, and_parts, cond-true, not-true, lt-ltb, ltb-true, eqb-true}
 use Rattle.std.proofs.lemmas.List.{take-append-drop}
 use Rattle.std.proofs.lemmas.List.Splits.{slice_split_at, slice_split_none}
 use Rattle.std.proofs.lemmas.Slice.Eq.{bytes_eq-Decides}
-use Rattle.std.specs.List.{list_all, slice_split, onto_first, position_or_len}
+use Rattle.std.specs.List.{list_all, onto_first, position_or_len}
 use Rattle.std.specs.Option.{option_map}
 use Rattle.std.specs.Str.{bytes_eq}
 use Rattle.rounds_text.specs.Lines.{behind, cut, has_no_blank}

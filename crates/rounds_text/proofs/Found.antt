@@ -1,17 +1,15 @@
 -- What the grammar spells is read.
-use Rattle.std.proofs.Common.{◌≡◌, ◌∙◌, refl, sym, ap, subst, ℕ, zero, suc, ◌+◌, ◌<◌, ◌≤◌, List, [], ◌∷◌, ◌++◌, length, codes, true, nat_lt, cond, Some, None, Option, Ok, Err, Result, arith}
+use Rattle.std.proofs.Common.{◌≡◌, ◌∙◌, refl, sym, ap, subst, ℕ, ◌+◌, ◌<◌, ◌≤◌, List, [], ◌∷◌, ◌++◌, length, codes, Ok, arith}
 use Rattle.std.proofs.lemmas.Bool.{cond-true, lt-ltb}
 use Rattle.std.proofs.lemmas.List.{append-nil, append_assoc}
 use Rattle.std.specs.Option.{option_and_then}
 use Rattle.tree_files.specs.declared.edit.Edit.{Edit}
 use Rattle.rounds_text.specs.declared.draft.Draft.{Draft}
 use Rattle.rounds_text.specs.declared.draft.Stage.TheVariants as stages
-use Rattle.rounds_text.specs.declared.line.Line.{Line}
-use Rattle.rounds_text.specs.declared.line.Line.TheVariants as lines
 use Rattle.rounds_text.specs.declared.rounds.Round.{Round}
 use Rattle.rounds_text.specs.Spelling.{first_line}
-use Rattle.rounds_text.specs.Reading.{start, next, further, with_script, read_on, rounds_in, pieces}
-use Rattle.rounds_text.specs.Grammar.{IsEdit, IsScript, OnLines, IsRound, AreRounds, scripts_in, IsFile}
+use Rattle.rounds_text.specs.Reading.{start, further, read_on, rounds_in, pieces}
+use Rattle.rounds_text.specs.Grammar.{IsEdit, IsScript, OnLines, AreRounds, scripts_in, IsFile}
 use Rattle.rounds_text.proofs.Sayings.{round_found, script_found, edit_found, script_clean, edit_clean}
 use Rattle.rounds_text.proofs.Going.{Goes, goes_refl, goes_then, goes_line, goes_text, edits_draft, scripts_draft}
 

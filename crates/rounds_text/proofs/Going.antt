@@ -1,5 +1,5 @@
 -- How a rounds file is read on, line by line.
-use Rattle.std.proofs.Common.{◌≡◌, ◌∙◌, refl, sym, ap, subst, ℕ, ◌+◌, List, [], ◌∷◌, ◌++◌, true, Some, None, Option, Ok, Err, Result}
+use Rattle.std.proofs.Common.{◌≡◌, ◌∙◌, refl, sym, ap, subst, ℕ, ◌+◌, List, [], ◌∷◌, ◌++◌, true, Some}
 use Rattle.rounds_text.specs.declared.draft.Draft.{Draft}
 use Rattle.rounds_text.specs.declared.draft.Stage.TheVariants as stages
 use Rattle.rounds_text.specs.declared.rounds.Round.{Round}

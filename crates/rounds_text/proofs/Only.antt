@@ -1,11 +1,11 @@
 -- What is read is spelled by the grammar.
-use Rattle.std.proofs.Common.{◌≡◌, ◌∙◌, refl, sym, ap, subst, ℕ, zero, suc, ◌+◌, ◌<◌, ◌≤◌, List, [], ◌∷◌, ◌++◌, length, codes, true, false, Bool, eqb, ltb, nat_lt, cond, ◌&&◌, Some, None, Option, Ok, Err, Result, arith}
+use Rattle.std.proofs.Common.{◌≡◌, ◌∙◌, refl, sym, ap, subst, ℕ, ◌+◌, ◌<◌, ◌≤◌, List, [], ◌∷◌, ◌++◌, length, codes, true, false, Bool, nat_lt, cond, Some, None, Option, Ok, Result, arith}
 use Rattle.std.proofs.lemmas.Bool.{and_parts, ltb-true}
 use Rattle.std.proofs.lemmas.List.{append-nil, append_assoc}
 use Rattle.std.proofs.lemmas.List.Splits.{join_with_byte-slice_split}
 use Rattle.std.proofs.lemmas.Slice.Eq.{bytes_eq-Decides}
 use Rattle.std.specs.List.{list_all, join_with_byte}
-use Rattle.std.specs.Option.{option_and_then, ok_or}
+use Rattle.std.specs.Option.{option_and_then}
 use Rattle.std.specs.Str.{bytes_eq}
 use Rattle.tree_files.specs.declared.edit.Edit.{Edit}
 use Rattle.rounds_text.specs.declared.draft.Draft.{Draft}
@@ -15,8 +15,8 @@ use Rattle.rounds_text.specs.declared.line.Line.TheVariants as lines
 use Rattle.rounds_text.specs.declared.rounds.Round.{Round}
 use Rattle.rounds_text.specs.Spelling.{first_line}
 use Rattle.rounds_text.specs.Lines.{line_in}
-use Rattle.rounds_text.specs.Reading.{start, further, goes, ends, read_on, rounds_in, pieces}
-use Rattle.rounds_text.specs.Grammar.{in_line, IsEdit, IsScript, OnLines, IsRound, AreRounds, scripts_in, IsFile}
+use Rattle.rounds_text.specs.Reading.{start, further, goes, read_on, rounds_in, pieces}
+use Rattle.rounds_text.specs.Grammar.{in_line, IsEdit, IsScript, OnLines, AreRounds, scripts_in, IsFile}
 use Rattle.rounds_text.proofs.Cuts.{pieces_clean}
 use Rattle.rounds_text.proofs.Sayings.{line_taken}
 use Rattle.rounds_text.proofs.Going.{edits_draft, scripts_draft}

@@ -1,8 +1,7 @@
 -- The line at which a rounds file is refused.
-use Rattle.std.proofs.Common.{◌≡◌, ◌∙◌, refl, sym, ap, subst, ℕ, zero, suc, ◌+◌, ◌<◌, ◌≤◌, List, [], ◌∷◌, ◌++◌, length, length-append, codes, true, false, Bool, eqb, nat_lt, cond, ◌&&◌, Some, None, Option, Ok, Err, Result, arith, inl, inr}
+use Rattle.std.proofs.Common.{◌≡◌, ◌∙◌, refl, sym, ap, subst, ℕ, zero, suc, ◌+◌, ◌<◌, List, [], ◌∷◌, ◌++◌, length, length-append, codes, true, nat_lt, cond, Some, None, Option, Ok, Err, Result, arith, inl, inr}
 use Rattle.std.proofs.lemmas.Bool.{and_parts, and_from, ltb-true, lt-ltb, cond-true}
-use Rattle.std.proofs.lemmas.List.{append-nil, append_assoc}
-use Rattle.std.proofs.lemmas.List.Folds.{list_all-append}
+use Rattle.std.proofs.lemmas.List.{append_assoc}
 use Rattle.std.proofs.lemmas.List.Splits.{join_with_byte-slice_split}
 use Rattle.std.proofs.lemmas.Str.{IsUtf8-from_ascii}
 use Rattle.std.specs.List.{list_all, join_with_byte}
@@ -23,8 +22,8 @@ use Rattle.rounds_text.specs.Reading.{start, further, goes, next, next_at, ends,
 use Rattle.rounds_text.specs.Grammar.{in_line, IsPlace, IsScript, IsFile}
 use Rattle.rounds_text.specs.Refusing.{joined_lines, Begins, StopsAt, IsRefusedAt, Says}
 use Rattle.rounds_text.proofs.Cuts.{if_some, pieces_clean}
-use Rattle.rounds_text.proofs.Sayings.{round_found, script_found, script_clean}
-use Rattle.rounds_text.proofs.Going.{step, Goes, goes_refl, goes_then, goes_line, goes_text}
+use Rattle.rounds_text.proofs.Sayings.{round_found, script_found}
+use Rattle.rounds_text.proofs.Going.{step, Goes, goes_line}
 use Rattle.rounds_text.proofs.Found.{file_found}
 use Rattle.rounds_text.proofs.Only.{file_only}
 
@@ -237,5 +236,5 @@ one_list a b bytes f g = let same : Ok a ≡ Ok b = sym (file_found a bytes f) �
 -- what reading line by line answers, said by the grammar
 pub says_from : (bytes : List ℕ) (r : Result Rounds RoundsError) → Reads (rounds_in bytes) r → Says bytes r
 says_from bytes (Ok rounds) h = file_only rounds.list bytes h
-says_from bytes (Err (error.At line)) (n, is, number) = (n, refused_at n bytes is, number)
+says_from bytes (Err (error.At line)) h = refused_at line bytes h
 says_from bytes (Err error.NoMemory) h = tt

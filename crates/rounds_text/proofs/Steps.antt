@@ -1,9 +1,12 @@
 -- Line by line.
-use Rattle.std.proofs.Common.{◌≡◌, ◌∙◌, refl, ap, ℕ, ◌+◌, ◌<◌, ◌≤◌, List, [], ◌∷◌, ◌++◌, length, get_or, drop, map, Bor, Some, None, Err}
+use Rattle.std.proofs.Common.{◌≡◌, ◌∙◌, refl, ap, ℕ, ◌+◌, ◌<◌, ◌≤◌, List, [], ◌∷◌, ◌++◌, length, get_or, drop, map, Bor, Some, None, Result, Err, sym}
 use Rattle.std.proofs.lemmas.List.{drop_more, drop_all, get_or-map, length-map}
 use Rattle.std.specs.Option.{ok_or}
 use Rattle.rounds_text.specs.declared.draft.Draft.{Draft}
-use Rattle.rounds_text.specs.Reading.{next, goes, ends, read_on}
+use Rattle.rounds_text.specs.declared.rounds.Round.{Round}
+use Rattle.rounds_text.specs.declared.rounds.RoundsError.{RoundsError}
+use Rattle.rounds_text.specs.declared.rounds.RoundsError.TheVariants as error
+use Rattle.rounds_text.specs.Reading.{next, goes, ends, read_on, Reads, Tells}
 
 step_on : (at : ℕ) (d : Draft) (line rest : List ℕ) (lines : List (List ℕ)) → read_on at d (line ∷ (lines ++ rest ∷ [])) ≡ goes (next line d) at (λ e. read_on (at + 1) e (lines ++ rest ∷ []))
 step_on at d line rest [] = refl
@@ -36,3 +39,8 @@ pub at_end : (at i : ℕ) (d : Draft) (lines : List (Bor (List ℕ))) (rest : Li
 at_end at i d lines rest high =
     let all : length (texts lines) ≤ i = rw (length-map lines (λ (x : Bor (List ℕ)). x.now)) high in
     ap (λ ls. read_on at d (ls ++ rest ∷ [])) (drop_all i (texts lines) all)
+
+-- what is told of the first line at which no rounds file goes on
+pub told : (expected : Result (List Round) ℕ) (n : ℕ) (e : RoundsError) → expected ≡ Err n → Tells n e → Reads expected (Err e)
+told expected n (error.At line) is tells = is ∙ ap Err (sym tells)
+told expected n error.NoMemory is tells = tt

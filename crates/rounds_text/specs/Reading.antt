@@ -1,5 +1,5 @@
 -- Line by line through a rounds file.
-use Rattle.std.specs.Prelude.{◌≡◌, ℕ, ◌+◌, ◌-◌, ◌^◌, min, List, [], ◌∷◌, ◌++◌, nat_lt, ◌==◌, Option, Some, None, Result, Ok, Err, if◌then◌else◌}
+use Rattle.std.specs.Prelude.{◌≡◌, ℕ, ◌+◌, List, [], ◌∷◌, ◌++◌, nat_lt, ◌==◌, Option, Some, None, Result, Ok, Err, if◌then◌else◌}
 use Rattle.std.specs.List.{slice_split}
 use Rattle.std.specs.Option.{option_map, option_and_then, ok_or}
 use Rattle.std.specs.Str.{bytes_eq}
@@ -99,8 +99,13 @@ pieces bytes = slice_split (λ b. b == 10) bytes
 unfoldable pub rounds_in : List ℕ → Result (List Round) ℕ
 rounds_in bytes = read_on 1 start (pieces bytes)
 
--- what `read_rounds` answers, unless memory is wanted; the number of a line stands still at 2 ^ 32 - 1
+-- what `read_rounds` answers, unless memory is wanted, as it is for a line whose number has no room
 abbrev pub Reads : Result (List Round) ℕ → Result Rounds RoundsError → Type 0
 Reads expected (Ok rounds) = expected ≡ Ok rounds.list
-Reads expected (Err (error.At line)) = (n : ℕ) × (expected ≡ Err n) × (line ≡ min n (2 ^ 32 - 1))
+Reads expected (Err (error.At line)) = expected ≡ Err line
 Reads expected (Err error.NoMemory) = Unit {0}
+
+-- what is said of the line with this number
+abbrev pub Tells : ℕ → RoundsError → Type 0
+Tells n (error.At line) = line ≡ n
+Tells n error.NoMemory = Unit {0}

@@ -1,6 +1,6 @@
 -- The line at which a rounds file is refused: the first at which no rounds file goes on. That is one more than the last line where
 -- only a line is missing, and a last line without LF is such a line.
-use Rattle.std.specs.Prelude.{◌≡◌, ◌⊎◌, ℕ, ◌+◌, ◌-◌, ◌^◌, min, List, [], ◌∷◌, ◌++◌, length, true, Result, Ok, Err}
+use Rattle.std.specs.Prelude.{◌≡◌, ◌⊎◌, ℕ, ◌+◌, List, [], ◌∷◌, ◌++◌, length, true, Result, Ok, Err}
 use Rattle.std.specs.List.{list_all}
 use Rattle.rounds_text.specs.declared.rounds.Round.{Round}
 use Rattle.rounds_text.specs.declared.rounds.Rounds.{Rounds}
@@ -35,8 +35,8 @@ pub record IsRefusedAt (n : ℕ) (bytes : List ℕ) : Type 0 where
   -- and the bytes are no rounds file
   pub none : (rounds : List Round) → IsFile rounds bytes → ⊥
 
--- what the answer of `read_rounds` says of the bytes; the number of a line stands still at 2 ^ 32 - 1
+-- what the answer of `read_rounds` says of the bytes
 abbrev pub Says : List ℕ → Result Rounds RoundsError → Type 0
 Says bytes (Ok rounds) = IsFile rounds.list bytes
-Says bytes (Err (error.At line)) = (n : ℕ) × IsRefusedAt n bytes × (line ≡ min n (2 ^ 32 - 1))
+Says bytes (Err (error.At line)) = IsRefusedAt line bytes
 Says bytes (Err error.NoMemory) = Unit {0}

@@ -1,6 +1,6 @@
 //! From bytes to rounds.
-ghost use Rattle.std.specs.Prelude.{◌≡◌, ◌∷◌, [], ◌++◌, ◌-◌, ◌^◌, min, map, IfOk};
-ghost use Rattle.rounds_text.specs.Reading.{Reads, pieces, read_on, rounds_in, start};
+ghost use Rattle.std.specs.Prelude.{◌≡◌, ◌∷◌, [], ◌++◌, map, IfOk};
+ghost use Rattle.rounds_text.specs.Reading.{Reads, Tells, pieces, read_on, rounds_in, start};
 ghost use Rattle.rounds_text.specs.Refusing.{Says};
 
 use crate::draft::{ended, next, start};
@@ -14,13 +14,14 @@ fn pieces_of(alloc: Global, bytes: &[u8]) -> Result<Vec<&[u8]>, AllocError>
     bytes.split(|b| *b == b'\n').collect(alloc)
 }
 
-fn line_number(n: usize) -> u32
-    ensures { result ≡ min n (2 ^ 32 - 1) }
+/// The refusal at a line. A number without room is want of memory, as everywhere.
+fn refusal(line: usize) -> RoundsError
+    ensures { Tells line result }
 {
-    if n < u32::MAX as usize {
-        n as u32
+    if line <= u32::MAX as usize {
+        RoundsError::At { line: line as u32 }
     } else {
-        u32::MAX
+        RoundsError::NoMemory
     }
 }
 
@@ -33,17 +34,13 @@ fn read_lines(alloc: Global, lines: &[&[u8]], rest: &[u8]) -> Result<Rounds, Rou
         match next(alloc, lines[i], draft)? {
             Some(more) => draft = more,
             None => {
-                return Err(RoundsError::At {
-                    line: line_number(i + 1),
-                });
+                return Err(refusal(i + 1));
             }
         }
     }
     match ended(rest, draft)? {
         Some(rounds) => Ok(rounds),
-        None => Err(RoundsError::At {
-            line: line_number(lines.len() + 1),
-        }),
+        None => Err(refusal(lines.len() + 1)),
     }
 }
 

@@ -1,5 +1,6 @@
 //! What a rounds file says.
 use base_types::{NoMemory, Seq, Texts};
+use thiserror::Error;
 use tree_files::Edit;
 
 /// The edits that are made before a round, in order, and the scripts that run in it.
@@ -17,10 +18,12 @@ pub struct Rounds {
 }
 
 /// Why there are no rounds.
-#[derive(Drop)]
+#[derive(Clone, Copy, Debug, Error)]
 pub enum RoundsError {
-    /// The first line, counted from 1, at which no rounds file goes on. The count stands still at 2 ^ 32 - 1.
+    /// The first line, counted from 1, at which no rounds file goes on.
+    #[error("no rounds file goes on with line {line}")]
     At { line: u32 },
+    #[error("out of memory")]
     NoMemory,
 }
 

@@ -1,11 +1,11 @@
 use Rattle.std.proofs.Common.{◌∙◌, sym, ◌+◌}
-use Rattle.rounds_text.proofs.Steps.{moves, stops}
+use Rattle.rounds_text.proofs.Steps.{moves, stops, told}
 use Rattle.rounds_text.proofs.read.read_lines.Goals as goal
 
 pub returns-in-None : goal.returns-in-None
 returns-in-None c =
     let is = sym c.in_ok-more.ensures ∙ c.in-None.is in
-    (c.loop-i.i + 1, c.loop-i.invariant ∙ stops (c.loop-i.i + 1) c.loop-i.i c.loop-i.draft c.args.lines.now c.args.rest.now _ c.loop-i-test.true is, c.line_number.ensures)
+    told _ (c.loop-i.i + 1) c.refusal.result (c.loop-i.invariant ∙ stops (c.loop-i.i + 1) c.loop-i.i c.loop-i.draft c.args.lines.now c.args.rest.now _ c.loop-i-test.true is) c.refusal.ensures
 
 pub loop-i-preserved : goal.loop-i-preserved
 loop-i-preserved c =

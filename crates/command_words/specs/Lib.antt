@@ -1,0 +1,5 @@
+pub mod Setting
+pub mod Words
+pub mod Taken
+pub mod Parsers
+pub mod Finds
