@@ -1,0 +1,49 @@
+-- What each step tells: of the seat before, the number found, and the seat after.
+use Rattle.std.specs.Prelude.{◌≡◌, ◌≢◌, ℕ, ◌⊎◌, List, [], ◌∷◌, Option, Some, None}
+use mathlib.Core.List.{IsPrefix}
+use Rattle.atomic_table.specs.Table.{Me, Step, rest}
+use Rattle.machine_events.specs.declared.event.Entry.{Entry}
+use Rattle.thread_knowledge.specs.Own.{own}
+use Rattle.machine_book.specs.Bound.{BoundTo}
+use Rattle.machine_book.specs.Outgo.{Outgo, Pieces}
+use Rattle.trace_book.specs.declared.view.View.{View}
+use Rattle.trace_book.specs.declared.view.Phase.TheVariants.{New}
+use Rattle.trace_book.specs.Views.{Has, Rounded, holding, idle, merged, taken_seen, taken_numbers, longer}
+use Rattle.trace_book.specs.Rule.{Sees, Written}
+
+abbrev pub Seated : Type 0 → Type 0
+Seated O = Me (Option (BoundTo O)) View
+
+module _ {O : Type 0} where
+  abbrev pub history_in : Option (BoundTo O) → List Entry
+  history_in (Some b) = b.history
+  history_in None = []
+
+  -- the history of the book that the seat has out
+  abbrev pub history_out : List (ℕ × Option (BoundTo O)) → List Entry
+  history_out [] = []
+  history_out (x ∷ xs) = history_in x.1
+
+  abbrev pub Fills : Step (Option (BoundTo O)) → Seated O → ℕ → Seated O → Type 0
+  Fills s me found after = (h : List Entry) × (after ≡ (holding me.0 h, (0, None) ∷ [])) × (me.0.phase ≡ New h)
+
+  abbrev pub Notes : Step (Option (BoundTo O)) → Seated O → ℕ → Seated O → Type 0
+  Notes s me found after = after ≡ (holding me.0 (history_out me.1), me.1)
+
+  abbrev pub GivesBack : Step (Option (BoundTo O)) → Seated O → ℕ → Seated O → Type 0
+  GivesBack s me found after = after ≡ (idle me.0 (history_out me.1), rest me.1)
+
+  abbrev pub Merges : Step (Option (BoundTo O)) → Seated O → ℕ → Seated O → Type 0
+  Merges s me found after =
+      (after ≡ (merged me.0, me.1)) × (IsPrefix me.0.seen (taken_seen me.0.phase) ⊎ IsPrefix (taken_seen me.0.phase) me.0.seen)
+      × ((i : ℕ) → Has i me.0.numbers → own i (longer me.0.seen (taken_seen me.0.phase)) ≡ own i me.0.seen)
+      × ((i : ℕ) → Has i (taken_numbers me.0.phase) → own i (longer me.0.seen (taken_seen me.0.phase)) ≡ own i (taken_seen me.0.phase))
+      × (Rounded me.0.base me.0.seen → Rounded me.0.base (longer me.0.seen (taken_seen me.0.phase)))
+
+module _ {O : Type 0} (piece : Pieces) (out : O → Outgo) where
+  -- the turn was had, with a book whose history begins with what was seen, and in which the seat's own events are as it knows them
+  abbrev pub Took : Seated O → Seated O → Type 0
+  Took me after = (b : BoundTo O) × (after ≡ (holding me.0 b.history, (0, Some b) ∷ [])) × Written piece out me.0.base b.history b × Sees b.history me.0.numbers me.0.seen
+
+  abbrev pub Takes : Step (Option (BoundTo O)) → Seated O → ℕ → Seated O → Type 0
+  Takes s me found after = (found ≡ 0 → Took me after) × (found ≢ 0 → after ≡ me)

@@ -1,0 +1,419 @@
+//! The table with the book, and what a seat does on it.
+ghost use Rattle.std.specs.Prelude.{◌≡◌, ◌≢◌, ℕ, suc, ◌<◌, ◌≤◌, ◌+◌, ◌^◌, vec_len, vec_capacity, ◌++◌, ◌∷◌, [], ◌⊎◌, IfOk, IfErr, OnErr, IfSome, IfNone, MatchBool, IsTrue};
+ghost use mathlib.Core.List.{IsPrefix};
+ghost use Rattle.machine_events.specs.declared.event.Event.TheVariants as events;
+ghost use Rattle.machine_state.specs.Legal.{Allowed, replay};
+ghost use Rattle.thread_knowledge.specs.Own.{own, Ready as HasTurn};
+ghost use Rattle.thread_knowledge.specs.Knowing.{Knows};
+ghost use Rattle.machine_book.specs.Sight.{Continues, Gains};
+ghost use Rattle.trace_book.specs.declared.view.Phase.TheVariants.{Idle};
+ghost use Rattle.trace_book.specs.Views.{Has, Within, Rounded, idle, view, base_of, first_view, numbers_from, kept_of, longer};
+ghost use Rattle.trace_book.specs.Rule.{Written};
+ghost use Rattle.trace_book.specs.Told.{new_passes, seat_sight};
+ghost use Rattle.trace_book.specs.Plays.{Took, history_out};
+ghost use Rattle.trace_book.specs.Seats.{Ready, Busy, MayMake, Made, Noted, longer_by};
+
+use crate::bell::{Bell, frees};
+use crate::pass::Pass;
+use crate::rule::{Fill, GiveBack, Merge, Note, OneNumber, Opened, Take, Turns};
+use crate::view::View;
+use atomic_table::{Badge, Table};
+use base_types::NoMemory;
+use machine_book::{Book, Halt, Outlet};
+use machine_events::{Event, Reply};
+use machine_knowledge::knows_is_allowed;
+use std::alloc::Global;
+use std::mem::replace;
+use std::sync::Wait;
+
+// A thread's place at the table. It has no bytes.
+pub(crate) type Seat<O> = atomic_table::Seat<Option<Book<O>>, View>;
+
+// The word that says whose turn it is, and its values.
+const TURN: usize = 0;
+
+const FREE: u64 = 0;
+
+const HELD: u64 = 1;
+
+const STOPPED: u64 = 2;
+
+// The word that counts the entries.
+const COUNT: usize = 1;
+
+// The slot of the book.
+const HOME: usize = 0;
+
+/// A book that the threads of one round share.
+#[derive(Drop)]
+pub struct Shelf<O: Outlet> {
+    pub(crate) table: Table<Option<Book<O>>, View, Opened<O>, Turns, Global>,
+    ghost sized: { (table.shared.table_id.words ≡ 2) × (table.shared.table_id.slots ≡ 1) },
+}
+
+impl<O: Outlet> Shelf<O> {
+    // The turn as it was, which the seat has if it was free.
+    fn try_take(&self, seat: &mut Seat<O>, _number: u32) -> u64
+        requires { (seat.old.table_id ≡ self.now.table.shared.table_id) × Ready seat.old.me _number }
+        ensures table { seat.new.table_id ≡ seat.old.table_id }
+        ensures had { result ≡ 0 → Took O.piece O.out seat.old.me seat.new.me }
+        ensures not { result ≢ 0 → seat.new.me ≡ seat.old.me }
+    {
+        self.table
+            .shared
+            .compare_exchange::<Take>(seat, TURN, FREE, HELD)
+    }
+
+    // Gives the turn and the book back.
+    fn give_back(&self, seat: &mut Seat<O>, turn: u64)
+        requires table { seat.old.table_id ≡ self.now.table.shared.table_id }
+        requires busy { Busy O.piece O.out seat.old.me }
+        requires turn { (turn ≡ 0) ⊎ (turn ≡ 2) }
+        ensures table { seat.new.table_id ≡ seat.old.table_id }
+        ensures seat { seat.new.me ≡ (idle seat.old.me.0 (history_out seat.old.me.1), []) }
+    {
+        self.table.shared.swap::<GiveBack>(seat, TURN, turn);
+    }
+
+    // One event on the book, which the seat has.
+    fn note(&self, seat: &mut Seat<O>, number: u32, event: Event) -> Result<Reply, NoMemory>
+        requires table { seat.old.table_id ≡ self.now.table.shared.table_id }
+        requires busy { Busy O.piece O.out seat.old.me }
+        requires may { MayMake seat.old.me number event }
+        ensures table { seat.new.table_id ≡ seat.old.table_id }
+        ensures ok { IfOk result (Noted O.piece O.out seat.old.me seat.new.me number event) }
+        ensures err { OnErr result (seat.new.me ≡ seat.old.me) }
+    {
+        let Some(mut book) = self.table.shared.exchange(seat, HOME, None) else {
+            unreachable!()
+        };
+        book.check_legal();
+        let done = book.step(number, event);
+        let count = book.len() as u64;
+        drop(self.table.shared.exchange(seat, HOME, Some(book)));
+        let reply = done?;
+        self.table.shared.swap::<Note>(seat, COUNT, count);
+        Ok(reply)
+    }
+
+    // Whether the thread may wake now. The seat has the turn.
+    fn may_wake(&self, seat: &mut Seat<O>, number: u32) -> bool
+        requires table { seat.old.table_id ≡ self.now.table.shared.table_id }
+        requires busy { Busy O.piece O.out seat.old.me }
+        ensures table { seat.new.table_id ≡ seat.old.table_id }
+        ensures seat { seat.new.me ≡ seat.old.me }
+        ensures yes { IsTrue result → Allowed (replay seat.old.me.0.base.opening (history_out seat.old.me.1)) number events.Wake }
+    {
+        let Some(book) = self.table.shared.exchange(seat, HOME, None) else {
+            unreachable!()
+        };
+        let may = book.machine().allowed(number, &Event::Wake);
+        drop(self.table.shared.exchange(seat, HOME, Some(book)));
+        may
+    }
+
+    // Makes the event, and gives the turn back. At want of memory the shelf is stopped.
+    fn make(&self, seat: &mut Seat<O>, number: u32, event: Event) -> Result<Reply, NoMemory>
+        requires table { seat.old.table_id ≡ self.now.table.shared.table_id }
+        requires busy { Busy O.piece O.out seat.old.me }
+        requires may { MayMake seat.old.me number event }
+        ensures table { seat.new.table_id ≡ seat.old.table_id }
+        ensures seat { IfOk result (λ reply. seat.new.me ≡ (idle seat.old.me.0 (longer_by seat.old.me number event reply), [])) }
+        ensures made { IfOk result (Made seat.old.me number event) }
+        ensures err { OnErr result (seat.new.me ≡ (idle seat.old.me.0 (history_out seat.old.me.1), [])) }
+    {
+        match self.note(seat, number, event) {
+            Ok(reply) => {
+                self.give_back(seat, FREE);
+                Ok(reply)
+            }
+            Err(refused) => {
+                self.give_back(seat, STOPPED);
+                Err(refused)
+            }
+        }
+    }
+
+    // The turn, or false where the shelf is stopped.
+    fn take_turn<R: Wait>(&self, rt: &R, bell: &Bell, seat: &mut Seat<O>, number: u32) -> bool
+        requires { (seat.old.table_id ≡ self.now.table.shared.table_id) × Ready seat.old.me number }
+        ensures table { seat.new.table_id ≡ seat.old.table_id }
+        ensures had { MatchBool result (Took O.piece O.out seat.old.me seat.new.me) (seat.new.me ≡ seat.old.me) }
+    {
+        for _ in rt.forever() {
+            let turns = bell.turns(rt);
+            let turn = self.try_take(seat, number);
+            if turn == FREE {
+                return true;
+            }
+            if turn == STOPPED {
+                return false;
+            }
+            bell.sleep_for_turn(rt, turns);
+        }
+        unreachable!()
+    }
+
+    /// Makes an event that the thread's own pairs show to be allowed. A stopped shelf answers NoMemory.
+    pub(crate) fn call<R: Wait>(
+        &self,
+        rt: &R,
+        bell: &Bell,
+        seat: &mut Seat<O>,
+        number: u32,
+        event: Event,
+    ) -> Result<Reply, Halt>
+        requires table { seat.old.table_id ≡ self.now.table.shared.table_id }
+        requires ready { Ready seat.old.me number }
+        requires knows { Knows number (own number seat.old.me.0.seen) event }
+        requires turn { HasTurn seat.old.me.0.base.opening.rounds seat.old.me.0.seen number }
+        ensures table { seat.new.table_id ≡ seat.old.table_id }
+        ensures ready { Ready seat.new.me number }
+        ensures continues { Continues (seat_sight seat.old.table_id number seat.old.me.0) (seat_sight seat.old.table_id number seat.new.me.0) }
+        ensures ok { IfOk result (Gains (seat_sight seat.old.table_id number seat.old.me.0) (seat_sight seat.old.table_id number seat.new.me.0) event) }
+        ensures err { OnErr result (own number seat.new.me.0.seen ≡ own number seat.old.me.0.seen) }
+    {
+        knows_is_allowed();
+        if !self.take_turn(rt, bell, seat, number) {
+            drop(event);
+            return Err(Halt::NoMemory);
+        }
+        let freed = frees(&event);
+        let done = self.make(seat, number, event);
+        bell.ring(rt, freed || done.is_err());
+        match done {
+            Ok(reply) => Ok(reply),
+            Err(_) => Err(Halt::NoMemory),
+        }
+    }
+
+    /// Makes the Wake once it is allowed. A stopped shelf answers NoMemory.
+    pub(crate) fn wait<R: Wait>(
+        &self,
+        rt: &R,
+        bell: &Bell,
+        seat: &mut Seat<O>,
+        number: u32,
+    ) -> Result<Reply, Halt>
+        requires table { seat.old.table_id ≡ self.now.table.shared.table_id }
+        requires ready { Ready seat.old.me number }
+        ensures table { seat.new.table_id ≡ seat.old.table_id }
+        ensures ready { Ready seat.new.me number }
+        ensures continues { Continues (seat_sight seat.old.table_id number seat.old.me.0) (seat_sight seat.old.table_id number seat.new.me.0) }
+        ensures ok { IfOk result (Gains (seat_sight seat.old.table_id number seat.old.me.0) (seat_sight seat.old.table_id number seat.new.me.0) events.Wake) }
+        ensures err { OnErr result (own number seat.new.me.0.seen ≡ own number seat.old.me.0.seen) }
+    {
+        for _ in rt.forever() {
+            let locks = bell.locks(rt);
+            if let Some(done) = self.try_wake(rt, bell, seat, number) {
+                return done;
+            }
+            bell.sleep_for_lock(rt, locks);
+        }
+        unreachable!()
+    }
+
+    // Makes the Wake if it is allowed. None where it is not.
+    fn try_wake<R: Wait>(
+        &self,
+        rt: &R,
+        bell: &Bell,
+        seat: &mut Seat<O>,
+        number: u32,
+    ) -> Option<Result<Reply, Halt>>
+        requires table { seat.old.table_id ≡ self.now.table.shared.table_id }
+        requires ready { Ready seat.old.me number }
+        ensures table { seat.new.table_id ≡ seat.old.table_id }
+        ensures ready { Ready seat.new.me number }
+        ensures continues { Continues (seat_sight seat.old.table_id number seat.old.me.0) (seat_sight seat.old.table_id number seat.new.me.0) }
+        ensures ok { IfSome result (λ done. IfOk done (Gains (seat_sight seat.old.table_id number seat.old.me.0) (seat_sight seat.old.table_id number seat.new.me.0) events.Wake)) }
+        ensures err { IfSome result (λ done. OnErr done (own number seat.new.me.0.seen ≡ own number seat.old.me.0.seen)) }
+        ensures none { IfNone result (own number seat.new.me.0.seen ≡ own number seat.old.me.0.seen) }
+    {
+        if !self.take_turn(rt, bell, seat, number) {
+            return Some(Err(Halt::NoMemory));
+        }
+        if !self.may_wake(seat, number) {
+            self.give_back(seat, FREE);
+            bell.ring(rt, false);
+            return None;
+        }
+        let done = self.make(seat, number, Event::Wake);
+        bell.ring(rt, done.is_err());
+        match done {
+            Ok(reply) => Some(Ok(reply)),
+            Err(_) => Some(Err(Halt::NoMemory)),
+        }
+    }
+
+    /// Stops the shelf. It takes no memory.
+    pub(crate) fn stop<R: Wait>(&self, rt: &R, bell: &Bell, seat: &mut Seat<O>, number: u32)
+        requires table { seat.old.table_id ≡ self.now.table.shared.table_id }
+        requires ready { Ready seat.old.me number }
+        ensures table { seat.new.table_id ≡ seat.old.table_id }
+        ensures ready { Ready seat.new.me number }
+        ensures continues { Continues (seat_sight seat.old.table_id number seat.old.me.0) (seat_sight seat.old.table_id number seat.new.me.0) }
+        ensures mine { own number seat.new.me.0.seen ≡ own number seat.old.me.0.seen }
+    {
+        if self.take_turn(rt, bell, seat, number) {
+            self.give_back(seat, STOPPED);
+            bell.ring(rt, true);
+        }
+    }
+
+    // Puts the book into the empty slot, and gives the turn back.
+    fn fill(&self, seat: &mut Seat<O>, book: Book<O>, from: u32, n: u32)
+        requires table { seat.old.table_id ≡ self.now.table.shared.table_id }
+        requires new { seat.old.me ≡ (first_view O.out (book, from, n), []) }
+        ensures table { seat.new.table_id ≡ seat.old.table_id }
+        ensures seat { seat.new.me ≡ (idle seat.old.me.0 book.history, []) }
+    {
+        self.table.shared.swap::<Fill>(seat, TURN, HELD);
+        drop(self.table.shared.exchange(seat, HOME, Some(book)));
+        self.give_back(seat, FREE);
+    }
+
+    // The first number of the seat, in a seat of its own.
+    fn split(&self, seat: &mut Seat<O>, _number: u32) -> Seat<O>
+        requires table { seat.old.table_id ≡ self.now.table.shared.table_id }
+        requires seat { (n : ℕ) × (seat.old.me ≡ (view seat.old.me.0.base (numbers_from _number (suc n)) seat.old.me.0.seen Idle, [])) }
+        ensures table { (seat.new.table_id ≡ seat.old.table_id) × (result.table_id ≡ seat.old.table_id) }
+        ensures seat { seat.new.me ≡ (kept_of seat.old.me.0, []) }
+        ensures new { result.me ≡ (view seat.old.me.0.base (_number ∷ []) seat.old.me.0.seen Idle, []) }
+    {
+        self.table.shared.split_seat::<OneNumber>(seat)
+    }
+
+    // Takes in the numbers and the beginning of another seat.
+    pub(crate) fn merge(&self, into: &mut Seat<O>, other: Seat<O>, _number: u32, _other: u32)
+        requires table { (into.old.table_id ≡ self.now.table.shared.table_id) × (other.table_id ≡ self.now.table.shared.table_id) }
+        requires ready { Ready into.old.me _number × Ready other.me _other }
+        ensures table { into.new.table_id ≡ into.old.table_id }
+        ensures seat { into.new.me ≡ (view into.old.me.0.base (into.old.me.0.numbers ++ other.me.0.numbers) (longer into.old.me.0.seen other.me.0.seen) Idle, []) }
+        ensures begins { IsPrefix into.old.me.0.seen other.me.0.seen ⊎ IsPrefix other.me.0.seen into.old.me.0.seen }
+        ensures into { (i : ℕ) → Has i into.old.me.0.numbers → own i (longer into.old.me.0.seen other.me.0.seen) ≡ own i into.old.me.0.seen }
+        ensures other { (i : ℕ) → Has i other.me.0.numbers → own i (longer into.old.me.0.seen other.me.0.seen) ≡ own i other.me.0.seen }
+        ensures round { Rounded into.old.me.0.base into.old.me.0.seen → Rounded into.old.me.0.base (longer into.old.me.0.seen other.me.0.seen) }
+    {
+        self.table.shared.join_seat::<OneNumber>(into, other);
+        self.table.shared.load::<Merge>(into, TURN);
+    }
+
+    // The book, which is at home if the seat speaks for all numbers of the round.
+    pub(crate) fn close_with(self, seat: Seat<O>, _number: u32) -> Book<O>
+        requires table { seat.table_id ≡ self.table.shared.table_id }
+        requires ready { Ready seat.me _number }
+        requires all { (i : ℕ) → Within seat.me.0.base i → Has i seat.me.0.numbers }
+        ensures { Written O.piece O.out seat.me.0.base seat.me.0.seen result }
+    {
+        let Shelf { table } = self;
+        let mut closed = table.close_with(seat);
+        let slot = closed.take(HOME);
+        closed.free();
+        let Some(book) = slot else { unreachable!() };
+        book
+    }
+
+    // Passes for all numbers of the round, of the seat that speaks for them.
+    fn deal(&self, mut seat: Seat<O>, from: u32, n: u32, passes: &mut Vec<Pass>)
+        requires table { seat.table_id ≡ self.now.table.shared.table_id }
+        requires some { 1 ≤ n }
+        requires fits { from + n ≤ 2 ^ 32 }
+        requires round { (seat.me.0.base.from ≡ from) × (seat.me.0.base.size ≡ n) }
+        requires seat { seat.me ≡ (view seat.me.0.base (numbers_from from n) seat.me.0.base.first Idle, []) }
+        requires room { (passes.old.items ≡ []) × (n ≤ vec_capacity passes.old) }
+        ensures { passes.new.items ≡ new_passes self.now.table.shared.table_id seat.me.0.base from n }
+    {
+        let last = n - 1;
+        for i in 0..last {
+            let other = self.split(&mut seat, from + i);
+            add(
+                passes,
+                Pass {
+                    badge: other.into_badge(),
+                    number: from + i,
+                },
+            );
+        }
+        add(
+            passes,
+            Pass {
+                badge: seat.into_badge(),
+                number: from + last,
+            },
+        );
+    }
+
+    /// A shelf for the round of n scripts from this number on, and a pass for each number.
+    pub fn open(
+        alloc: Global,
+        book: Book<O>,
+        from: u32,
+        n: u32,
+    ) -> Result<(Shelf<O>, Vec<Pass>), Unopened<O>>
+        requires some { 1 ≤ n }
+        requires fits { from + n ≤ 2 ^ 32 }
+        ensures ok { IfOk result (λ r. r.1.items ≡ new_passes r.0.table.shared.table_id (base_of O.out (book, from, n)) from n) }
+        ensures err { IfErr result (λ u. u.book ≡ book) }
+    {
+        let Ok(mut passes) = Vec::with_capacity(alloc, n as usize) else {
+            return Err(Unopened { book });
+        };
+        let count = book.len() as u64;
+        let about = (book, from, n);
+        let made = Table::vacant(alloc, &[HELD, count], 1, &about);
+        let (book, _, _) = about;
+        let Ok((table, mut seat)) = made else {
+            return Err(Unopened { book });
+        };
+        let shelf = Shelf { table };
+        shelf.fill(&mut seat, book, from, n);
+        shelf.deal(seat, from, n, &mut passes);
+        Ok((shelf, passes))
+    }
+
+    /// The book, where all other passes were gathered into this one. It takes no memory.
+    pub fn close(self, pass: Pass) -> Book<O>
+        requires table { pass.table ≡ self.table.shared.table_id }
+        requires all { (i : ℕ) → Within pass.base i → Has i pass.numbers }
+        ensures { Written O.piece O.out pass.base pass.seen result }
+    {
+        let Pass { badge, number } = pass;
+        self.close_with(badge.into_seat(), number)
+    }
+}
+
+/// Takes in another pass of the shelf, with its numbers. It takes no memory.
+pub fn gather<O: Outlet>(shelf: &Shelf<O>, into: &mut Pass, other: Pass)
+    requires { (into.old.table ≡ shelf.now.table.shared.table_id) × (other.table ≡ shelf.now.table.shared.table_id) }
+    ensures same { (into.new.table ≡ into.old.table) × (into.new.base ≡ into.old.base) × (into.new.number ≡ into.old.number) }
+    ensures numbers { into.new.numbers ≡ into.old.numbers ++ other.numbers }
+    ensures seen { into.new.seen ≡ longer into.old.seen other.seen }
+    ensures begins { IsPrefix into.old.seen other.seen ⊎ IsPrefix other.seen into.old.seen }
+    ensures into_calls { (i : ℕ) → Has i into.old.numbers → own i into.new.seen ≡ own i into.old.seen }
+    ensures other_calls { (i : ℕ) → Has i other.numbers → own i into.new.seen ≡ own i other.seen }
+{
+    let Pass { badge, number } = other;
+    let mine = replace(&mut into.badge, Badge::blank());
+    let mut seat = mine.into_seat();
+    shelf.merge(&mut seat, badge.into_seat(), into.number, number);
+    into.badge = seat.into_badge();
+}
+
+// There is room for it.
+fn add(passes: &mut Vec<Pass>, pass: Pass)
+    requires { vec_len passes.old < vec_capacity passes.old }
+    ensures items { passes.new.items ≡ passes.old.items ++ pass ∷ [] }
+    ensures len { vec_len passes.new ≡ vec_len passes.old + 1 }
+    ensures room { vec_capacity passes.old ≤ vec_capacity passes.new }
+{
+    if passes.push(pass).is_err() {
+        unreachable!()
+    }
+}
+
+/// There was no memory. The book comes back as it was.
+#[derive(Drop)]
+pub struct Unopened<O: Outlet> {
+    pub book: Book<O>,
+}
