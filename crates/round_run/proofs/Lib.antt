@@ -1,0 +1,4 @@
+pub mod Places
+pub mod Threads
+pub mod Seats
+pub mod Gathering
