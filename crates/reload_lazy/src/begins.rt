@@ -12,8 +12,7 @@ ghost use Rattle.reload_lazy.specs.declared.reloader.Awaited.TheVariants as awai
 
 use crate::locates::read_path;
 use crate::raises::{fail, misfit_reply};
-use crate::reloader::{Awaited, Reloader};
-use crate::waits::wait_for;
+use crate::reloader::{Awaited, ReloadStage, Reloader};
 use base_types::{Exact, NoMemory};
 use find_load::Want;
 use machine_events::{Event, Reply};
@@ -27,8 +26,8 @@ fn ask(p: &mut Reloader, name: Dotted) -> Want
     ensures goes { ReloadGoes (λ inside. begins inside (called p.old name)) p.new result }
 {
     let mid = p.module.mid;
-    let begin = Want::Call(Event::ReloadBegin { mid, raw: false });
-    wait_for(p, name, Awaited::Asked, begin)
+    p.stage = ReloadStage::Awaits(name, Awaited::Asked);
+    Want::Call(Event::ReloadBegin { mid, raw: false })
 }
 
 /// The reload begins, where the module's name is a dotted one.
@@ -79,7 +78,8 @@ fn rouse(p: &mut Reloader, name: Dotted) -> Result<Want, NoMemory>
         name: name.owned()?,
         place: p.module.place.copy()?,
     };
-    Ok(wait_for(p, name, Awaited::Roused, Want::Rouse(module)))
+    p.stage = ReloadStage::Awaits(name, Awaited::Roused);
+    Ok(Want::Rouse(module))
 }
 
 /// The machine was asked to begin the reload of a module that may be lazy.
@@ -97,8 +97,8 @@ fn ask_raw(p: &mut Reloader, name: Dotted) -> Want
     ensures goes { ReloadGoes (λ inside. begins_raw inside (called p.old name)) p.new result }
 {
     let mid = p.module.mid;
-    let begin = Want::Call(Event::ReloadBegin { mid, raw: true });
-    wait_for(p, name, Awaited::AskedRaw, begin)
+    p.stage = ReloadStage::Awaits(name, Awaited::AskedRaw);
+    Want::Call(Event::ReloadBegin { mid, raw: true })
 }
 
 /// The first use of the lazy module has ended.

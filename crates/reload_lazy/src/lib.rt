@@ -12,7 +12,6 @@ mod reloader;
 mod rouse;
 mod rouser;
 mod takes;
-mod waits;
 
 pub use reload::next as next_of_reload;
 pub use reloader::{Awaited, Finding, ReloadStage, Reloader};

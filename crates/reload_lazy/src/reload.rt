@@ -134,10 +134,7 @@ fn after_file(
 {
     match input {
         In::Opened(text) => opened(p, name, epoch, spec, text),
-        other => {
-            drop(spec);
-            misfit(p, other)
-        }
+        other => misfit(p, other),
     }
 }
 
@@ -153,10 +150,7 @@ fn after_take(
 {
     match input {
         In::Replied(reply) => took(p, name, epoch, finding, reply),
-        other => {
-            drop(finding);
-            misfit(p, other)
-        }
+        other => misfit(p, other),
     }
 }
 
@@ -172,10 +166,7 @@ fn after_wait(
 {
     match input {
         In::Woken => take(p, name, epoch, finding),
-        other => {
-            drop(finding);
-            misfit(p, other)
-        }
+        other => misfit(p, other),
     }
 }
 
@@ -204,10 +195,7 @@ fn after_keep(p: &mut Reloader, name: Dotted, load: u32, input: In) -> Result<Wa
     ensures goes { IfOk result (ReloadGoes (does_at p.old name (await.SpaceKept load) input) p.new) }
 {
     match input {
-        In::Replied(reply) => {
-            drop(reply);
-            Ok(end(p, name, load, Flow::Went(Value::Nothing)))
-        }
+        In::Replied(_) => Ok(end(p, name, load, Flow::Went(Value::Nothing))),
         other => misfit(p, other),
     }
 }
@@ -218,10 +206,7 @@ fn after_end(p: &mut Reloader, name: Dotted, flow: Flow, input: In) -> Result<Wa
 {
     match input {
         In::Replied(reply) => ended(p, name, flow, reply),
-        other => {
-            drop(flow);
-            misfit(p, other)
-        }
+        other => misfit(p, other),
     }
 }
 
@@ -231,14 +216,8 @@ fn after_stop(p: &mut Reloader, name: Dotted, fault: Fault, input: In) -> Result
 {
     drop(name);
     match input {
-        In::Replied(reply) => {
-            drop(reply);
-            fail(p, fault)
-        }
-        other => {
-            drop(fault);
-            misfit(p, other)
-        }
+        In::Replied(_) => fail(p, fault),
+        other => misfit(p, other),
     }
 }
 
@@ -248,14 +227,8 @@ fn after_leave(p: &mut Reloader, name: Dotted, flow: Flow, input: In) -> Result<
 {
     drop(name);
     match input {
-        In::Replied(reply) => {
-            drop(reply);
-            Ok(Want::End(flow))
-        }
-        other => {
-            drop(flow);
-            misfit(p, other)
-        }
+        In::Replied(_) => Ok(Want::End(flow)),
+        other => misfit(p, other),
     }
 }
 

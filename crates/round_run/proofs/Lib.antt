@@ -1,4 +1,0 @@
-pub mod Places
-pub mod Threads
-pub mod Seats
-pub mod Gathering
