@@ -18,6 +18,10 @@ within p inside = lazily p.is_lazy inside
 abbrev pub does_at : Importer → Stage → In → Inside → Piece
 does_at p at input inside = does (within p inside) p.turns p.name at input
 
+-- the same by whatever it is fed
+abbrev pub goes_on_by : Importer → Stage → Inside → In → Piece
+goes_on_by p at inside input = does (within p inside) p.turns p.name at input
+
 -- its next turn: a look into the cache and what follows
 abbrev pub again : Importer → Inside → Piece
 again p inside = asks (within p inside) p.turns false p.name

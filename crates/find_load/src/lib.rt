@@ -9,6 +9,7 @@ mod locates;
 mod looks;
 mod raises;
 mod steps;
+mod waits;
 mod words;
 
 pub use files::path_of;

@@ -13,6 +13,7 @@ use crate::looks::{answer, ask};
 use crate::raises::{
     give_back, give_back_misfit, give_back_not_found, lost, lost_parent, misfit_reply,
 };
+use crate::waits::wait_for;
 use crate::words::Want;
 use base_types::{Exact, NoMemory, Seq, Texts, TreePath};
 use machine_events::{Event, Reply};
@@ -28,8 +29,8 @@ fn read_file(p: &mut Importer, spec: Spec, file: Option<TreePath>) -> Result<Wan
 {
     match file {
         Some(file) => {
-            p.stage = Stage::File(spec);
-            Ok(Want::File(file))
+            let file = Want::File(file);
+            Ok(wait_for(p, Stage::File(spec), file))
         }
         None => give_back_not_found(p),
     }
@@ -64,15 +65,13 @@ fn add_namespace(
     let kind = SpecKind::Namespace {
         path: portions.copy()?,
     };
-    p.stage = Stage::NamespaceAdded {
+    let stage = Stage::NamespaceAdded {
         epoch,
         path,
         portions,
     };
-    Ok(Want::Call(Event::Add {
-        spec: Spec { name, kind },
-        text,
-    }))
+    let spec = Spec { name, kind };
+    Ok(wait_for(p, stage, Want::Call(Event::Add { spec, text })))
 }
 
 /// What the search came to, on this path.
@@ -95,17 +94,16 @@ pub(crate) fn discover(
 fn add(p: &mut Importer, spec: Spec, text: Seq<u8>) -> Result<Want, NoMemory>
     ensures goes { IfOk result (Goes (λ inside. adds (within p.old inside) (again p.old inside) p.old.name spec text) p.new) }
 {
-    let kept = text.copy()?;
-    p.stage = Stage::Added(kept);
-    Ok(Want::Call(Event::Add { spec, text }))
+    let stage = Stage::Added(text.copy()?);
+    Ok(wait_for(p, stage, Want::Call(Event::Add { spec, text })))
 }
 
 /// A lazy module of a file is made: the machine alone keeps its text.
 fn add_lazy(p: &mut Importer, spec: Spec, text: Seq<u8>) -> Want
     ensures goes { Goes (λ inside. adds_lazy p.old.name spec text) p.new result }
 {
-    p.stage = Stage::AddedLazy;
-    Want::Call(Event::AddLazy { spec, text })
+    let add = Want::Call(Event::AddLazy { spec, text });
+    wait_for(p, Stage::AddedLazy, add)
 }
 
 /// The module of a file is made, whose body runs now, or at its first use.
@@ -146,14 +144,13 @@ pub(crate) fn opened(
 fn run_body(p: &mut Importer, mid: u32, load: u32, text: Seq<u8>) -> Result<Want, NoMemory>
     ensures goes { IfOk result (Goes (does_at p.old (stages.Added text) (ins.Replied (replies.Load load mid))) p.new) }
 {
-    let name = p.name.owned()?;
-    p.stage = Stage::Running(load);
-    Ok(Want::Body {
+    let body = Want::Body {
         mid,
         load,
-        name,
+        name: p.name.owned()?,
         text,
-    })
+    };
+    Ok(wait_for(p, Stage::Running(load), body))
 }
 
 /// The module was made: its body runs.
@@ -186,8 +183,8 @@ pub(crate) fn namespace_added(
 {
     match reply {
         Reply::Load(load, mid) => {
-            p.stage = Stage::NamespaceKept(load);
-            Ok(Want::Call(Event::NsSet { mid, state }))
+            let keep = Want::Call(Event::NsSet { mid, state });
+            Ok(wait_for(p, Stage::NamespaceKept(load), keep))
         }
         other => give_back_misfit(p, other),
     }
@@ -197,8 +194,8 @@ pub(crate) fn namespace_added(
 pub(crate) fn finish(p: &mut Importer, load: u32) -> Want
     ensures goes { Goes (λ inside. namespace_made (again p.old inside) p.old.name load) p.new result }
 {
-    p.stage = Stage::Finished;
-    Want::Call(Event::Finish { load, good: true })
+    let finish = Want::Call(Event::Finish { load, good: true });
+    wait_for(p, Stage::Finished, finish)
 }
 
 /// The body of the module ended.
@@ -206,10 +203,13 @@ pub(crate) fn ended(p: &mut Importer, load: u32, flow: Flow) -> Want
     ensures goes { Goes (does_at p.old (stages.Running load) (ins.Ended flow)) p.new result }
 {
     match flow {
-        Flow::Went(_) => finish(p, load),
+        Flow::Went(value) => {
+            drop(value);
+            finish(p, load)
+        }
         Flow::Left(leave) => {
-            p.stage = Stage::Left(Flow::Left(leave));
-            Want::Call(Event::Finish { load, good: false })
+            let finish = Want::Call(Event::Finish { load, good: false });
+            wait_for(p, Stage::Left(Flow::Left(leave)), finish)
         }
     }
 }

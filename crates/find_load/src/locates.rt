@@ -12,6 +12,7 @@ use crate::import::{Importer, Stage, most};
 use crate::raises::{
     give_back_and, give_back_lost, give_back_misfit, give_back_not_package, parent_of,
 };
+use crate::waits::wait_for;
 use crate::words::Want;
 use base_types::{Exact, NoMemory};
 use machine_events::{Event, Reply, Slot};
@@ -23,17 +24,15 @@ use spec_core::Dotted;
 fn read_entry(p: &mut Importer, epoch: u64, parent: Dotted) -> Result<Want, NoMemory>
     ensures goes { IfOk result (Goes (λ inside. reads_path (within p.old inside) (found_on p.old epoch inside) p.old.name (Some parent)) p.new) }
 {
-    let event = Event::TabGet(parent.copy()?);
-    p.stage = Stage::ParentEntry { epoch, parent };
-    Ok(Want::Call(event))
+    let entry = Want::Call(Event::TabGet(parent.copy()?));
+    Ok(wait_for(p, Stage::ParentEntry { epoch, parent }, entry))
 }
 
 /// The search path is read.
 fn read_search_path(p: &mut Importer, epoch: u64) -> Want
     ensures goes { Goes (λ inside. reads_path (within p.old inside) (found_on p.old epoch inside) p.old.name None) p.new result }
 {
-    p.stage = Stage::SearchPath(epoch);
-    Want::Call(Event::PathGet)
+    wait_for(p, Stage::SearchPath(epoch), Want::Call(Event::PathGet))
 }
 
 /// With the lock the path is read: for a name without a dot the search path, for any other that of the module
@@ -53,8 +52,8 @@ fn find(p: &mut Importer, epoch: u64, path: Items) -> Result<Want, NoMemory>
 {
     let name = p.name.copy()?;
     let kept = path.copy()?;
-    p.stage = Stage::Searched { epoch, path: kept };
-    Ok(Want::Find { name, path })
+    let search = Want::Find { name, path };
+    Ok(wait_for(p, Stage::Searched { epoch, path: kept }, search))
 }
 
 /// The search path was read.
@@ -71,11 +70,11 @@ pub(crate) fn on_search_path(p: &mut Importer, epoch: u64, reply: Reply) -> Resu
 fn read_path(p: &mut Importer, epoch: u64, parent: Dotted, module: ModRef) -> Want
     ensures goes { Goes (λ inside. on_parent (within p.old inside) (found_on p.old epoch inside) p.old.name parent (slots.Module «module»)) p.new result }
 {
-    p.stage = Stage::ParentPath { epoch, parent };
-    Want::Path {
+    let path = Want::Path {
         module,
         turns: most(),
-    }
+    };
+    wait_for(p, Stage::ParentPath { epoch, parent }, path)
 }
 
 /// What stands in the parent's entry.

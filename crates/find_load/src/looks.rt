@@ -11,6 +11,7 @@ ghost use Rattle.find_load.specs.declared.words.In.TheVariants as ins;
 use crate::import::{Importer, Stage, most};
 use crate::locates::locate;
 use crate::raises::{deadlock, halted, misfit_reply, parent_of};
+use crate::waits::wait_for;
 use crate::words::Want;
 use base_types::{Exact, NoMemory};
 use machine_events::{Event, Reply};
@@ -21,11 +22,11 @@ use py_value::{ModRef, Value};
 fn overspend(p: &mut Importer, is_parent: bool) -> Want
     ensures goes { Goes (λ inside. asks (within p.old inside) 0 is_parent p.old.name) p.new result }
 {
-    p.stage = Stage::Begins(is_parent);
-    Want::Pay {
+    let payment = Want::Pay {
         of_tree: false,
         units: most(),
-    }
+    };
+    wait_for(p, Stage::Begins(is_parent), payment)
 }
 
 /// A turn is taken: a look into the cache.
@@ -33,10 +34,9 @@ fn look(p: &mut Importer, is_parent: bool) -> Result<Want, NoMemory>
     requires { 0 < p.old.turns }
     ensures goes { IfOk result (Goes (λ inside. asks (within p.old inside) p.old.turns is_parent p.old.name) p.new) }
 {
-    let event = Event::Ask(p.name.copy()?);
+    let look = Want::Call(Event::Ask(p.name.copy()?));
     p.turns -= 1;
-    p.stage = Stage::Asked(is_parent);
-    Ok(Want::Call(event))
+    Ok(wait_for(p, Stage::Asked(is_parent), look))
 }
 
 /// The next turn; whether it is the first of a parent.
@@ -60,8 +60,7 @@ pub(crate) fn answer(p: &mut Importer, module: ModRef) -> Want
 fn wait(p: &mut Importer) -> Want
     ensures goes { Goes (λ inside s k. Makes ev.Wake (λ _. again p.old inside s k)) p.new result }
 {
-    p.stage = Stage::Waits;
-    Want::Wait
+    wait_for(p, Stage::Waits, Want::Wait)
 }
 
 /// What any look into the cache leads to where the name is in it or is locked.
@@ -92,9 +91,8 @@ fn halt(p: &mut Importer, is_parent: bool) -> Result<Want, NoMemory>
 pub(crate) fn take(p: &mut Importer) -> Result<Want, NoMemory>
     ensures goes { IfOk result (Goes (λ inside. takes (within p.old inside) (again p.old inside) p.old.name) p.new) }
 {
-    let event = Event::Take(p.name.copy()?);
-    p.stage = Stage::Taken;
-    Ok(Want::Call(event))
+    let take = Want::Call(Event::Take(p.name.copy()?));
+    Ok(wait_for(p, Stage::Taken, take))
 }
 
 /// The name is not in the cache: its parent is imported, before its own lock is asked for.
@@ -102,10 +100,7 @@ fn miss(p: &mut Importer) -> Result<Want, NoMemory>
     ensures goes { IfOk result (Goes (λ inside. misses (within p.old inside) (again p.old inside) p.old.name) p.new) }
 {
     match parent_of(&p.name)? {
-        Some(parent) => {
-            p.stage = Stage::Parent;
-            Ok(Want::Import(parent))
-        }
+        Some(parent) => Ok(wait_for(p, Stage::Parent, Want::Import(parent))),
         None => take(p),
     }
 }

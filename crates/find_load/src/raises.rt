@@ -9,6 +9,7 @@ ghost use Rattle.py_meaning.specs.Imports.{gives_back, gives_back_and};
 ghost use Rattle.find_load.specs.Means.{Goes};
 
 use crate::import::{Importer, Stage};
+use crate::waits::wait_for;
 use crate::words::{In, Want};
 use base_types::{Exact, NoMemory};
 use machine_events::{Event, Reply};
@@ -94,9 +95,8 @@ pub(crate) fn lost_parent(p: &mut Importer) -> Result<Want, NoMemory>
 pub(crate) fn give_back(p: &mut Importer, fault: Fault) -> Result<Want, NoMemory>
     ensures goes { IfOk result (Goes (λ inside. gives_back p.old.name fault) p.new) }
 {
-    let event = Event::Release(p.name.copy()?);
-    p.stage = Stage::Released(fault);
-    Ok(Want::Call(event))
+    let release = Want::Call(Event::Release(p.name.copy()?));
+    Ok(wait_for(p, Stage::Released(fault), release))
 }
 
 /// The lock is given back, since the reply is none that the event can have.
@@ -136,7 +136,6 @@ pub(crate) fn give_back_lost(p: &mut Importer, parent: Dotted) -> Result<Want, N
 pub(crate) fn give_back_and(p: &mut Importer, leave: Leave) -> Result<Want, NoMemory>
     ensures goes { IfOk result (Goes (λ inside. gives_back_and p.old.name (flows.Left leave)) p.new) }
 {
-    let event = Event::Release(p.name.copy()?);
-    p.stage = Stage::Left(Flow::Left(leave));
-    Ok(Want::Call(event))
+    let release = Want::Call(Event::Release(p.name.copy()?));
+    Ok(wait_for(p, Stage::Left(Flow::Left(leave)), release))
 }

@@ -42,7 +42,10 @@ fn parent_ended(p: &mut Importer, flow: Flow) -> Result<Want, NoMemory>
     ensures goes { IfOk result (Goes (does_at p.old stages.Parent (ins.Ended flow)) p.new) }
 {
     match flow {
-        Flow::Went(_) => take(p),
+        Flow::Went(value) => {
+            drop(value);
+            take(p)
+        }
         Flow::Left(leave) => Ok(Want::End(Flow::Left(leave))),
     }
 }
@@ -177,7 +180,10 @@ fn after_keep(p: &mut Importer, load: u32, input: In) -> Result<Want, NoMemory>
     ensures goes { IfOk result (Goes (does_at p.old (stages.NamespaceKept load) input) p.new) }
 {
     match input {
-        In::Replied(_) => Ok(finish(p, load)),
+        In::Replied(reply) => {
+            drop(reply);
+            Ok(finish(p, load))
+        }
         other => misfit(p, other),
     }
 }
@@ -197,8 +203,14 @@ fn after_release(p: &mut Importer, fault: Fault, input: In) -> Result<Want, NoMe
     ensures goes { IfOk result (Goes (does_at p.old (stages.Released fault) input) p.new) }
 {
     match input {
-        In::Replied(_) => fail(p, fault),
-        other => misfit(p, other),
+        In::Replied(reply) => {
+            drop(reply);
+            fail(p, fault)
+        }
+        other => {
+            drop(fault);
+            misfit(p, other)
+        }
     }
 }
 
@@ -207,8 +219,14 @@ fn after_leave(p: &mut Importer, flow: Flow, input: In) -> Result<Want, NoMemory
     ensures goes { IfOk result (Goes (does_at p.old (stages.Left flow) input) p.new) }
 {
     match input {
-        In::Replied(_) => Ok(Want::End(flow)),
-        other => misfit(p, other),
+        In::Replied(reply) => {
+            drop(reply);
+            Ok(Want::End(flow))
+        }
+        other => {
+            drop(flow);
+            misfit(p, other)
+        }
     }
 }
 

@@ -24,6 +24,10 @@ called p n = named p.module n
 abbrev pub does_at : Reloader → List ℕ → Awaited → In → Inside → Piece
 does_at p n at input inside = awaits inside p.turns (called p n) at input
 
+-- the same by whatever it is fed
+abbrev pub goes_on_by : Reloader → List ℕ → Awaited → Inside → In → Piece
+goes_on_by p n at inside input = awaits inside p.turns (called p n) at input
+
 -- its next turn: the lock is asked for
 abbrev pub again : Reloader → List ℕ → ℕ → Finding → Inside → Piece
 again p n epoch finding inside = takes inside p.turns (called p n) epoch finding

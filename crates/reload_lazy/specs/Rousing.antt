@@ -11,6 +11,10 @@ use Rattle.reload_lazy.specs.declared.rouser.Rouser.{Rouser}
 abbrev pub does_at : Rouser → RouseStage → In → Inside → Piece
 does_at p at input inside = does inside.body p.turns p.module at input
 
+-- the same by whatever it is fed
+abbrev pub goes_on_by : Rouser → RouseStage → Inside → In → Piece
+goes_on_by p at inside input = does inside.body p.turns p.«module» at input
+
 -- its next turn
 abbrev pub again : Rouser → Inside → Piece
 again p inside = rouses inside.body p.turns p.module

@@ -12,7 +12,8 @@ ghost use Rattle.reload_lazy.specs.declared.reloader.Awaited.TheVariants as awai
 
 use crate::locates::read_path;
 use crate::raises::{fail, misfit_reply};
-use crate::reloader::{Awaited, ReloadStage, Reloader};
+use crate::reloader::{Awaited, Reloader};
+use crate::waits::wait_for;
 use base_types::{Exact, NoMemory};
 use find_load::Want;
 use machine_events::{Event, Reply};
@@ -26,8 +27,8 @@ fn ask(p: &mut Reloader, name: Dotted) -> Want
     ensures goes { ReloadGoes (λ inside. begins inside (called p.old name)) p.new result }
 {
     let mid = p.module.mid;
-    p.stage = ReloadStage::Awaits(name, Awaited::Asked);
-    Want::Call(Event::ReloadBegin { mid, raw: false })
+    let begin = Want::Call(Event::ReloadBegin { mid, raw: false });
+    wait_for(p, name, Awaited::Asked, begin)
 }
 
 /// The reload begins, where the module's name is a dotted one.
@@ -78,8 +79,7 @@ fn rouse(p: &mut Reloader, name: Dotted) -> Result<Want, NoMemory>
         name: name.owned()?,
         place: p.module.place.copy()?,
     };
-    p.stage = ReloadStage::Awaits(name, Awaited::Roused);
-    Ok(Want::Rouse(module))
+    Ok(wait_for(p, name, Awaited::Roused, Want::Rouse(module)))
 }
 
 /// The machine was asked to begin the reload of a module that may be lazy.
@@ -97,8 +97,8 @@ fn ask_raw(p: &mut Reloader, name: Dotted) -> Want
     ensures goes { ReloadGoes (λ inside. begins_raw inside (called p.old name)) p.new result }
 {
     let mid = p.module.mid;
-    p.stage = ReloadStage::Awaits(name, Awaited::AskedRaw);
-    Want::Call(Event::ReloadBegin { mid, raw: true })
+    let begin = Want::Call(Event::ReloadBegin { mid, raw: true });
+    wait_for(p, name, Awaited::AskedRaw, begin)
 }
 
 /// The first use of the lazy module has ended.

@@ -9,7 +9,8 @@ ghost use Rattle.reload_lazy.specs.Reloading.{called, does_at};
 ghost use Rattle.reload_lazy.specs.declared.reloader.Awaited.TheVariants as await;
 
 use crate::raises::{fail, misfit_reply};
-use crate::reloader::{Awaited, ReloadStage, Reloader};
+use crate::reloader::{Awaited, Reloader};
+use crate::waits::wait_for;
 use base_types::NoMemory;
 use find_load::Want;
 use machine_events::{Event, Reply, Slot};
@@ -23,11 +24,11 @@ pub(crate) fn end(p: &mut Reloader, name: Dotted, load: u32, flow: Flow) -> Want
     ensures goes { ReloadGoes (λ inside. ends (called p.old name) load flow) p.new result }
 {
     let mid = p.module.mid;
-    p.stage = ReloadStage::Awaits(name, Awaited::Ended(flow));
-    Want::Call(Event::ReloadEnd {
+    let end = Want::Call(Event::ReloadEnd {
         mid,
         load: Some(load),
-    })
+    });
+    wait_for(p, name, Awaited::Ended(flow), end)
 }
 
 /// The answer is the entry that the name has then.

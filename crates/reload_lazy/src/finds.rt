@@ -8,8 +8,9 @@ ghost use Rattle.reload_lazy.specs.Reloading.{called, does_at};
 ghost use Rattle.reload_lazy.specs.declared.reloader.Awaited.TheVariants as await;
 
 use crate::raises::{stop, stop_not_found};
-use crate::reloader::{Awaited, Finding, ReloadStage, Reloader};
+use crate::reloader::{Awaited, Finding, Reloader};
 use crate::takes::take_first;
+use crate::waits::wait_for;
 use base_types::{Exact, NoMemory, Seq, TreePath};
 use find_load::{Want, path_of};
 use path_finder::Found;
@@ -32,8 +33,7 @@ fn seek(p: &mut Reloader, name: Dotted, epoch: u64, path: Items, search: Want) -
     requires { search ≡ wants.Find name path }
     ensures goes { ReloadGoes (λ inside. finds inside (called p.old name) epoch path) p.new result }
 {
-    p.stage = ReloadStage::Awaits(name, Awaited::Searched { epoch, path });
-    search
+    wait_for(p, name, Awaited::Searched { epoch, path }, search)
 }
 
 /// The name is searched on a path.
@@ -67,8 +67,8 @@ fn read_source(
 {
     match file {
         Some(file) => {
-            p.stage = ReloadStage::Awaits(name, Awaited::File { epoch, spec });
-            Ok(Want::File(file))
+            let file = Want::File(file);
+            Ok(wait_for(p, name, Awaited::File { epoch, spec }, file))
         }
         None => {
             drop(spec);

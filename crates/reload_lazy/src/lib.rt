@@ -12,6 +12,7 @@ mod reloader;
 mod rouse;
 mod rouser;
 mod takes;
+mod waits;
 
 pub use reload::next as next_of_reload;
 pub use reloader::{Awaited, Finding, ReloadStage, Reloader};

@@ -11,7 +11,8 @@ ghost use Rattle.reload_lazy.specs.declared.reloader.Awaited.TheVariants as awai
 
 use crate::finds::find;
 use crate::raises::{stop, stop_and, stop_misfit};
-use crate::reloader::{Awaited, ReloadStage, Reloader};
+use crate::reloader::{Awaited, Reloader};
+use crate::waits::wait_for;
 use base_types::{Exact, NoMemory, Text};
 use find_load::{Want, most, parent_of};
 use machine_events::{Event, Reply, Slot};
@@ -24,17 +25,20 @@ use spec_core::Dotted;
 fn read_entry(p: &mut Reloader, name: Dotted, epoch: u64, parent: Dotted) -> Result<Want, NoMemory>
     ensures goes { IfOk result (ReloadGoes (reads_path_of p.old name epoch (Some parent)) p.new) }
 {
-    let event = Event::TabGet(parent.copy()?);
-    p.stage = ReloadStage::Awaits(name, Awaited::ParentEntry { epoch, parent });
-    Ok(Want::Call(event))
+    let entry = Want::Call(Event::TabGet(parent.copy()?));
+    Ok(wait_for(p, name, Awaited::ParentEntry { epoch, parent }, entry))
 }
 
 /// The search path is read.
 fn read_search_path(p: &mut Reloader, name: Dotted, epoch: u64) -> Want
     ensures goes { ReloadGoes (reads_path_of p.old name epoch None) p.new result }
 {
-    p.stage = ReloadStage::Awaits(name, Awaited::SearchPath(epoch));
-    Want::Call(Event::PathGet)
+    wait_for(
+        p,
+        name,
+        Awaited::SearchPath(epoch),
+        Want::Call(Event::PathGet),
+    )
 }
 
 /// The path is read: for a name without a dot the search path, for any other that of the module which
@@ -67,12 +71,11 @@ pub(crate) fn on_search_path(
 fn read_parent(p: &mut Reloader, name: Dotted, epoch: u64, parent: ModRef) -> Result<Want, NoMemory>
     ensures goes { IfOk result (ReloadGoes (on_entry_of p.old name epoch [] (slots.Module parent)) p.new) }
 {
-    let module = parent.copy()?;
-    p.stage = ReloadStage::Awaits(name, Awaited::ParentPath { epoch, parent });
-    Ok(Want::Path {
-        module,
+    let path = Want::Path {
+        module: parent.copy()?,
         turns: most(),
-    })
+    };
+    Ok(wait_for(p, name, Awaited::ParentPath { epoch, parent }, path))
 }
 
 /// The parent has no entry.

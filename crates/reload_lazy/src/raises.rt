@@ -7,7 +7,8 @@ ghost use Rattle.py_meaning.specs.Reload.{stops_and};
 ghost use Rattle.reload_lazy.specs.Reload.{ReloadGoes};
 ghost use Rattle.reload_lazy.specs.Reloading.{called, stops_at};
 
-use crate::reloader::{Awaited, ReloadStage, Reloader};
+use crate::reloader::{Awaited, Reloader};
+use crate::waits::wait_for;
 use base_types::NoMemory;
 use find_load::{In, Want};
 use machine_events::{Event, Reply};
@@ -44,8 +45,8 @@ pub(crate) fn stop(p: &mut Reloader, name: Dotted, fault: Fault) -> Want
     ensures goes { ReloadGoes (stops_at p.old name fault) p.new result }
 {
     let mid = p.module.mid;
-    p.stage = ReloadStage::Awaits(name, Awaited::Stopped(fault));
-    Want::Call(Event::ReloadEnd { mid, load: None })
+    let end = Want::Call(Event::ReloadEnd { mid, load: None });
+    wait_for(p, name, Awaited::Stopped(fault), end)
 }
 
 /// The reload is ended, since the reply is none that the event can have.
@@ -69,6 +70,6 @@ pub(crate) fn stop_and(p: &mut Reloader, name: Dotted, leave: Leave) -> Want
     ensures goes { ReloadGoes (λ inside. stops_and (called p.old name) (flows.Left leave)) p.new result }
 {
     let mid = p.module.mid;
-    p.stage = ReloadStage::Awaits(name, Awaited::Left(Flow::Left(leave)));
-    Want::Call(Event::ReloadEnd { mid, load: None })
+    let end = Want::Call(Event::ReloadEnd { mid, load: None });
+    wait_for(p, name, Awaited::Left(Flow::Left(leave)), end)
 }

@@ -134,7 +134,10 @@ fn after_file(
 {
     match input {
         In::Opened(text) => opened(p, name, epoch, spec, text),
-        other => misfit(p, other),
+        other => {
+            drop(spec);
+            misfit(p, other)
+        }
     }
 }
 
@@ -150,7 +153,10 @@ fn after_take(
 {
     match input {
         In::Replied(reply) => took(p, name, epoch, finding, reply),
-        other => misfit(p, other),
+        other => {
+            drop(finding);
+            misfit(p, other)
+        }
     }
 }
 
@@ -166,7 +172,10 @@ fn after_wait(
 {
     match input {
         In::Woken => take(p, name, epoch, finding),
-        other => misfit(p, other),
+        other => {
+            drop(finding);
+            misfit(p, other)
+        }
     }
 }
 
@@ -195,7 +204,10 @@ fn after_keep(p: &mut Reloader, name: Dotted, load: u32, input: In) -> Result<Wa
     ensures goes { IfOk result (ReloadGoes (does_at p.old name (await.SpaceKept load) input) p.new) }
 {
     match input {
-        In::Replied(_) => Ok(end(p, name, load, Flow::Went(Value::Nothing))),
+        In::Replied(reply) => {
+            drop(reply);
+            Ok(end(p, name, load, Flow::Went(Value::Nothing)))
+        }
         other => misfit(p, other),
     }
 }
@@ -206,7 +218,10 @@ fn after_end(p: &mut Reloader, name: Dotted, flow: Flow, input: In) -> Result<Wa
 {
     match input {
         In::Replied(reply) => ended(p, name, flow, reply),
-        other => misfit(p, other),
+        other => {
+            drop(flow);
+            misfit(p, other)
+        }
     }
 }
 
@@ -216,8 +231,14 @@ fn after_stop(p: &mut Reloader, name: Dotted, fault: Fault, input: In) -> Result
 {
     drop(name);
     match input {
-        In::Replied(_) => fail(p, fault),
-        other => misfit(p, other),
+        In::Replied(reply) => {
+            drop(reply);
+            fail(p, fault)
+        }
+        other => {
+            drop(fault);
+            misfit(p, other)
+        }
     }
 }
 
@@ -227,8 +248,14 @@ fn after_leave(p: &mut Reloader, name: Dotted, flow: Flow, input: In) -> Result<
 {
     drop(name);
     match input {
-        In::Replied(_) => Ok(Want::End(flow)),
-        other => misfit(p, other),
+        In::Replied(reply) => {
+            drop(reply);
+            Ok(Want::End(flow))
+        }
+        other => {
+            drop(flow);
+            misfit(p, other)
+        }
     }
 }
 

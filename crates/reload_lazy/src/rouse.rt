@@ -3,12 +3,13 @@ ghost use Rattle.std.specs.Prelude.{◌<◌, IfOk};
 ghost use Rattle.machine_events.specs.declared.event.Event.TheVariants as ev;
 ghost use Rattle.machine_events.specs.declared.event.Reply.TheVariants as replies;
 ghost use Rattle.meanings.specs.Runs.{Makes};
+ghost use Rattle.find_load.specs.Means.{wants};
 ghost use Rattle.find_load.specs.declared.words.In.TheVariants as ins;
 ghost use Rattle.py_faults.specs.declared.fault.Fault.TheVariants as faults;
 ghost use Rattle.py_meaning.specs.Pieces.{fails, passes};
 ghost use Rattle.py_meaning.specs.Lazy.{rouses};
 ghost use Rattle.reload_lazy.specs.Rouse.{RouseGoes, means};
-ghost use Rattle.reload_lazy.specs.Rousing.{again, does_at};
+ghost use Rattle.reload_lazy.specs.Rousing.{again, does_at, goes_on_by};
 ghost use Rattle.reload_lazy.specs.declared.rouser.RouseStage.TheVariants as stages;
 
 use crate::rouser::{RouseStage, Rouser};
@@ -18,6 +19,17 @@ use machine_events::{Event, Reply};
 use py_faults::{Fault, raised};
 use py_state::{Flow, Leave};
 use py_value::Value;
+use std::mem;
+
+/// This is wanted, and what it comes to is waited for at a stage. No other function lets go of the
+/// stage before it: where a stage is dropped, the proof goes through all that any stage can hold.
+fn wait_for(p: &mut Rouser, stage: RouseStage, want: Want) -> Want
+    ensures goes { RouseGoes (λ inside. wants inside want (goes_on_by p.old stage inside)) p.new result }
+{
+    let before = mem::replace(&mut p.stage, stage);
+    drop(before);
+    want
+}
 
 /// An error is raised.
 fn fail(p: &mut Rouser, fault: Fault) -> Result<Want, NoMemory>
@@ -55,22 +67,21 @@ fn deadlock(p: &mut Rouser) -> Result<Want, NoMemory>
 fn overspend(p: &mut Rouser) -> Want
     ensures goes { RouseGoes (λ inside. rouses inside.body 0 p.old.module) p.new result }
 {
-    p.stage = RouseStage::Begins;
-    Want::Pay {
+    let payment = Want::Pay {
         of_tree: false,
         units: most(),
-    }
+    };
+    wait_for(p, RouseStage::Begins, payment)
 }
 
 /// A turn is taken: the machine is asked for the module.
-#[tactic(auto, using(crate::proofs::Turns::rouses_more))]
 fn look(p: &mut Rouser) -> Want
     requires { 0 < p.old.turns }
     ensures goes { RouseGoes (again p.old) p.new result }
 {
     p.turns -= 1;
-    p.stage = RouseStage::Asked;
-    Want::Call(Event::Rouse(p.module.mid))
+    let look = Want::Call(Event::Rouse(p.module.mid));
+    wait_for(p, RouseStage::Asked, look)
 }
 
 /// The next turn.
@@ -95,22 +106,20 @@ fn pass(p: &mut Rouser) -> Want
 fn wait(p: &mut Rouser) -> Want
     ensures goes { RouseGoes (λ inside s k. Makes ev.Wake (λ _. again p.old inside s k)) p.new result }
 {
-    p.stage = RouseStage::Waits;
-    Want::Wait
+    wait_for(p, RouseStage::Waits, Want::Wait)
 }
 
 /// The body of the module runs.
 fn run_body(p: &mut Rouser, load: u32, text: Seq<u8>) -> Result<Want, NoMemory>
     ensures goes { IfOk result (RouseGoes (does_at p.old stages.Asked (ins.Replied (replies.Yours load text))) p.new) }
 {
-    let name = p.module.name.copy()?;
-    p.stage = RouseStage::Running(load);
-    Ok(Want::Body {
+    let body = Want::Body {
         mid: p.module.mid,
         load,
-        name,
+        name: p.module.name.copy()?,
         text,
-    })
+    };
+    Ok(wait_for(p, RouseStage::Running(load), body))
 }
 
 /// What the machine answers.
@@ -132,13 +141,14 @@ fn ended(p: &mut Rouser, load: u32, flow: Flow) -> Want
     ensures goes { RouseGoes (does_at p.old (stages.Running load) (ins.Ended flow)) p.new result }
 {
     match flow {
-        Flow::Went(_) => {
-            p.stage = RouseStage::Finished;
-            Want::Call(Event::Finish { load, good: true })
+        Flow::Went(value) => {
+            drop(value);
+            let finish = Want::Call(Event::Finish { load, good: true });
+            wait_for(p, RouseStage::Finished, finish)
         }
         Flow::Left(leave) => {
-            p.stage = RouseStage::Left(Flow::Left(leave));
-            Want::Call(Event::Finish { load, good: false })
+            let finish = Want::Call(Event::Finish { load, good: false });
+            wait_for(p, RouseStage::Left(Flow::Left(leave)), finish)
         }
     }
 }
@@ -188,7 +198,10 @@ fn after_finish(p: &mut Rouser, input: In) -> Result<Want, NoMemory>
     ensures goes { IfOk result (RouseGoes (does_at p.old stages.Finished input) p.new) }
 {
     match input {
-        In::Replied(_) => Ok(pass(p)),
+        In::Replied(reply) => {
+            drop(reply);
+            Ok(pass(p))
+        }
         other => misfit(p, other),
     }
 }
@@ -198,8 +211,14 @@ fn after_leave(p: &mut Rouser, flow: Flow, input: In) -> Result<Want, NoMemory>
     ensures goes { IfOk result (RouseGoes (does_at p.old (stages.Left flow) input) p.new) }
 {
     match input {
-        In::Replied(_) => Ok(Want::End(flow)),
-        other => misfit(p, other),
+        In::Replied(reply) => {
+            drop(reply);
+            Ok(Want::End(flow))
+        }
+        other => {
+            drop(flow);
+            misfit(p, other)
+        }
     }
 }
 
@@ -208,7 +227,7 @@ fn after_leave(p: &mut Rouser, flow: Flow, input: In) -> Result<Want, NoMemory>
 pub fn next(p: &mut Rouser, input: In) -> Result<Want, NoMemory>
     ensures goes { IfOk result (RouseGoes (λ inside. means inside p.old input) p.new) }
 {
-    match std::mem::replace(&mut p.stage, RouseStage::Begins) {
+    match mem::replace(&mut p.stage, RouseStage::Begins) {
         RouseStage::Begins => begin(p, input),
         RouseStage::Asked => after_ask(p, input),
         RouseStage::Waits => after_wait(p, input),

@@ -12,7 +12,8 @@ ghost use Rattle.reload_lazy.specs.Reloading.{again, body_again, called, does_at
 ghost use Rattle.reload_lazy.specs.declared.reloader.Awaited.TheVariants as await;
 
 use crate::raises::{stop, stop_misfit};
-use crate::reloader::{Awaited, Finding, ReloadStage, Reloader};
+use crate::reloader::{Awaited, Finding, Reloader};
+use crate::waits::wait_for;
 use base_types::{Exact, NoMemory, Seq, Texts};
 use find_load::{Want, most};
 use machine_events::{Event, Reply};
@@ -24,11 +25,11 @@ use spec_core::{Dotted, Spec, SpecKind};
 fn overspend(p: &mut Reloader, name: Dotted) -> Want
     ensures goes { ReloadGoes (λ _ s k. pay most (stops (called p.old name) faults.NotInProfile s k)) p.new result }
 {
-    p.stage = ReloadStage::Awaits(name, Awaited::Spent);
-    Want::Pay {
+    let payment = Want::Pay {
         of_tree: false,
         units: most(),
-    }
+    };
+    wait_for(p, name, Awaited::Spent, payment)
 }
 
 /// What the module is loaded by again.
@@ -72,15 +73,13 @@ fn event_of(of: &ModRef, name: &Dotted, finding: &Finding) -> Result<Event, NoMe
 }
 
 /// A turn is taken by this event.
-#[tactic(auto, using(crate::proofs::Turns::retakes_more))]
 fn spend(p: &mut Reloader, name: Dotted, epoch: u64, finding: Finding, event: Event) -> Want
     requires turns { 0 < p.old.turns }
     requires event { event ≡ take_event (called p.old name) finding }
     ensures goes { ReloadGoes (again p.old name epoch finding) p.new result }
 {
     p.turns -= 1;
-    p.stage = ReloadStage::Awaits(name, Awaited::Took { epoch, finding });
-    Want::Call(event)
+    wait_for(p, name, Awaited::Took { epoch, finding }, Want::Call(event))
 }
 
 /// A turn is taken: the lock is asked for.
@@ -131,30 +130,28 @@ pub(crate) fn take_first(
 fn wait(p: &mut Reloader, name: Dotted, epoch: u64, finding: Finding) -> Want
     ensures goes { ReloadGoes (λ inside s k. Makes ev.Wake (λ _. again p.old name epoch finding inside s k)) p.new result }
 {
-    p.stage = ReloadStage::Awaits(name, Awaited::Waits { epoch, finding });
-    Want::Wait
+    wait_for(p, name, Awaited::Waits { epoch, finding }, Want::Wait)
 }
 
 /// The body of the module runs again.
 fn run_body(p: &mut Reloader, name: Dotted, load: u32, text: Seq<u8>) -> Result<Want, NoMemory>
     ensures goes { IfOk result (ReloadGoes (body_again p.old name load text) p.new) }
 {
-    let body = name.owned()?;
-    p.stage = ReloadStage::Awaits(name, Awaited::Running(load));
-    Ok(Want::Body {
+    let body = Want::Body {
         mid: p.module.mid,
         load,
-        name: body,
+        name: name.owned()?,
         text,
-    })
+    };
+    Ok(wait_for(p, name, Awaited::Running(load), body))
 }
 
 /// A namespace has no body: the path that it was found on is kept.
 fn keep_space(p: &mut Reloader, name: Dotted, load: u32, mid: u32, state: NsState) -> Want
     ensures goes { ReloadGoes (λ inside. keeps_state (called p.old name) state load mid) p.new result }
 {
-    p.stage = ReloadStage::Awaits(name, Awaited::SpaceKept(load));
-    Want::Call(Event::NsSet { mid, state })
+    let keep = Want::Call(Event::NsSet { mid, state });
+    wait_for(p, name, Awaited::SpaceKept(load), keep)
 }
 
 /// The lock is taken: the module is loaded again.

@@ -4,15 +4,18 @@ use base_types::{NoMemory, Seq, Text};
 use decimal_text::read_number;
 use quoted_text::{read_quoted, read_source};
 use std::alloc::{AllocError, AllocFailed, Global};
+use thiserror::Error;
 
 /// The most pieces that a text of a row may have.
 const MOST_PIECES: u32 = 1000;
 
 /// Why a row has no answer.
-#[derive(Clone, Copy, Debug, Drop, PartialEq, Eq)]
+#[derive(Clone, Copy, Debug, Drop, PartialEq, Eq, Error)]
 pub enum RowError {
     /// The program does not know the row, as where it has a typing error.
+    #[error("the row is not known")]
     Unknown,
+    #[error("out of memory")]
     NoMemory,
 }
 

@@ -1,6 +1,7 @@
 //! What reading a trace answers.
 use base_types::{NoMemory, Seq};
 use machine_events::Entry;
+use thiserror::Error;
 use trace_fields::Cause;
 
 /// A trace: the number of its format, 1 or 2, and its entries.
@@ -11,10 +12,12 @@ pub struct Trace {
 }
 
 /// Why there is no trace.
-#[derive(Drop)]
+#[derive(Debug, Drop, Error)]
 pub enum TraceError {
     /// The first line, counted from 1, that is no line of the format, and the cause.
+    #[error("line {line} is refused: {cause}")]
     At { line: u32, cause: Cause },
+    #[error("out of memory")]
     NoMemory,
 }
 
