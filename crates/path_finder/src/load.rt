@@ -7,17 +7,20 @@ ghost use Rattle.path_finder.specs.Faults.{HasFailed};
 
 use base_types::{NoMemory, Seq, TreePath};
 use std::alloc::{AllocError, Global};
+use thiserror::Error;
 use tree_files::{Tree, TreeFault};
 
 /// The most bytes of a source.
 pub const LONGEST: usize = 1_048_576;
 
 /// Why the text of a file was not loaded.
-#[derive(Clone, Copy)]
+#[derive(Clone, Copy, Debug, Error)]
 pub enum LoadFault {
     /// A call of the tree was refused.
+    #[error(transparent)]
     Tree(TreeFault),
     /// The file has more than 1,048,576 bytes.
+    #[error("the file has more than 1,048,576 bytes")]
     TooLong,
 }
 

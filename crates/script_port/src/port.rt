@@ -5,11 +5,14 @@ ghost use Rattle.machine_events.specs.declared.event.Event.TheVariants as events
 ghost use Rattle.script_port.specs.View.{View, Stays, Gains};
 
 use machine_events::{Event, Reply};
+use thiserror::Error;
 
 /// Why an event of a port did not happen: memory was wanting, or the port does not take this event.
-#[derive(Clone, Copy, PartialEq, Eq)]
+#[derive(Clone, Copy, Debug, PartialEq, Eq, Error)]
 pub enum Halt {
+    #[error("out of memory")]
     NoMemory,
+    #[error("the event is not taken here")]
     Refused,
 }
 

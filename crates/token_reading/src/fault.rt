@@ -4,12 +4,15 @@ ghost use Rattle.std.specs.Prelude.{◌≡◌, length};
 
 use base_types::NoMemory;
 use std::alloc::{AllocError, AllocFailed};
+use thiserror::Error;
 
 /// How a token is refused.
-#[derive(Clone, Copy, Debug, PartialEq, Eq)]
+#[derive(Clone, Copy, Debug, PartialEq, Eq, Error)]
 pub enum Refusal {
     /// Only the limit on open levels refuses it.
+    #[error("too many open levels")]
     TooDeep,
+    #[error("invalid syntax")]
     Syntax,
 }
 
@@ -22,9 +25,11 @@ pub struct Fault {
 }
 
 /// Why nothing is read.
-#[derive(Clone, Copy, Debug, PartialEq, Eq)]
+#[derive(Clone, Copy, Debug, PartialEq, Eq, Error)]
 pub enum ReadError {
+    #[error("out of memory")]
     NoMemory,
+    #[error("a token cannot follow the tokens before it")]
     Refused(Fault),
 }
 
