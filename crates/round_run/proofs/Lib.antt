@@ -1,0 +1,6 @@
+pub mod Places
+pub mod Threads
+pub mod Seats
+pub mod Gathering
+pub mod Crossing
+pub mod Sharing
