@@ -85,10 +85,6 @@ module _ (means : Means) (words : List Word) (tree : Option Files) (old new : Mo
       subst (λ (x : Option Plan). Answers means words tree old new status x h') (sym pp)
       (subst (λ (x : Option (List Entry)). Answers means words tree old new status p x) (sym hh) a)
 
-  -- memory was wanted first
-  pub wordless_by : (r : Report) → r ≡ record { status = 6; plan = None; history = None } → new ≡ old → Answers means words tree old new r.status r.plan r.history
-  wordless_by r e n = subst (λ (x : Report). Answers means words tree old new x.status x.plan x.history) (sym e) (Answers.wordless n)
-
   pub short_by : (r : Report) (run : RunPlan) → built (plan_of words) ≡ Some run → r ≡ record { status = 6; plan = Some (plans.Run run); history = None } → new.out ≡ old.out → new.err ≡ old.err
       → Answers means words tree old new r.status r.plan r.history
   short_by r run is e o q = subst (λ (x : Report). Answers means words tree old new x.status x.plan x.history) (sym e) (Answers.short run is o q)

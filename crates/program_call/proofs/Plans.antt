@@ -1,6 +1,6 @@
 -- A plan that is built has 1 to 16 scripts.
-use Rattle.std.proofs.Common.{◌≡◌, ℕ, Bool, true, false, not, ◌&&◌, List, [], ◌∷◌, length, Option, Some, None, refl, sym, subst}
-use Rattle.std.specs.Prelude.{is_some, if◌then◌else◌, IfSome}
+use Rattle.std.proofs.Common.{◌≡◌, ℕ, Bool, true, false, not, ◌&&◌, List, [], ◌∷◌, length, Option, Some, None, refl, subst}
+use Rattle.std.specs.Prelude.{is_some, if◌then◌else◌}
 use Rattle.std.specs.List.{list_any}
 use Rattle.std.specs.Option.{option_map, option_and_then}
 use Rattle.std.proofs.lemmas.Bool.{leb-true, and_parts}
@@ -121,8 +121,3 @@ command_few (Some command.Bundle) words = mapped plans.Bundle (λ dir. refl) (on
 pub built_few : (words : List Word) → IsFewIn (plan_of words)
 built_few [] = none_built
 built_few (word ∷ words) = if_not (list_any is_refused (word ∷ words)) (plan_by (command_of word) words) (command_few (command_of word) words)
-
--- of what was read
-pub few_of : (words : List Word) (o : Option RunPlan) → o ≡ built (plan_of words) → IfSome o (λ run. AreFew run.scripts)
-few_of words None is = tt
-few_of words (Some run) is = built_few words run (sym is)

@@ -13,7 +13,7 @@ use Rattle.program_call.specs.Scripts.{EachOpens, IsRefused, IsUnread}
 use Rattle.program_call.specs.Alone.{Means}
 use Rattle.program_call.specs.Runs.{HasRun}
 
--- what is built so far: scripts of one round, over the files as they are
+-- what is done here: scripts of one round, over the files as they are
 abbrev pub is_built : RunPlan → Bool
 is_built run = not run.bundles && not (is_some run.rounds)
 
@@ -21,12 +21,12 @@ abbrev pub run_if : Bool → RunPlan → Option RunPlan
 run_if true run = Some run
 run_if false run = None
 
--- a plan that is not built yet counts as none
+-- any other plan counts as none
 abbrev pub built : Option Plan → Option RunPlan
 built (Some (plans.Run run)) = run_if (is_built run) run
 built plan = None
 
--- how a call ends that was made with these words over this tree, from one moment to a later one: its status, its plan and
+-- how a call ends that runs scripts, or refuses the words, and was made with these words over this tree, from one moment to a later one: its status, its plan and
 -- its history
 pub data Answers (means : Means) (words : List Word) (tree : Option Files) (old new : Moment) : ℕ → Option Plan → Option (List Entry) → Type 0 where
   -- the words are refused: the usage line
@@ -42,8 +42,6 @@ pub data Answers (means : Means) (words : List Word) (tree : Option Files) (old 
   ran : (status : ℕ) (run : RunPlan) (texts : List (List ℕ)) (history : List Entry) → built (plan_of words) ≡ Some run
       → EachOpens tree run.scripts texts → HasRun means run texts tree old new history status
       → Answers means words tree old new status (Some (plans.Run run)) (Some history)
-  -- memory was wanted before the words were read: nothing is written, and no call of the tree was made
-  wordless : new ≡ old → Answers means words tree old new 6 None None
   -- memory was wanted before the history was begun: nothing is written
   short : (run : RunPlan) → built (plan_of words) ≡ Some run → new.out ≡ old.out → new.err ≡ old.err
       → Answers means words tree old new 6 (Some (plans.Run run)) None

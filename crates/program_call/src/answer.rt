@@ -145,11 +145,11 @@ fn built_run(run: RunPlan) -> Option<RunPlan>
 }
 
 /// The plan, where it is built so far.
-fn built(plan: Plan) -> Option<RunPlan>
-    ensures { result ≡ built (Some plan) }
+fn built(plan: Option<Plan>) -> Option<RunPlan>
+    ensures { result ≡ built plan }
 {
     match plan {
-        Plan::Run(run) => built_run(run),
+        Some(Plan::Run(run)) => built_run(run),
         other => {
             drop(other);
             None
@@ -157,32 +157,33 @@ fn built(plan: Plan) -> Option<RunPlan>
     }
 }
 
-/// What is built of what the words ask for; None where they are refused.
-fn plan_for(alloc: Global, words: &[String]) -> Result<Option<RunPlan>, NoMemory>
-    ensures plan { IfOk result (λ o. o ≡ built (plan_of (map string_bytes words.now))) }
-    ensures few { IfOk result (λ o. IfSome o (λ run. AreFew run.scripts)) }
+/// What the words ask for; None where they are refused.
+pub fn plan_for(alloc: Global, words: &[String]) -> Result<Option<Plan>, NoMemory>
+    ensures { IfOk result (λ o. o ≡ plan_of (map string_bytes words.now)) }
 {
     match read_words(alloc, words) {
-        Ok(plan) => Ok(built(plan)),
+        Ok(plan) => Ok(Some(plan)),
         Err(WordsError::Usage) => Ok(None),
         Err(WordsError::NoMemory) => Err(NoMemory),
     }
 }
 
-/// Does what the words of the command line ask for, over a tree, and writes what is to be written to
-/// the two sinks. Each text of a script is what `S` makes of it.
+/// Does what words of the command line ask for whose plan was read, over a tree, and writes what is to
+/// be written to the two sinks. Each text of a script is what `S` makes of it.
 ///
-/// What is built so far is `run` for 1 to 16 scripts, with a search path, a budget and a trace as the
+/// What is done here is `run` for 1 to 16 scripts, with a search path, a budget and a trace as the
 /// words tell; all other words are refused with the usage line.
 pub fn call<S: Scripts + Send, R: Threads + Wait + Sync, T: Grove, K: Sink + Send, G: Gate + Sync>(
     rt: &R,
     alloc: Global,
     words: &[String],
+    plan: Option<Plan>,
     tree: &mut T,
     out: &mut K,
     err: &mut K,
     gate: &G,
 ) -> Report
+    requires plan { plan ≡ plan_of (map string_bytes words.now) }
     ensures answers { Answers S.means (map string_bytes words.now) (T.files tree.old)
         (moment T.faults T.lists K.written K.faults K.written K.faults tree.old out.old err.old)
         (moment T.faults T.lists K.written K.faults K.written K.faults tree.new out.new err.new)
@@ -193,9 +194,8 @@ pub fn call<S: Scripts + Send, R: Threads + Wait + Sync, T: Grove, K: Sink + Sen
     ensures out_faults { K.faults out.old ≤ K.faults out.new }
     ensures err_faults { K.faults err.old ≤ K.faults err.new }
 {
-    match plan_for(alloc, words) {
-        Ok(Some(run)) => run_plan::<S, R, T, K, G>(rt, alloc, run, tree, out, err, gate),
-        Ok(None) => refused(alloc, words, err),
-        Err(_) => without_run(6, None),
+    match built(plan) {
+        Some(run) => run_plan::<S, R, T, K, G>(rt, alloc, run, tree, out, err, gate),
+        None => refused(alloc, words, err),
     }
 }

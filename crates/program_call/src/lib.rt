@@ -16,12 +16,12 @@ mod scripts;
 mod together;
 
 pub use alone::run_alone;
-pub use answer::call;
+pub use answer::{call, plan_for};
 pub use finish::say_line;
 pub use laws::scripts_have_a_history;
 pub use open::{Opened, Unopened, open_all};
 pub use outlet::Out;
-pub use report::{Left, Report, with_plan};
+pub use report::{Left, Report, with_plan, without_run};
 pub use run::run_scripts;
 pub use scripts::Scripts;
 pub use together::run_together;

@@ -2,6 +2,7 @@
 #![tactic(auto)]
 
 mod laws;
+mod made;
 mod run;
 mod script;
 

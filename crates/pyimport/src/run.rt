@@ -1,17 +1,18 @@
 //! The calls of the program.
 ghost use Rattle.std.specs.Prelude.{◌≡◌, ◌≤◌, None, length, map};
 ghost use Rattle.std.specs.String.{string_bytes};
-ghost use Rattle.program_call.specs.Answers.{Answers};
 ghost use Rattle.program_call.specs.Counts.{HasNotFallen};
 ghost use Rattle.program_call.specs.Runs.{Gives};
 ghost use Rattle.program_call.specs.Sinks.{at, moment};
 ghost use Rattle.py_meaning.specs.Meaning.{meaning};
 ghost use Rattle.py_sources.specs.Sources.{sources};
+ghost use Rattle.pyimport.specs.Answers.{Answers};
 
+use crate::made::{numbers_of, run_made};
 use crate::script::Script;
 use base_types::Seq;
 use import_words::RunPlan;
-use program_call::{Report, call, run_alone, run_together, with_plan};
+use program_call::{Report, call, plan_for, run_alone, run_together, with_plan, without_run};
 use round_run::Gate;
 use std::alloc::Global;
 use std::sync::Wait;
@@ -78,8 +79,8 @@ pub fn run_all<R: Threads + Wait + Sync, T: Grove, K: Sink + Send, G: Gate + Syn
 /// the two sinks.
 ///
 /// What is built so far is `run` for 1 to 16 scripts, with a search path, a budget and a trace as the
-/// words tell; all other words are refused with the usage line. One script runs as in `solo`, several
-/// as in `run_all`.
+/// words tell, and `gen`; all other words are refused with the usage line. One script runs as in
+/// `solo`, several as in `run_all`. A made workload leaves the tree alone.
 pub fn pyimport<R: Threads + Wait + Sync, T: Grove, K: Sink + Send, G: Gate + Sync>(
     rt: &R,
     alloc: Global,
@@ -89,7 +90,7 @@ pub fn pyimport<R: Threads + Wait + Sync, T: Grove, K: Sink + Send, G: Gate + Sy
     err: &mut K,
     gate: &G,
 ) -> Report
-    ensures answers { Answers (meaning sources) (map string_bytes words.now) (T.files tree.old)
+    ensures answers { Answers (map string_bytes words.now) (T.files tree.old)
         (moment T.faults T.lists K.written K.faults K.written K.faults tree.old out.old err.old)
         (moment T.faults T.lists K.written K.faults K.written K.faults tree.new out.new err.new)
         result.status result.plan result.history }
@@ -99,5 +100,14 @@ pub fn pyimport<R: Threads + Wait + Sync, T: Grove, K: Sink + Send, G: Gate + Sy
     ensures out_faults { K.faults out.old ≤ K.faults out.new }
     ensures err_faults { K.faults err.old ≤ K.faults err.new }
 {
-    call::<Script, R, T, K, G>(rt, alloc, words, tree, out, err, gate)
+    match plan_for(alloc, words) {
+        Ok(plan) => match numbers_of(&plan) {
+            Some(it) => {
+                drop(plan);
+                run_made(rt, alloc, it, out, err, gate)
+            }
+            None => call::<Script, R, T, K, G>(rt, alloc, words, plan, tree, out, err, gate),
+        },
+        Err(_) => without_run(6, None),
+    }
 }
