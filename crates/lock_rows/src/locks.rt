@@ -53,7 +53,7 @@ fn closes_by<L: Ledger>(locks: &Locks, thread: u32, name: &Dotted, blank: Blank)
 
 fn waiters(alloc: Global, locks: &Locks, name: &Dotted) -> Result<Text, RowError> {
     let mut told = Text::from_str(alloc, "threads")?;
-    for thread in locks.waiters(name) {
+    for thread in locks.waiters(name)?.as_slice() {
         told.push_str(format!(in alloc; " {thread}")?.as_str())?;
     }
     Ok(told)

@@ -1,1 +1,3 @@
-pub mod Made
+pub mod Endings
+pub mod Leaving
+pub mod Answering

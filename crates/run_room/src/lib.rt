@@ -6,6 +6,5 @@ mod budgets;
 mod calls;
 mod outcomes;
 mod runs;
-mod schedules;
 
 pub use runs::Runs;

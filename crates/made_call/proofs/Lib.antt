@@ -1,4 +1,0 @@
-pub mod Ends
-pub mod Quieting
-pub mod Never
-pub mod Texts
