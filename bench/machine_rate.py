@@ -3,9 +3,10 @@
 
 Copies the crates into a scratch repository with a small program beside them, builds it there with `rt run` (which proves
 the crates, some twenty minutes on a new machine), and runs it for 10,000 and 20,000 modules, each of which takes ten
-events. Timed is `Machine::step` alone: whether an event is allowed is a test of its own, which a desk never makes, and
-for Add and its kin it looks through all loads. A step's work goes by the size of the event and the logarithm of the
-number of names, so twice the modules take twice the time, within a factor of 1.2. Exit status 1 where they do not.
+events. Before each `Machine::step` stands `Machine::allowed`, as in a replay of events that nobody has judged; a desk
+never asks. Both are timed, each by itself. The work of each goes by the size of the event and the logarithm of the
+number of names, so twice the modules take twice the time: `step` alone within a factor of 1.2, and the two together at
+most 2.2 times the time. Exit status 1 where they do not.
 """
 import os
 import pathlib
@@ -91,38 +92,49 @@ fn since(clock: &impl Clock, start: &Instant) -> u128 {
     }
 }
 
-/// The time that the machine takes for the event, where it may be made.
-fn time_of(clock: &impl Clock, start: &Instant, machine: &mut Machine, event: Event) -> Option<u128> {
+/// The time that the machine takes to say whether the event may be made, and the time to make it, where
+/// it may be made.
+fn time_of(
+    clock: &impl Clock,
+    start: &Instant,
+    machine: &mut Machine,
+    event: Event,
+) -> Option<(u128, u128)> {
+    let before = since(clock, start);
     if machine.allowed(0, &event) {
-        let before = since(clock, start);
+        let between = since(clock, start);
         drop(machine.step(0, event));
-        Some(since(clock, start).wrapping_sub(before))
+        let after = since(clock, start);
+        Some((between.wrapping_sub(before), after.wrapping_sub(between)))
     } else {
         drop(event);
         None
     }
 }
 
-/// How many of the ten events of each of these modules the machine made, and in how many nanoseconds.
+/// How many of the ten events of each of these modules the machine made, in how many nanoseconds it said
+/// that they may be made, and in how many it made them.
 fn drive(
     clock: &impl Clock,
     start: &Instant,
     alloc: Global,
     machine: &mut Machine,
     modules: u32,
-) -> Result<(u64, u128), NoMemory> {
+) -> Result<(u64, u128, u128), NoMemory> {
     let mut made = 0_u64;
+    let mut asked = 0_u128;
     let mut spent = 0_u128;
     for i in 0..modules {
         for k in 0..10 {
             let event = numbered(alloc, i, k)?;
-            if let Some(time) = time_of(clock, start, machine, event) {
+            if let Some((ask, make)) = time_of(clock, start, machine, event) {
                 made = made.wrapping_add(1);
-                spent = spent.wrapping_add(time);
+                asked = asked.wrapping_add(ask);
+                spent = spent.wrapping_add(make);
             }
         }
     }
-    Ok((made, spent))
+    Ok((made, asked, spent))
 }
 
 /// The k-th event of the i-th module.
@@ -140,8 +152,8 @@ fn main(rt: HostRuntime) -> io::Result<()> {
     }
     let start = Instant::now(&rt)?;
     if let Ok(mut machine) = open(rt.alloc()) {
-        if let Ok((made, spent)) = drive(&rt, &start, rt.alloc(), &mut machine, modules) {
-            println!(rt; "{made} {spent}")?;
+        if let Ok((made, asked, spent)) = drive(&rt, &start, rt.alloc(), &mut machine, modules) {
+            println!(rt; "{made} {asked} {spent}")?;
         }
     }
     Ok(())
@@ -150,29 +162,36 @@ fn main(rt: HostRuntime) -> io::Result<()> {
 
 
 def measure(program, modules):
-    """The events, the nanoseconds and the peak memory in KiB of one run."""
+    """The events, the nanoseconds of `allowed` and of `step`, and the peak memory in KiB of one run."""
     reader, writer = os.pipe()
     pid = os.posix_spawn(program, [str(program), str(modules)], os.environ, file_actions=[(os.POSIX_SPAWN_DUP2, writer, 1)])
     os.close(writer)
     with os.fdopen(reader) as pipe:
         words = pipe.read().split()
     _, _, usage = os.wait4(pid, 0)
-    return int(words[0]), int(words[1]), usage.ru_maxrss
+    return int(words[0]), int(words[1]), int(words[2]), usage.ru_maxrss
 
 
 def main():
     with tempfile.TemporaryDirectory() as folder:
         crate, _ = scratch.run(pathlib.Path(folder), "machine_rate", PROGRAM, ["import_machine"])
         program = crate / "out" / "machine_rate"
-        times = []
+        steps, both = [], []
         for modules in (10_000, 20_000):
             runs = [measure(program, modules) for _ in range(5)]
-            events, _, _ = runs[0]
-            times.append(min(spent for _, spent, _ in runs))
-            peak = max(memory for _, _, memory in runs)
-            print(f"{modules} modules, {events} events: {events / (times[-1] / 1e9):.0f} events/s, peak {peak / 1024:.0f} MiB")
-    if times[1] > 2.4 * times[0]:
+            events = runs[0][0]
+            steps.append(min(spent for _, _, spent, _ in runs))
+            both.append(min(asked + spent for _, asked, spent, _ in runs))
+            peak = max(memory for _, _, _, memory in runs)
+            print(
+                f"{modules} modules, {events} events: {events / (steps[-1] / 1e9):.0f} events/s, "
+                f"with `allowed` before each {events / (both[-1] / 1e9):.0f} events/s, peak {peak / 1024:.0f} MiB"
+            )
+    print(f"twice the modules take {steps[1] / steps[0]:.2f} times the time, with `allowed` {both[1] / both[0]:.2f}")
+    if steps[1] > 2.4 * steps[0]:
         sys.exit("twice the modules take more than 2.4 times the time")
+    if both[1] > 2.2 * both[0]:
+        sys.exit("with `allowed` before each step twice the modules take more than 2.2 times the time")
 
 
 if __name__ == "__main__":

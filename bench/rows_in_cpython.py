@@ -3,8 +3,8 @@
 
 Values and names are evaluated; sources are tokenized and parsed, and what is printed of them must have the same tree;
 searches are made by importlib's PathFinder in folders that are made for them; whole calls are run as scripts, on the search
-path of their rows. Prints how
-many rows of each table were compared, and each row that is answered otherwise. Exit status 1 where there is one.
+path of their rows; the scripts of made workloads run in threads. Prints how many rows of each table were compared, and each
+row that is answered otherwise. Exit status 1 where there is one.
 """
 import ast
 import importlib
@@ -342,6 +342,52 @@ def run_rows():
     return call_rows("run_rows")
 
 
+# Made workloads: the generator once more, and scripts that run in threads of one CPython.
+
+MADE_RUNNER = """import sys, threading
+sys.path[:] = [""]
+sources = [open(f"s{n}.py").read() for n in range(int(sys.argv[1]))]
+threads = [threading.Thread(target=exec, args=(source, {})) for source in sources]
+for thread in threads:
+    thread.start()
+for thread in threads:
+    thread.join()
+print(sum(name[0] == "m" and name[1:].isdigit() for name in sys.modules), file=sys.stderr)
+"""
+
+
+def made_files(seed, modules, scripts):
+    """The files of a made workload, with their texts."""
+    state = seed
+
+    def imports(count, bound):
+        nonlocal state
+        lines = ""
+        for _ in range(count):
+            state = (state * 6364136223846793005 + 1442695040888963407) % 2**64
+            lines += f"import m{state // 2**33 % bound}\n"
+        return lines
+
+    for n in range(modules):
+        yield f"m{n}.py", (imports(2, (n + 1) // 2) if n else "") + f'print("m{n}")\nx = {n}\n'
+    for n in range(scripts):
+        yield f"s{n}.py", imports(4, modules)
+
+
+def made_rows():
+    """The rows of made workloads that have a line, each beside the line about their run in CPython."""
+    asked = r"^row (.*)\nwords gen (\d+) (\d+) (\d+)\nrun\nout\n\| (.*)$"
+    for name, *numbers, line in re.findall(asked, (CRATES / "run_rows" / "stdout").read_text(), flags=re.M):
+        seed, modules, scripts = map(int, numbers)
+        with tempfile.TemporaryDirectory() as folder:
+            for file, text in made_files(seed, modules, scripts):
+                (pathlib.Path(folder) / file).write_text(text)
+            words = [sys.executable, *"-I -S -B -X utf8 -c".split(), MADE_RUNNER, str(scripts)]
+            done = subprocess.run(words, cwd=folder, capture_output=True, encoding="utf-8")
+        counts = f"loads {done.stderr.strip()} prints {len(done.stdout.splitlines())} status {done.returncode}"
+        yield name, line, f"modules {modules} scripts {scripts} {counts}"
+
+
 def language_rows():
     return call_rows("language_rows")
 
@@ -354,7 +400,7 @@ def main():
     if sys.version_info[:2] != (3, 12):
         sys.exit("this needs CPython 3.12")
     others = 0
-    for rows in (value_rows, source_rows, search_rows, run_rows, language_rows, tree_rows):
+    for rows in (value_rows, source_rows, search_rows, run_rows, made_rows, language_rows, tree_rows):
         count = 0
         for row, answer, answered in rows():
             if answered is None:

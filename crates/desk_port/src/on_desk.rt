@@ -15,7 +15,13 @@ pub struct OnDesk<'a, D: Desk> {
 }
 
 impl<D: Desk> Port for OnDesk<'_, D> {
-    ghost view = { λ p. record { number = (D.sight p.desk.now).number; mine = (D.sight p.desk.now).mine; ready = IsReady (D.sight p.desk.now); later = λ q. Continues (D.sight p.desk.now) (D.sight q.desk.now) × (q.desk.ghost_name ≡ p.desk.ghost_name); refuses = λ event. ⊥ } };
+    ghost view = { λ p. record {
+      number = (D.sight p.desk.now).number;
+      mine = (D.sight p.desk.now).mine;
+      ready = IsReady (D.sight p.desk.now);
+      later = λ q. Continues (D.sight p.desk.now) (D.sight q.desk.now) × (q.desk.ghost_name ≡ p.desk.ghost_name);
+      refuses = λ event. ⊥;
+    } };
 
     fn call(&mut self, event: Event) -> Result<Reply, Halt> {
         match self.desk.call(event) {

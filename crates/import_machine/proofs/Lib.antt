@@ -1,0 +1,5 @@
+pub mod Tally
+pub mod Told
+pub mod Moving
+pub mod Events
+pub mod Settling

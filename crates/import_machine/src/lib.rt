@@ -2,6 +2,8 @@
 //! holds.
 #![tactic(auto)]
 
+mod counted;
+mod counts;
 mod machine;
 
 pub use machine::Machine;

@@ -10,25 +10,31 @@ ghost use Rattle.machine_state.specs.Opening.{opening};
 ghost use Rattle.machine_laws.specs.Begun.{HaveScripts};
 ghost use Rattle.machine_laws.specs.Sound.{IsSound};
 
+use crate::counted::step_counted;
 use base_types::{NoMemory, Seq, Texts};
 use machine_allowed::{allowed, scripts};
 use machine_events::{Event, Reply};
 use machine_opening::open;
 use machine_state::State;
-use machine_steps::{gives, reply, step};
-use spec_core::Dotted;
+use machine_steps::{gives, reply};
+use spec_core::{Dotted, NameMap};
 use std::marker::Model;
 
 /// The import machine. Contracts see its state. One call of `step` is one atomic step.
+///
+/// Beside the state it keeps how many loads of each name are open, so that no event's test looks through
+/// the loads.
 #[derive(Drop)]
 pub struct Machine {
     state: State,
+    counts: NameMap<u64>,
 }
 
 impl Model for Machine {
     ghost use Rattle.machine_state.specs.declared.state.State.{State as S};
     ghost use Rattle.machine_state.specs.contracts.state.State.{the_row};
     ghost use Rattle.machine_laws.specs.Sound.{IsSound};
+    ghost use Rattle.import_machine.specs.Counts.{AreCounted};
 
     ghost Value = { S };
 
@@ -36,7 +42,7 @@ impl Model for Machine {
 
     ghost view = { λ a. a.state };
 
-    ghost invariant = { λ a. IsSound a.state };
+    ghost invariant = { λ a. IsSound a.state × AreCounted a.state a.counts };
 }
 
 impl Machine {
@@ -57,6 +63,7 @@ impl Machine {
     {
         Ok(Machine {
             state: open(scripts, texts, path, rounds)?,
+            counts: NameMap::new(path.alloc()),
         })
     }
 
@@ -68,7 +75,7 @@ impl Machine {
         ensures ok { OnOk result (self.new ≡ (step self.old thread event).1) }
         ensures err { OnErr result (self.new ≡ self.old) }
     {
-        step(&mut self.state, thread, event)
+        step_counted(&mut self.state, &mut self.counts, thread, event)
     }
 
     /// What `step` would answer to the event. It changes nothing.
@@ -82,7 +89,7 @@ impl Machine {
     pub fn allowed(&self, thread: u32, event: &Event) -> bool
         ensures { result ≡ allowed self.now thread event.now }
     {
-        allowed(&self.state, thread, event)
+        allowed(&self.state, &self.counts, thread, event)
     }
 
     /// The name whose lock's count the event lowers: of Finish, Release, AddLazy, and a ReloadEnd with

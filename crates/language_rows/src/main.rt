@@ -1,11 +1,15 @@
 //! Scripts of each form of the language: what they print, the error that ends them, and what they pay.
 #![tactic(auto)]
 
-use row_words::answer_rows;
+use row_words::{Row, answer_rows_by};
 use run_room::Runs;
+use std::alloc::Global;
 use std::process::ExitCode;
 
 fn main(rt: HostRuntime) -> ExitCode {
     let mut runs = Runs::new(rt.alloc());
-    answer_rows(rt, &mut runs)
+    answer_rows_by(
+        rt,
+        |alloc: Global, row: &mut Row<'_>| runs.answer(&rt, alloc, row),
+    )
 }

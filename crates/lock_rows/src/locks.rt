@@ -53,7 +53,7 @@ fn closes_by<L: Ledger>(locks: &Locks, thread: u32, name: &Dotted, blank: Blank)
 
 fn waiters(alloc: Global, locks: &Locks, name: &Dotted) -> Result<Text, RowError> {
     let mut told = Text::from_str(alloc, "threads")?;
-    for thread in locks.waiters(name)?.as_slice() {
+    for thread in locks.waiters(name) {
         told.push_str(format!(in alloc; " {thread}")?.as_str())?;
     }
     Ok(told)

@@ -1,16 +1,18 @@
 //! Whether an event is allowed.
-ghost use Rattle.std.specs.Prelude.{◌≡◌, ◌≤◌, ◌&&◌, true, None, not, map, slice_get, count_by};
+ghost use Rattle.std.specs.Prelude.{◌≡◌, ◌≤◌, ◌&&◌, true, false, None, not, map, slice_get};
 ghost use Rattle.std.specs.List.{list_any, list_all};
+ghost use Rattle.module_lock.specs.Table.{holds};
 ghost use Rattle.machine_state.specs.Known.{names_modules};
-ghost use Rattle.machine_state.specs.Allowed.{scripts, all_ended, is_due, has_name, is_open_of, counts_for, has_spare, has_text, has_body, is_source, can_finish, has_object, is_ns_path, is_path_item, is_absent, has_ns, is_number, is_reloading, can_end, fits, allowed};
+ghost use Rattle.machine_state.specs.Allowed.{scripts, all_ended, is_due, has_name, is_open_of, has_spare, has_text, has_body, is_source, can_finish, has_object, is_ns_path, is_path_item, is_absent, has_ns, is_number, is_reloading, can_end, fits, allowed};
+ghost use Rattle.machine_allowed.specs.Counts.{count_of, AreTold};
 
 use crate::known::{all_name_modules, names_modules, slot_names_module};
 use base_types::Seq;
 use machine_events::{Event, Slot};
 use machine_state::State;
-use module_table::{Load, LoadKind, LoadStage};
+use module_table::{LoadKind, LoadStage};
 use py_value::{NsState, Value};
-use spec_core::{Dotted, Spec, SpecKind};
+use spec_core::{Dotted, NameMap, Spec, SpecKind};
 
 /// The number of scripts, of which there are at most 16. It takes no memory.
 pub fn scripts(machine: &State) -> u32
@@ -66,32 +68,23 @@ fn has_name(machine: &State, mid: u32, name: &Dotted) -> bool
     }
 }
 
-fn counts_for(machine: &State, thread: u32, name: &Dotted, load: &Load) -> bool
-    ensures { result ≡ counts_for machine.now.table thread name.now load.now }
+fn count(counts: &NameMap<u64>, name: &Dotted) -> u64
+    ensures { result ≡ count_of counts.now name.now }
 {
-    is_open_of(thread, load) && has_name(machine, load.mid, name)
-}
-
-fn open_loads(machine: &State, thread: u32, name: &Dotted) -> usize
-    ensures { result ≡ count_by (counts_for machine.now.table thread name.now) machine.now.table.loads }
-{
-    let mut count: usize = 0;
-    for load in machine.table.all_loads() {
-        if counts_for(machine, thread, name, load) {
-            count += 1;
-        }
+    match counts.get(name) {
+        None => 0,
+        Some(count) => *count,
     }
-    count
 }
 
-fn has_spare(machine: &State, thread: u32, name: &Dotted) -> bool
+#[tactic(auto, using(crate::proofs::Spare::no_spare, crate::proofs::Spare::spare_is))]
+fn has_spare(machine: &State, counts: &NameMap<u64>, thread: u32, name: &Dotted) -> bool
+    requires { AreTold machine.now counts.now }
     ensures { result ≡ has_spare machine.now thread name.now }
 {
     match machine.locks.owner(name) {
         None => false,
-        Some(lock) => {
-            lock.owner == thread && open_loads(machine, thread, name) < lock.count as usize
-        }
+        Some(lock) => lock.owner == thread && count(counts, name) < lock.count as u64,
     }
 }
 
@@ -123,23 +116,12 @@ fn is_reloading(machine: &State, thread: u32, mid: u32, load: Option<u32>) -> bo
     }
 }
 
-fn has_open_load(machine: &State, thread: u32) -> bool
-    ensures { result ≡ list_any (is_open_of thread) machine.now.table.loads }
-{
-    for load in machine.table.all_loads() {
-        if is_open_of(thread, load) {
-            return true;
-        }
-    }
-    false
-}
-
+// A thread that owns no lock has no open load.
 fn can_end(machine: &State, thread: u32) -> bool
+    requires { holds machine.now.locks thread ≡ false → list_any (is_open_of thread) machine.now.table.loads ≡ false }
     ensures { result ≡ can_end machine.now thread }
 {
-    !machine.locks.holds(thread)
-        && !machine.table.reloads(thread)
-        && !has_open_load(machine, thread)
+    !machine.locks.holds(thread) && !machine.table.reloads(thread)
 }
 
 fn can_set(machine: &State, mid: u32, value: &Value) -> bool
@@ -148,16 +130,18 @@ fn can_set(machine: &State, mid: u32, value: &Value) -> bool
     has_object(machine, mid) && !is_ns_path(value) && names_modules(&machine.table, value)
 }
 
-fn can_add(machine: &State, thread: u32, spec: &Spec, text: &Seq<u8>) -> bool
+fn can_add(machine: &State, counts: &NameMap<u64>, thread: u32, spec: &Spec, text: &Seq<u8>) -> bool
+    requires { AreTold machine.now counts.now }
     ensures { result ≡ (has_spare machine.now thread spec.now.name && has_text spec.now.kind text.now) }
 {
-    has_spare(machine, thread, &spec.name) && has_text(&spec.kind, text)
+    has_spare(machine, counts, thread, &spec.name) && has_text(&spec.kind, text)
 }
 
-fn can_add_lazy(machine: &State, thread: u32, spec: &Spec) -> bool
+fn can_add_lazy(machine: &State, counts: &NameMap<u64>, thread: u32, spec: &Spec) -> bool
+    requires { AreTold machine.now counts.now }
     ensures { result ≡ (has_spare machine.now thread spec.now.name && has_body spec.now.kind) }
 {
-    has_spare(machine, thread, &spec.name) && has_body(&spec.kind)
+    has_spare(machine, counts, thread, &spec.name) && has_body(&spec.kind)
 }
 
 fn can_keep(machine: &State, mid: u32, state: &NsState) -> bool
@@ -175,16 +159,17 @@ fn can_reload(machine: &State, thread: u32, mid: u32, spec: &Spec, text: &Seq<u8
 }
 
 // What the event asks beside the conditions on the thread.
-fn fits(machine: &State, thread: u32, event: &Event) -> bool
+fn fits(machine: &State, counts: &NameMap<u64>, thread: u32, event: &Event) -> bool
+    requires { AreTold machine.now counts.now }
     ensures { result ≡ fits machine.now thread event.now }
 {
     match event {
         Event::Ask(_) => true,
         Event::Take(_) => true,
         Event::Wake => false,
-        Event::Add { spec, text } => can_add(machine, thread, spec, text),
+        Event::Add { spec, text } => can_add(machine, counts, thread, spec, text),
         Event::Finish { load, .. } => can_finish(machine, thread, *load),
-        Event::Release(name) => has_spare(machine, thread, name),
+        Event::Release(name) => has_spare(machine, counts, thread, name),
         Event::GetVar { mid, .. } => has_object(machine, *mid),
         Event::SetVar { mid, value, .. } => can_set(machine, *mid, value),
         Event::DelVar { mid, .. } => has_object(machine, *mid),
@@ -208,15 +193,17 @@ fn fits(machine: &State, thread: u32, event: &Event) -> bool
         Event::ReloadBegin { mid, .. } => has_object(machine, *mid),
         Event::ReloadTake { mid, spec, text } => can_reload(machine, thread, *mid, spec, text),
         Event::ReloadEnd { mid, load } => is_reloading(machine, thread, *mid, *load),
-        Event::AddLazy { spec, .. } => can_add_lazy(machine, thread, spec),
+        Event::AddLazy { spec, .. } => can_add_lazy(machine, counts, thread, spec),
         Event::Rouse(mid) => has_object(machine, *mid),
         Event::Main { spec, .. } => is_source(&spec.kind),
         Event::End { .. } => can_end(machine, thread),
     }
 }
 
-/// Whether the thread may make the event. It takes no memory.
-pub fn allowed(machine: &State, thread: u32, event: &Event) -> bool
+/// Whether the thread may make the event, where the counts tell the open loads of each name whose lock
+/// is owned. It takes no memory, and looks through no loads.
+pub fn allowed(machine: &State, counts: &NameMap<u64>, thread: u32, event: &Event) -> bool
+    requires { AreTold machine.now counts.now }
     ensures { result ≡ allowed machine.now thread event.now }
 {
     if !is_due(machine, thread) {
@@ -227,15 +214,8 @@ pub fn allowed(machine: &State, thread: u32, event: &Event) -> bool
     }
     match event {
         Event::Wake => machine.locks.can_wake(thread),
-        _ => machine.locks.awaited(thread).is_none() && fits(machine, thread, event),
+        _ => machine.locks.awaited(thread).is_none() && fits(machine, counts, thread, event),
     }
-}
-
-// Whether the load is an open one of the thread, Main aside.
-fn is_open_of(thread: u32, load: &Load) -> bool
-    ensures { result ≡ is_open_of thread load.now }
-{
-    load.stage == LoadStage::Open && load.thread == thread && load.kind != LoadKind::Main
 }
 
 fn is_number(left: Option<u32>, right: Option<u32>) -> bool

@@ -37,7 +37,8 @@ impl<O: Outlet> Model for Book<O> {
 
     ghost view = { λ b. record { opening = opened b.opening; history = b.history.items; outlet = b.outlet } };
 
-    ghost invariant = { λ b. (b.machine ≡ replay (opened b.opening) b.history.items) × IsLegal (opened b.opening) b.history.items × CanOpen b.opening };
+    ghost invariant = { λ b. (b.machine ≡ replay (opened b.opening) b.history.items)
+        × IsLegal (opened b.opening) b.history.items × CanOpen b.opening };
 }
 
 impl<O: Outlet> Book<O> {
@@ -83,8 +84,10 @@ impl<O: Outlet> Book<O> {
     pub fn step(&mut self, thread: u32, event: Event) -> Result<Reply, NoMemory>
         requires { Allowed (replay self.old.opening self.old.history) thread event }
         ensures opening { self.new.opening ≡ self.old.opening }
-        ensures entry { IfOk result (λ reply. self.new.history ≡ self.old.history ++ record { thread = thread; event = event; reply = reply } ∷ []) }
-        ensures put { IfOk result (λ reply. Kept O.piece (O.out self.old.outlet) (O.out self.new.outlet) (record { thread = thread; event = event; reply = reply } ∷ [])) }
+        ensures entry { IfOk result (λ reply. self.new.history ≡ self.old.history
+            ++ record { thread = thread; event = event; reply = reply } ∷ []) }
+        ensures put { IfOk result (λ reply. Kept O.piece (O.out self.old.outlet) (O.out self.new.outlet)
+            (record { thread = thread; event = event; reply = reply } ∷ [])) }
         ensures fits { IfOk result (Fits event) }
         ensures legal { IfOk result (λ reply. IsLegal self.new.opening self.new.history) }
         ensures err { OnErr result (self.new ≡ self.old) }

@@ -47,8 +47,10 @@ impl<'a, O: Outlet> SoloDesk<'a, O> {
         requires lone { IsLone book.old.opening.rounds number }
         ensures opening { (⟦<SoloDesk<'a, O> as Desk>⟧.sight result).opening ≡ book.old.opening }
         ensures number { (⟦<SoloDesk<'a, O> as Desk>⟧.sight result).number ≡ number }
-        ensures place { (⟦<SoloDesk<'a, O> as Desk>⟧.sight result).place ≡ record { name = book.entry.ghost_name; start = length book.old.history } }
-        ensures telling { (⟦<SoloDesk<'a, O> as Desk>⟧.sight result).telling ≡ Some (record { piece = O.piece; out = O.out book.old.outlet }) }
+        ensures place { (⟦<SoloDesk<'a, O> as Desk>⟧.sight result).place
+            ≡ record { name = book.entry.ghost_name; start = length book.old.history } }
+        ensures telling { (⟦<SoloDesk<'a, O> as Desk>⟧.sight result).telling
+            ≡ Some (record { piece = O.piece; out = O.out book.old.outlet }) }
         ensures seen { (⟦<SoloDesk<'a, O> as Desk>⟧.sight result).seen ≡ book.old.history }
         ensures mine { (⟦<SoloDesk<'a, O> as Desk>⟧.sight result).mine ≡ [] }
     {
@@ -62,7 +64,9 @@ impl<'a, O: Outlet> SoloDesk<'a, O> {
 
     /// Each entry that the book gained since the desk was made is of the desk's thread.
     pub fn check_gained(&self)
-        ensures { OnlyOf (⟦<SoloDesk<'a, O> as Desk>⟧.sight self.now).number (drop (⟦<SoloDesk<'a, O> as Desk>⟧.sight self.now).place.start (⟦<SoloDesk<'a, O> as Desk>⟧.sight self.now).seen) }
+        ensures { OnlyOf (⟦<SoloDesk<'a, O> as Desk>⟧.sight self.now).number
+            (drop (⟦<SoloDesk<'a, O> as Desk>⟧.sight self.now).place.start
+            (⟦<SoloDesk<'a, O> as Desk>⟧.sight self.now).seen) }
     {
         let _ = &self.book;
     }
@@ -71,7 +75,14 @@ impl<'a, O: Outlet> SoloDesk<'a, O> {
 impl<O: Outlet> Desk for SoloDesk<'_, O> {
     type Place = Borrowed;
 
-    ghost sight = { λ d. record { opening = d.book.now.opening; number = d.number; place = record { name = d.book.ghost_name; start = d.start }; seen = d.book.now.history; telling = Some (record { piece = O.piece; out = O.out d.book.now.outlet }); mine = own d.number d.book.now.history } };
+    ghost sight = { λ d. record {
+      opening = d.book.now.opening;
+      number = d.number;
+      place = record { name = d.book.ghost_name; start = d.start };
+      seen = d.book.now.history;
+      telling = Some (record { piece = O.piece; out = O.out d.book.now.outlet });
+      mine = own d.number d.book.now.history;
+    } };
 
     fn call(&mut self, event: Event) -> Result<Reply, Halt> {
         self.book.check_legal();

@@ -16,13 +16,15 @@ ghost use Rattle.machine_knowledge.specs.Loads.{kinds_of, MadeBy, mains};
 /// In the state after every legal history an event is allowed that the thread's own pairs show to
 /// be allowed, once every thread of an earlier round has its End.
 pub fn knows_is_allowed()
-    ensures { (b : Begun) (history : List Entry) → IsLegal (first b) history → (t : ℕ) (e : Event) → Ready (first b).rounds history t → Knows t (own t history) e → Allowed (replay (first b) history) t e }
+    ensures { (b : Begun) (history : List Entry) → IsLegal (first b) history → (t : ℕ) (e : Event)
+        → Ready (first b).rounds history t → Knows t (own t history) e → Allowed (replay (first b) history) t e }
 {}
 
 /// A thread that has no other in its round never waits.
 #[tactic(auto, using(crate::proofs::Lone::lone_waits_not))]
 pub fn lone_never_waits()
-    ensures { (b : Begun) (history : List Entry) → IsLegal (first b) history → (t : ℕ) → IsLone (first b).rounds t → Waits t (own t history) → ⊥ }
+    ensures { (b : Begun) (history : List Entry) → IsLegal (first b) history → (t : ℕ) → IsLone (first b).rounds t
+        → Waits t (own t history) → ⊥ }
 {}
 
 /// An event of a thread leaves the loads as they are, but for Add, AddLazy and ReloadTake, each of
@@ -30,11 +32,13 @@ pub fn lone_never_waits()
 /// the opening.
 #[tactic(auto, using(crate::proofs::Making::made_step))]
 pub fn loads_are_made()
-    ensures { (s : State) (t : ℕ) (e : Event) → MadeBy e (kinds_of s.table.loads) (kinds_of (step s t e).1.table.loads) }
+    ensures { (s : State) (t : ℕ) (e : Event) → MadeBy e (kinds_of s.table.loads)
+        (kinds_of (step s t e).1.table.loads) }
 {}
 
 /// There are as many loads of kind Main as scripts.
 #[tactic(auto, using(crate::proofs::Making::mains_are))]
 pub fn one_main_a_script()
-    ensures { (b : Begun) (history : List Entry) → mains (kinds_of (replay (first b) history).table.loads) ≡ length b.scripts }
+    ensures { (b : Begun) (history : List Entry) → mains (kinds_of (replay (first b) history).table.loads)
+        ≡ length b.scripts }
 {}

@@ -50,7 +50,9 @@ fn script_object(alloc: Global, number: u32, script: &Text) -> Result<Object, No
 }
 
 fn add_scripts(table: &mut Table, scripts: &Texts) -> Result<(), NoMemory>
-    ensures { OnOk result (table.new ≡ record table.old { objects = table.old.objects ++ script_objects 0 scripts.now }) }
+    ensures { OnOk result (table.new ≡ record table.old {
+      objects = table.old.objects ++ script_objects 0 scripts.now;
+    }) }
 {
     let alloc = table.alloc();
     let mut number: u32 = 0;

@@ -49,8 +49,10 @@ fn open_lazy(
 ) -> Result<Reply, NoMemory>
     requires waits { maps.get machine.old.locks.waits thread ≡ None }
     requires free { IsTrue (is_free machine.old.locks thread name) }
-    ensures reply { IfOk result (λ reply. reply ≡ (open_lazy machine.old thread mid name load (slice_get machine.old.table.loads load)).0) }
-    ensures ok { OnOk result (machine.new ≡ (open_lazy machine.old thread mid name load (slice_get machine.old.table.loads load)).1) }
+    ensures reply { IfOk result (λ reply. reply ≡ (open_lazy machine.old thread mid name load
+        (slice_get machine.old.table.loads load)).0) }
+    ensures ok { OnOk result (machine.new ≡ (open_lazy machine.old thread mid name load
+        (slice_get machine.old.table.loads load)).1) }
     ensures err { OnErr result (machine.new ≡ machine.old) }
 {
     let Some(body) = machine.table.find_load(load) else {

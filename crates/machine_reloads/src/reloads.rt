@@ -32,8 +32,10 @@ pub(crate) fn busy(machine: &State, mid: u32) -> Result<Reply, NoMemory>
 }
 
 fn enter(machine: &mut State, thread: u32, mid: u32, name: &Dotted) -> Result<Reply, NoMemory>
-    ensures reply { IfOk result (λ reply. reply ≡ (enter machine.old thread mid name.now (maps.get machine.old.table.reloading name.now)).0) }
-    ensures ok { OnOk result (machine.new ≡ (enter machine.old thread mid name.now (maps.get machine.old.table.reloading name.now)).1) }
+    ensures reply { IfOk result (λ reply. reply ≡ (enter machine.old thread mid name.now
+        (maps.get machine.old.table.reloading name.now)).0) }
+    ensures ok { OnOk result (machine.new ≡ (enter machine.old thread mid name.now
+        (maps.get machine.old.table.reloading name.now)).1) }
     ensures err { OnErr result (machine.new ≡ machine.old) }
 {
     match machine.table.reloading(name) {

@@ -15,7 +15,8 @@ use module_table::Phase;
 use spec_core::{Dotted, Spec};
 
 fn enter_reply(machine: &State, name: &Dotted) -> Result<Reply, NoMemory>
-    ensures { (thread mid : ℕ) → IfOk result (λ reply. reply ≡ (enter machine.now thread mid name.now (maps.get machine.now.table.reloading name.now)).0) }
+    ensures { (thread mid : ℕ) → IfOk result (λ reply. reply
+        ≡ (enter machine.now thread mid name.now (maps.get machine.now.table.reloading name.now)).0) }
 {
     match machine.table.reloading(name) {
         Some(reload) => busy(machine, reload.mid),

@@ -17,7 +17,8 @@ fn name_of(machine: &State, mid: u32) -> Option<&Dotted>
 }
 
 fn name_of_load(machine: &State, load: u32) -> Option<&Dotted>
-    ensures { option_copied result ≡ option_and_then (λ l. name_of machine.now l.mid) (slice_get machine.now.table.loads load) }
+    ensures { option_copied result ≡ option_and_then (λ l. name_of machine.now l.mid)
+        (slice_get machine.now.table.loads load) }
 {
     match machine.table.find_load(load) {
         None => None,

@@ -11,7 +11,8 @@ use py_value::ModRef;
 use spec_core::Dotted;
 
 fn meet_reply(machine: &State, thread: u32, module: ModRef) -> Result<Reply, NoMemory>
-    ensures { IfOk result (λ reply. reply ≡ (ask_object machine.now thread «module» (slice_get machine.now.table.objects «module».mid)).0) }
+    ensures { IfOk result (λ reply. reply ≡ (ask_object machine.now thread «module»
+        (slice_get machine.now.table.objects «module».mid)).0) }
 {
     let Some(object) = machine.table.object(module.mid) else {
         return Ok(Reply::Module(module));

@@ -14,8 +14,10 @@ use spec_core::Dotted;
 
 // A module that is initialising is waited for, unless the thread owns its lock.
 fn meet(machine: &mut State, thread: u32, module: ModRef) -> Result<Reply, NoMemory>
-    ensures reply { IfOk result (λ reply. reply ≡ (ask_object machine.old thread «module» (slice_get machine.old.table.objects «module».mid)).0) }
-    ensures ok { OnOk result (machine.new ≡ (ask_object machine.old thread «module» (slice_get machine.old.table.objects «module».mid)).1) }
+    ensures reply { IfOk result (λ reply. reply ≡ (ask_object machine.old thread «module»
+        (slice_get machine.old.table.objects «module».mid)).0) }
+    ensures ok { OnOk result (machine.new ≡ (ask_object machine.old thread «module»
+        (slice_get machine.old.table.objects «module».mid)).1) }
     ensures err { OnErr result (machine.new ≡ machine.old) }
 {
     let Some(object) = machine.table.object(module.mid) else {

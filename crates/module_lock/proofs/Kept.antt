@@ -58,7 +58,7 @@ is_equal Less h = absurd (false≢true h)
 is_equal Equal h = refl
 is_equal Greater h = absurd (false≢true h)
 
-same_name : (m n : List ℕ) → eq_by_cmp (slice_cmp nat_cmp) m n ≡ true → m ≡ n
+pub same_name : (m n : List ℕ) → eq_by_cmp (slice_cmp nat_cmp) m n ≡ true → m ≡ n
 same_name m n h = slice_cmp-IsAntisymmetric nat_cmp-IsAntisymmetric m n (is_equal _ h)
 
 abbrev owner : Lock → ℕ

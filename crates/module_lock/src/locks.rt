@@ -1,11 +1,14 @@
 //! The locks and the waits.
-ghost use Rattle.std.specs.Prelude.{◌≡◌, ◌+◌, ◌≤◌, ◌↔◌, OnOk, OnErr, IfOk, None, IsTrue, false, ◌==◌, if◌then◌else◌};
+ghost use Rattle.std.specs.Prelude.{◌≡◌, ◌+◌, ◌≤◌, ◌↔◌, OnOk, OnErr, IfOk, None, Some, IsTrue, false, nat_eq, ◌==◌, if◌then◌else◌};
 ghost use Rattle.std.specs.List.{list_any};
+ghost use Rattle.std.specs.Cmp.Lexicographic.{pointwise};
 ghost use Rattle.std.specs.FinMap as map;
 ghost use Rattle.std.specs.Option.{option_copied, option_map};
 ghost use Rattle.module_lock.specs.Table.{closes, leads_to, took_of, after_take, got, waiting, given, lowered, woken, can_wake, is_free, owns, lock_of, taken_count, holds, waiters, waiters_in};
+ghost use Rattle.module_lock.specs.Queues.{shortened, tidied};
 ghost use Rattle.module_lock.specs.Cycles.{Closes};
 
+use crate::queues::Queues;
 use crate::steps::Steps;
 use base_types::{NoMemory, Seq};
 use spec_core::{Dotted, NameMap, NumberMap};
@@ -82,6 +85,12 @@ fn is_owner(locks: &NameMap<Lock>, thread: u32) -> bool
     false
 }
 
+fn is_same(left: &Dotted, right: &Dotted) -> bool
+    ensures { result ≡ pointwise nat_eq left.now right.now }
+{
+    *left == *right
+}
+
 // The threads of the waits whose name is this one.
 fn waiters_among(waits: &NumberMap<Dotted>, name: &Dotted) -> Result<Seq<u32>, NoMemory>
     ensures { IfOk result (λ threads. threads ≡ waiters_in (map.entries waits.now) name.now) }
@@ -93,6 +102,67 @@ fn waiters_among(waits: &NumberMap<Dotted>, name: &Dotted) -> Result<Seq<u32>, N
         }
     }
     Ok(threads)
+}
+
+// The queue of the name is made anew from the waits. An `Err` changes nothing.
+fn line_up(waits: &NumberMap<Dotted>, queues: &mut Queues, name: Dotted) -> Result<(), NoMemory>
+    ensures ok { OnOk result (queues.new ≡ map.insert queues.old name (waiters_in (map.entries waits.now) name)) }
+    ensures err { OnErr result (queues.new ≡ queues.old) }
+{
+    let queue = waiters_among(waits, &name)?;
+    queues.set(name, queue)
+}
+
+// A thread that waited for nothing waits for the name. An `Err` changes nothing.
+fn queue_first(
+    waits: &mut NumberMap<Dotted>,
+    queues: &mut Queues,
+    thread: u32,
+    name: Dotted,
+) -> Result<(), NoMemory>
+    requires { map.get waits.old thread ≡ None }
+    ensures waits { OnOk result (waits.new ≡ map.insert waits.old thread name) }
+    ensures queues { OnOk result (queues.new ≡ map.insert queues.old name (waiters_in (map.entries (map.insert waits.old thread name)) name)) }
+    ensures same_waits { OnErr result (waits.new ≡ waits.old) }
+    ensures same_queues { OnErr result (queues.new ≡ queues.old) }
+{
+    let key = name.clone()?;
+    waits.insert(thread, name)?;
+    match line_up(waits, queues, key) {
+        Ok(()) => Ok(()),
+        Err(e) => {
+            drop(waits.remove(thread));
+            Err(e)
+        }
+    }
+}
+
+// A thread that waited for another name waits for this one. An `Err` changes nothing.
+fn queue_again(
+    waits: &mut NumberMap<Dotted>,
+    queues: &mut Queues,
+    thread: u32,
+    name: Dotted,
+    prior: Dotted,
+) -> Result<(), NoMemory>
+    requires { map.get waits.old thread ≡ Some prior }
+    ensures waits { OnOk result (waits.new ≡ map.insert waits.old thread name) }
+    ensures queues { OnOk result (queues.new ≡ tidied (shortened (map.insert queues.old name (waiters_in (map.entries (map.insert waits.old thread name)) name)) prior thread) prior) }
+    ensures same_waits { OnErr result (waits.new ≡ waits.old) }
+    ensures same_queues { OnErr result (queues.new ≡ queues.old) }
+{
+    let key = name.clone()?;
+    waits.insert(thread, name)?;
+    match line_up(waits, queues, key) {
+        Ok(()) => {
+            queues.leave(&prior, thread);
+            Ok(())
+        }
+        Err(e) => {
+            drop(waits.insert(thread, prior));
+            Err(e)
+        }
+    }
 }
 
 // Lowers the count of a lock of the thread, and frees it at 0.
@@ -121,12 +191,14 @@ fn lower(locks: &mut NameMap<Lock>, thread: u32, name: &Dotted)
 pub struct Locks {
     locks: NameMap<Lock>,
     waits: NumberMap<Dotted>,
+    queues: Queues,
 }
 
 impl Model for Locks {
     ghost use Rattle.module_lock.specs.Table.{Table};
     ghost use Rattle.module_lock.specs.TableCode.{table_code};
     ghost use Rattle.module_lock.specs.Cycles.{IsAcyclic};
+    ghost use Rattle.module_lock.specs.Queues.{AreQueued};
 
     ghost Value = { Table };
 
@@ -134,7 +206,7 @@ impl Model for Locks {
 
     ghost view = { λ a. record { locks = a.locks; waits = a.waits } };
 
-    ghost invariant = { λ a. IsAcyclic (record { locks = a.locks; waits = a.waits }) };
+    ghost invariant = { λ a. IsAcyclic (record { locks = a.locks; waits = a.waits }) × AreQueued a.queues a.waits };
 }
 
 impl Locks {
@@ -145,6 +217,7 @@ impl Locks {
         Locks {
             locks: NameMap::new(alloc),
             waits: NumberMap::new(alloc),
+            queues: Queues::new(alloc),
         }
     }
 
@@ -169,14 +242,34 @@ impl Locks {
         ensures ok { OnOk result (self.new ≡ waiting self.old thread name) }
         ensures err { OnErr result (self.new ≡ self.old) }
     {
-        self.waits.insert(thread, name)?;
-        Ok(())
+        let prior = self.prior(thread)?;
+        match prior {
+            None => queue_first(&mut self.waits, &mut self.queues, thread, name),
+            Some(prior) => {
+                if is_same(&prior, &name) {
+                    return Ok(());
+                }
+                queue_again(&mut self.waits, &mut self.queues, thread, name, prior)
+            }
+        }
+    }
+
+    // The name that the thread waits for already.
+    fn prior(&self, thread: u32) -> Result<Option<Dotted>, NoMemory>
+        ensures { IfOk result (λ prior. prior ≡ map.get self.now.waits thread) }
+    {
+        match self.waits.get(thread) {
+            None => Ok(None),
+            Some(name) => Ok(Some(name.clone()?)),
+        }
     }
 
     fn unwait(&mut self, thread: u32)
         ensures { self.new ≡ woken self.old thread }
     {
-        drop(self.waits.remove(thread));
+        if let Some(name) = self.waits.remove(thread) {
+            self.queues.leave(&name, thread);
+        }
     }
 
     /// Gives the thread's lock back once. At the count 0 nobody owns it. A lock that the thread does
@@ -325,11 +418,11 @@ impl Locks {
         self.locks.get(name).copied()
     }
 
-    /// The threads that wait for the lock, ascending.
-    pub fn waiters(&self, name: &Dotted) -> Result<Seq<u32>, NoMemory>
-        ensures { IfOk result (λ threads. threads ≡ waiters self.now name.now) }
+    /// The threads that wait for the lock, ascending. It takes no memory.
+    pub fn waiters(&self, name: &Dotted) -> &[u32]
+        ensures { result.now ≡ waiters self.now name.now }
     {
-        waiters_among(&self.waits, name)
+        self.queues.of(name)
     }
 
     /// The name of the lock that the thread waits for.

@@ -54,7 +54,8 @@ fn begin_while(
     test: &Shared<Expr>,
     body: &Shared<Seq<Stmt>>,
 ) -> Result<Want, NoMemory>
-    ensures { IfOk result (Does thread.now (pieces (λ w d. run (around_at w d) (tree.While test.now body.now)) thread.now)) }
+    ensures { IfOk result (Does thread.now (pieces (λ w d. run (around_at w d)
+        (tree.While test.now body.now)) thread.now)) }
 {
     let _ = thread;
     let test = test.share()?;
@@ -88,7 +89,8 @@ pub fn begin_statement(
 
 /// What a `try` does, with its `finally` block if it has one.
 fn begun_try(thread: &Thread, stmts: Shared<Seq<Stmt>>, at: usize, last: Shared<Seq<Stmt>>) -> Want
-    ensures { Does thread.now (pieces (λ w d. guards (map (run (around_at w d)) last) (tries_some (around_at w d) (slice_get stmts at))) thread.now) result }
+    ensures { Does thread.now (pieces (λ w d. guards (map (run (around_at w d)) last)
+        (tries_some (around_at w d) (slice_get stmts at))) thread.now) result }
 {
     let _ = thread;
     if last.get().is_empty() {

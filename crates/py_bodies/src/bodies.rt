@@ -60,7 +60,8 @@ fn run(
     program: Program,
 ) -> Result<Want, NoMemory>
     requires { 0 < thread.old.left }
-    ensures { IfOk result (Does thread.new (pieces (λ w d. spec.starts (spec.around_at w (d - 1)) mid load name (parsings.Parsed program)) thread.old)) }
+    ensures { IfOk result (Does thread.new (pieces (λ w d. spec.starts (spec.around_at w (d - 1)) mid load name
+        (parsings.Parsed program)) thread.old)) }
 {
     let body = program.body()?;
     let source = Source { mid, name, program };

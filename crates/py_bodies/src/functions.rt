@@ -45,7 +45,8 @@ pub fn source_came(
     arguments: Seq<Value>,
     reply: Reply,
 ) -> Result<Want, NoMemory>
-    ensures { IfOk result (DoesIn sources thread.new (replies (ons.Sourced load index arguments) reply thread.old sources)) }
+    ensures { IfOk result (DoesIn sources thread.new (replies
+        (ons.Sourced load index arguments) reply thread.old sources)) }
 {
     match text_in(reply) {
         None => {

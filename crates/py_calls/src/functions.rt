@@ -24,7 +24,8 @@ use std::mem;
 
 /// The first of the parameters takes a value. What is left of them.
 fn bind<'a>(names: &'a [Text], value: Value, locals: &mut Locals) -> Result<&'a [Text], NoMemory>
-    ensures { IfOk result (λ rest. (more : List Value) → spec.bound names.now (value ∷ more) locals.old ≡ spec.bound rest.now more locals.new) }
+    ensures { IfOk result (λ rest. (more : List Value) → spec.bound names.now (value ∷ more) locals.old
+        ≡ spec.bound rest.now more locals.new) }
 {
     match names {
         [] => Ok(names),
@@ -67,7 +68,8 @@ fn run(
     function: Shared<Function>,
 ) -> Result<Want, NoMemory>
     requires { 0 < thread.old.left }
-    ensures { IfOk result (Does thread.new (pieces (λ w d. depth.runs_in (spec.around_at w (d - 1)) mid load function arguments) thread.old)) }
+    ensures { IfOk result (Does thread.new (pieces (λ w d. depth.runs_in
+        (spec.around_at w (d - 1)) mid load function arguments) thread.old)) }
 {
     let parameters = function.get().def().parameters.as_slice();
     let locals = Locals::new(alloc);
@@ -97,7 +99,8 @@ fn enter(
     function: Shared<Function>,
 ) -> Result<Want, NoMemory>
     requires { 0 < thread.old.left }
-    ensures { IfOk result (Does thread.new (pieces (λ w d. depth.enters_in (spec.around_at w (d - 1)) mid load arguments function) thread.old)) }
+    ensures { IfOk result (Does thread.new (pieces (λ w d. depth.enters_in
+        (spec.around_at w (d - 1)) mid load arguments function) thread.old)) }
 {
     let takes = function.get().def().parameters.len();
     let given = arguments.len();
@@ -126,7 +129,8 @@ fn enter_some(
     function: Option<Shared<Function>>,
 ) -> Result<Want, NoMemory>
     requires { 0 < thread.old.left }
-    ensures { IfOk result (Does thread.new (pieces (λ w d. depth.enters_some (spec.around_at w (d - 1)) mid load arguments function) thread.old)) }
+    ensures { IfOk result (Does thread.new (pieces (λ w d. depth.enters_some
+        (spec.around_at w (d - 1)) mid load arguments function) thread.old)) }
 {
     match function {
         None => fail(alloc, thread, Fault::NotInProfile),
@@ -177,7 +181,8 @@ fn keep(
     program: Program,
 ) -> Result<Want, NoMemory>
     requires { 0 < thread.old.left }
-    ensures { IfOk result (Does thread.new (pieces (λ w d. spec.sourced (spec.around_at w (d - 1)) load index arguments «module» (parsings.Parsed program)) thread.old)) }
+    ensures { IfOk result (Does thread.new (pieces (λ w d. spec.sourced
+        (spec.around_at w (d - 1)) load index arguments «module» (parsings.Parsed program)) thread.old)) }
 {
     let ModRef { mid, name, .. } = module;
     let function = function_at(&program, index)?;
@@ -198,7 +203,8 @@ pub fn sourced(
     module: ModRef,
     parsing: Parsing,
 ) -> Result<Want, NoMemory>
-    ensures { IfOk result (Does thread.new (pieces (λ w d. depth.sourced_at w d load index arguments «module» parsing) thread.old)) }
+    ensures { IfOk result (Does thread.new (pieces (λ w d. depth.sourced_at w d load index arguments «module» parsing)
+        thread.old)) }
 {
     if thread.left == 0 {
         drop(parsing);

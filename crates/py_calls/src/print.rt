@@ -40,7 +40,8 @@ fn continued(alloc: Global, line: Text, values: &[Value]) -> Result<Result<Text,
 
 /// The line of the values without its end, or the first error.
 fn begun(alloc: Global, first: &Value, others: &[Value]) -> Result<Result<Text, Raised>, NoMemory>
-    ensures { IfOk result (λ so_far. so_far ≡ lines.behind (str_of first.now) (λ text. lines.continued text others.now)) }
+    ensures { IfOk result (λ so_far. so_far ≡ lines.behind (str_of first.now)
+        (λ text. lines.continued text others.now)) }
 {
     match str_of(alloc, first)? {
         Applied::Raised(error) => Ok(Err(error)),
@@ -97,7 +98,8 @@ fn write(alloc: Global, thread: &Thread, line: Text) -> Result<Want, NoMemory>
 
 /// The values are printed.
 pub fn print(alloc: Global, thread: &Thread, values: &[Value]) -> Result<Want, NoMemory>
-    ensures { IfOk result (Does thread.now (pieces (λ w d. lines.writes_or_fails (lines.printed values.now)) thread.now)) }
+    ensures { IfOk result (Does thread.now (pieces (λ w d. lines.writes_or_fails
+        (lines.printed values.now)) thread.now)) }
 {
     match line_of(alloc, values)? {
         Err(error) => Ok(Want::Go(Flow::Left(Leave::Raised(error)))),

@@ -81,12 +81,16 @@ fn go<P: Port, T: Tree>(
     requires fresh { Fresh script fuel course.old }
     requires safe { Safe (shown_first script) (meaning sources script text) }
     ensures stays { Stays (P.view port.old) (P.view port.new) }
-    ensures over { IfOk result (Overs (T.files tree.old) (T.faults tree.old) (T.faults tree.new) (meaning sources script text) fuel (P.view port.new).mine) }
+    ensures over { IfOk result (Overs (T.files tree.old) (T.faults tree.old) (T.faults tree.new)
+        (meaning sources script text) fuel (P.view port.new).mine) }
     ensures holds { OnOk result (Holds (P.view port.new) course.new.held) }
-    ensures part { OnErr result (StandsIn (T.files tree.old) (meaning sources script text) fuel (P.view port.new).mine) }
-    ensures refused { IsErrOf result Halt.Refused → RefusedAt (P.view port.new) (T.files tree.old) (meaning sources script text) fuel }
+    ensures part { OnErr result (StandsIn (T.files tree.old) (meaning sources script text) fuel
+        (P.view port.new).mine) }
+    ensures refused { IsErrOf result Halt.Refused → RefusedAt (P.view port.new) (T.files tree.old)
+        (meaning sources script text) fuel }
     ensures asked { Asked (T.files tree.old) (T.files tree.new) (T.faults tree.old) (T.faults tree.new) }
-    ensures kept { OnOk result (AllKept (T.lists tree.old) (T.lists tree.new) (P.view port.old).mine (P.view port.new).mine) }
+    ensures kept { OnOk result (AllKept (T.lists tree.old) (T.lists tree.new) (P.view port.old).mine
+        (P.view port.new).mine) }
 {
     let mut want = Want::Then(Item::Start {
         mid: script,
@@ -128,12 +132,16 @@ pub fn run<P: Port, T: Tree>(
     requires fresh { Fresh script fuel course.old }
     requires safe { Safe (shown_first script) (meaning sources script text) }
     ensures stays { Stays (P.view port.old) (P.view port.new) }
-    ensures over { IfOk result (Overs (T.files tree.old) (T.faults tree.old) (T.faults tree.new) (meaning sources script text) fuel (P.view port.new).mine) }
+    ensures over { IfOk result (Overs (T.files tree.old) (T.faults tree.old) (T.faults tree.new)
+        (meaning sources script text) fuel (P.view port.new).mine) }
     ensures holds { OnOk result (Holds (P.view port.new) course.new.held) }
-    ensures part { OnErr result (StandsIn (T.files tree.old) (meaning sources script text) fuel (P.view port.new).mine) }
-    ensures refused { IsErrOf result Halt.Refused → RefusedAt (P.view port.new) (T.files tree.old) (meaning sources script text) fuel }
+    ensures part { OnErr result (StandsIn (T.files tree.old) (meaning sources script text) fuel
+        (P.view port.new).mine) }
+    ensures refused { IsErrOf result Halt.Refused → RefusedAt (P.view port.new) (T.files tree.old)
+        (meaning sources script text) fuel }
     ensures asked { Asked (T.files tree.old) (T.files tree.new) (T.faults tree.old) (T.faults tree.new) }
-    ensures kept { OnOk result (AllKept (T.lists tree.old) (T.lists tree.new) (P.view port.old).mine (P.view port.new).mine) }
+    ensures kept { OnOk result (AllKept (T.lists tree.old) (T.lists tree.new) (P.view port.old).mine
+        (P.view port.new).mine) }
 {
     match Text::from_str(alloc, "__main__") {
         Ok(name) => go(alloc, port, tree, course, script, name, text, fuel),

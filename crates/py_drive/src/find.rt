@@ -30,7 +30,10 @@ fn found(
     procedure: Procedure,
     sought: Sought,
 ) -> Result<Turn, NoMemory>
-    ensures after { IfOk result (λ turn. (files : Option Files) (whole : Run) (fuel : ℕ) (mine : List (Event × Reply)) → AfterSought files whole fuel mine course.old.purse (λ answer. feeds course.old procedure (given.Found answer)) sought → After files whole fuel mine course.new turn) }
+    ensures after { IfOk result (λ turn. (files : Option Files) (whole : Run) (fuel : ℕ) (mine : List (Event × Reply))
+        → AfterSought files whole fuel mine course.old.purse
+        (λ answer. feeds course.old procedure (given.Found answer)) sought
+        → After files whole fuel mine course.new turn) }
     ensures counts { IfOk result (λ turn. (old new : ℕ) → CountsSought old new sought → Counts old new turn) }
     ensures held { course.new.held ≡ course.old.held }
 {
@@ -59,11 +62,16 @@ pub fn find<P: Port, T: Tree>(
 ) -> Result<Turn, Halt>
     requires stood { Stood (P.view port.old) course.old.held (remains course.old (wants.Find name path procedure)) }
     ensures stays { Stays (P.view port.old) (P.view port.new) }
-    ensures turned { IfOk result (Turned (T.files tree.old) (T.faults tree.old) (T.faults tree.new) (P.view port.old).mine (P.view port.new).mine course.old.purse course.new (remains course.old (wants.Find name path procedure))) }
-    ensures kept { OnOk result (AllKept (T.lists tree.old) (T.lists tree.new) (P.view port.old).mine (P.view port.new).mine) }
+    ensures turned { IfOk result (Turned (T.files tree.old) (T.faults tree.old) (T.faults tree.new)
+        (P.view port.old).mine (P.view port.new).mine course.old.purse course.new
+        (remains course.old (wants.Find name path procedure))) }
+    ensures kept { OnOk result (AllKept (T.lists tree.old) (T.lists tree.new) (P.view port.old).mine
+        (P.view port.new).mine) }
     ensures holds { OnOk result (Holds (P.view port.new) course.new.held) }
-    ensures part { OnErr result (Parted (T.files tree.old) (P.view port.old).mine (P.view port.new).mine course.old.purse (remains course.old (wants.Find name path procedure))) }
-    ensures refused { IsErrOf result Halt.Refused → Refused (P.view port.new) (T.files tree.old) (P.view port.old).mine course.old.purse (remains course.old (wants.Find name path procedure)) }
+    ensures part { OnErr result (Parted (T.files tree.old) (P.view port.old).mine
+        (P.view port.new).mine course.old.purse (remains course.old (wants.Find name path procedure))) }
+    ensures refused { IsErrOf result Halt.Refused → Refused (P.view port.new) (T.files tree.old)
+        (P.view port.old).mine course.old.purse (remains course.old (wants.Find name path procedure)) }
     ensures asked { Asked (T.files tree.old) (T.files tree.new) (T.faults tree.old) (T.faults tree.new) }
 {
     match seek(port, tree, &mut course.purse, name, path) {

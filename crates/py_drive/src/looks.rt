@@ -21,7 +21,8 @@ use tree_files::{Stamp, Tree, TreeFault};
 
 /// A call of the tree failed: the script stands where it paid for it.
 fn unread(course: &Course) -> Result<Turn, NoMemory>
-    ensures { IfOk result (λ turn. (files : Option Files) (old new : ℕ) (run : Run) → Rose old new → Looked files old new course.now.purse course.now run turn) }
+    ensures { IfOk result (λ turn. (files : Option Files) (old new : ℕ) (run : Run) → Rose old new
+        → Looked files old new course.now.purse course.now run turn) }
 {
     match course.purse.read {
         Some(left) => Ok(Turn::Unread(left)),
@@ -38,7 +39,9 @@ fn load<T: Tree>(
     procedure: Procedure,
 ) -> Result<Turn, NoMemory>
     requires file { ForSome (T.files tree.old) (λ f. IsFileAt f path.now) }
-    ensures turned { IfOk result (Looked (T.files tree.old) (T.faults tree.old) (T.faults tree.new) course.old.purse course.new (Pays true 1 (Looks (TextOf path.now) (λ text. feeds course.old procedure (given.Opened (Some text)))))) }
+    ensures turned { IfOk result (Looked (T.files tree.old) (T.faults tree.old)
+        (T.faults tree.new) course.old.purse course.new (Pays true 1
+        (Looks (TextOf path.now) (λ text. feeds course.old procedure (given.Opened (Some text)))))) }
     ensures held { course.new.held ≡ course.old.held }
     ensures asked { Asked (T.files tree.old) (T.files tree.new) (T.faults tree.old) (T.faults tree.new) }
     ensures lists_stay { T.lists tree.new ≡ T.lists tree.old }
@@ -71,7 +74,10 @@ fn seen<T: Tree>(
     stamp: Stamp,
 ) -> Result<Turn, NoMemory>
     requires file { IsFileStamp stamp → ForSome (T.files tree.old) (λ f. IsFileAt f path.now) }
-    ensures turned { IfOk result (Looked (T.files tree.old) (T.faults tree.old) (T.faults tree.new) course.old.purse course.new (opens path.now (feeds course.old procedure (given.Opened None)) (λ text. feeds course.old procedure (given.Opened (Some text))) stamp)) }
+    ensures turned { IfOk result (Looked (T.files tree.old) (T.faults tree.old)
+        (T.faults tree.new) course.old.purse course.new (opens path.now
+        (feeds course.old procedure (given.Opened None)) (λ text. feeds course.old procedure
+        (given.Opened (Some text))) stamp)) }
     ensures held { course.new.held ≡ course.old.held }
     ensures asked { Asked (T.files tree.old) (T.files tree.new) (T.faults tree.old) (T.faults tree.new) }
     ensures lists_stay { T.lists tree.new ≡ T.lists tree.old }
@@ -91,7 +97,8 @@ pub fn file<T: Tree>(
     path: &TreePath,
     procedure: Procedure,
 ) -> Result<Turn, NoMemory>
-    ensures turned { IfOk result (Looked (T.files tree.old) (T.faults tree.old) (T.faults tree.new) course.old.purse course.new (remains course.old (wants.File path.now procedure))) }
+    ensures turned { IfOk result (Looked (T.files tree.old) (T.faults tree.old)
+        (T.faults tree.new) course.old.purse course.new (remains course.old (wants.File path.now procedure))) }
     ensures held { course.new.held ≡ course.old.held }
     ensures asked { Asked (T.files tree.old) (T.files tree.new) (T.faults tree.old) (T.faults tree.new) }
     ensures lists_stay { T.lists tree.new ≡ T.lists tree.old }

@@ -22,11 +22,15 @@ pub fn call<P: Port>(
 ) -> Result<Turn, Halt>
     requires stood { Stood (P.view port.old) course.old.held (remains course.old (wants.Call event on)) }
     ensures stays { Stays (P.view port.old) (P.view port.new) }
-    ensures turned { IfOk result (Made (P.view port.old).mine (P.view port.new).mine course.old.purse course.new (remains course.old (wants.Call event on))) }
+    ensures turned { IfOk result (Made (P.view port.old).mine (P.view port.new).mine course.old.purse course.new
+        (remains course.old (wants.Call event on))) }
     ensures grows { OnOk result (lists_in (P.view port.old).mine ≤ lists_in (P.view port.new).mine) }
     ensures holds { OnOk result (Holds (P.view port.new) course.new.held) }
-    ensures part { OnErr result ((files : Option Files) → Parted files (P.view port.old).mine (P.view port.new).mine course.old.purse (remains course.old (wants.Call event on))) }
-    ensures refused { IsErrOf result Halt.Refused → (files : Option Files) → Refused (P.view port.new) files (P.view port.old).mine course.old.purse (remains course.old (wants.Call event on)) }
+    ensures part { OnErr result ((files : Option Files) → Parted files (P.view port.old).mine
+        (P.view port.new).mine course.old.purse (remains course.old (wants.Call event on))) }
+    ensures refused { IsErrOf result Halt.Refused → (files : Option Files)
+        → Refused (P.view port.new) files (P.view port.old).mine course.old.purse
+        (remains course.old (wants.Call event on)) }
 {
     let change = match change_of(&event) {
         Ok(change) => change,
@@ -58,11 +62,15 @@ pub fn call<P: Port>(
 pub fn wait<P: Port>(port: &mut P, course: &mut Course, item: Item) -> Result<Turn, Halt>
     requires stood { Stood (P.view port.old) course.old.held (remains course.old (wants.Wait item)) }
     ensures stays { Stays (P.view port.old) (P.view port.new) }
-    ensures turned { IfOk result (Made (P.view port.old).mine (P.view port.new).mine course.old.purse course.new (remains course.old (wants.Wait item))) }
+    ensures turned { IfOk result (Made (P.view port.old).mine (P.view port.new).mine course.old.purse course.new
+        (remains course.old (wants.Wait item))) }
     ensures grows { OnOk result (lists_in (P.view port.old).mine ≤ lists_in (P.view port.new).mine) }
     ensures holds { OnOk result (Holds (P.view port.new) course.new.held) }
-    ensures part { OnErr result ((files : Option Files) → Parted files (P.view port.old).mine (P.view port.new).mine course.old.purse (remains course.old (wants.Wait item))) }
-    ensures refused { IsErrOf result Halt.Refused → (files : Option Files) → Refused (P.view port.new) files (P.view port.old).mine course.old.purse (remains course.old (wants.Wait item)) }
+    ensures part { OnErr result ((files : Option Files) → Parted files (P.view port.old).mine
+        (P.view port.new).mine course.old.purse (remains course.old (wants.Wait item))) }
+    ensures refused { IsErrOf result Halt.Refused → (files : Option Files)
+        → Refused (P.view port.new) files (P.view port.old).mine course.old.purse
+        (remains course.old (wants.Wait item)) }
 {
     course.purse.read = None;
     match port.wait() {

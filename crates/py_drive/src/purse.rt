@@ -17,7 +17,8 @@ pub struct Purse {
 /// What is left before a payment for a call of the tree.
 fn read_of(budget: u64, of_tree: bool, units: u64) -> Option<u64>
     requires { units ≤ budget }
-    ensures { (files : Option Files) (whole : Run) (fuel : ℕ) (mine : List (Event × Reply)) (next : Run) → Stands files whole fuel mine budget (Pays of_tree units next) → MayBeUnread files whole fuel mine result }
+    ensures { (files : Option Files) (whole : Run) (fuel : ℕ) (mine : List (Event × Reply)) (next : Run)
+        → Stands files whole fuel mine budget (Pays of_tree units next) → MayBeUnread files whole fuel mine result }
 {
     if of_tree && units > 0 {
         Some(budget)
@@ -29,7 +30,9 @@ fn read_of(budget: u64, of_tree: bool, units: u64) -> Option<u64>
 impl Purse {
     /// Pays units, for a call of the tree or not, if they are there.
     pub fn pay(&mut self, of_tree: bool, units: u64) -> bool
-        ensures { (files : Option Files) (whole : Run) (fuel : ℕ) (mine : List (Event × Reply)) (next : Run) → At files whole fuel mine self.old (Pays of_tree units next) → AfterPay result files whole fuel mine self.new next }
+        ensures { (files : Option Files) (whole : Run) (fuel : ℕ) (mine : List (Event × Reply)) (next : Run)
+            → At files whole fuel mine self.old (Pays of_tree units next)
+            → AfterPay result files whole fuel mine self.new next }
     {
         if self.budget < units {
             return false;

@@ -41,8 +41,12 @@ pub fn run_script_on<P: Port, T: Tree>(
     ensures lists { OnOk result (T.lists tree.new ≤ T.lists tree.old + lists_in (P.view port.new).mine) }
     ensures goes_on { OnErr result (ends_in (P.view port.new).mine ≡ 0) }
     ensures ended { IfOk result (λ ending. Ended (P.view port.new).mine (outcome ending)) }
-    ensures follows { (files : Files) → T.files tree.old ≡ Some files → IfOk result (λ ending. Follows files script (meaning sources script text) fuel (P.view port.new).mine (outcome ending)) }
-    ensures part { (files : Files) → T.files tree.old ≡ Some files → OnErr result (Broken files script (meaning sources script text) fuel (P.view port.new).mine (T.faults tree.old) (T.faults tree.new)) }
+    ensures follows { (files : Files) → T.files tree.old ≡ Some files
+        → IfOk result (λ ending. Follows files script (meaning sources script text) fuel (P.view port.new).mine
+        (outcome ending)) }
+    ensures part { (files : Files) → T.files tree.old ≡ Some files
+        → OnErr result (Broken files script (meaning sources script text) fuel (P.view port.new).mine
+        (T.faults tree.old) (T.faults tree.new)) }
     ensures read { IfOk result (λ ending. IsRead ending → Rose (T.faults tree.old) (T.faults tree.new)) }
 {
     let mut course = Course::first(alloc, script, fuel);

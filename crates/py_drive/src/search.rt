@@ -53,7 +53,8 @@ pub enum Step {
 
 /// A unit is paid for a call of the tree, or for an entry that is passed over.
 fn pay_unit(purse: &mut Purse, of_tree: bool) -> Step
-    ensures { (number : ℕ) (mine : List (Event × Reply)) → Given number mine mine purse.old purse.new (wanted.Pay of_tree) result }
+    ensures { (number : ℕ) (mine : List (Event × Reply)) → Given number mine mine purse.old purse.new
+        (wanted.Pay of_tree) result }
 {
     if purse.pay(of_tree, 1) {
         Step::On(LookIn::Paid)
@@ -78,10 +79,14 @@ fn probe_of(reply: &Reply) -> Option<Probe>
 
 /// The reply about a listing is paid for.
 fn listed(purse: &mut Purse, reply: Reply) -> Step
-    ensures moves { (files : Option Files) (go : LookIn → Search) (k : Option Found → Run) (whole : Run) (fuel : ℕ) (mine : List (Event × Reply)) → At files whole fuel mine purse.old (after_reply reply (searches_in (go (given.Listed (probe_of reply))) k)) → AfterStep files whole fuel mine purse.new go k result }
+    ensures moves { (files : Option Files) (go : LookIn → Search) (k : Option Found → Run) (whole : Run) (fuel : ℕ)
+        (mine : List (Event × Reply)) → At files whole fuel mine purse.old
+        (after_reply reply (searches_in (go (given.Listed (probe_of reply))) k))
+        → AfterStep files whole fuel mine purse.new go k result }
     ensures fits { Fits ForListing result }
     ensures counts { (old new : ℕ) → CountsStep old new result }
-    ensures safe { (s : Shown) (go : LookIn → Search) (k : Option Found → Run) → Safe s (after_reply reply (searches_in (go (given.Listed (probe_of reply))) k)) → SafeStep s go k result }
+    ensures safe { (s : Shown) (go : LookIn → Search) (k : Option Found → Run)
+        → Safe s (after_reply reply (searches_in (go (given.Listed (probe_of reply))) k)) → SafeStep s go k result }
 {
     if !pay_reply(purse, &reply) {
         drop(reply);
@@ -97,10 +102,13 @@ fn ask<P: Port>(port: &mut P, purse: &mut Purse, dir: TreePath, part: Text) -> R
     requires ready { (P.view port.old).ready }
     requires runs { (shown (P.view port.old).number (P.view port.old).mine).doing ≡ Running }
     ensures stays { Stays (P.view port.old) (P.view port.new) }
-    ensures given { IfOk result (Given (P.view port.old).number (P.view port.old).mine (P.view port.new).mine purse.old purse.new (wanted.DirGet dir part)) }
+    ensures given { IfOk result (Given (P.view port.old).number (P.view port.old).mine
+        (P.view port.new).mine purse.old purse.new (wanted.DirGet dir part)) }
     ensures holds { OnOk result (Keeps (P.view port.old) (P.view port.new)) }
-    ensures part { OnErr result (GiveParted (P.view port.old).mine (P.view port.new).mine purse.old (wanted.DirGet dir part)) }
-    ensures refused { IsErrOf result Halt.Refused → GiveRefused (P.view port.new) (P.view port.old).mine purse.old (wanted.DirGet dir part) }
+    ensures part { OnErr result (GiveParted (P.view port.old).mine (P.view port.new).mine purse.old
+        (wanted.DirGet dir part)) }
+    ensures refused { IsErrOf result Halt.Refused → GiveRefused (P.view port.new) (P.view port.old).mine purse.old
+        (wanted.DirGet dir part) }
 {
     if !purse.pay(false, 1) {
         drop(dir);
@@ -116,10 +124,13 @@ fn ask<P: Port>(port: &mut P, purse: &mut Purse, dir: TreePath, part: Text) -> R
 
 /// The names of a listing are paid for, once it is kept.
 fn kept(purse: &mut Purse, units: u64) -> Step
-    ensures moves { (files : Option Files) (go : LookIn → Search) (k : Option Found → Run) (whole : Run) (fuel : ℕ) (mine : List (Event × Reply)) → At files whole fuel mine purse.old (Pays false units (searches_in (go given.Kept) k)) → AfterStep files whole fuel mine purse.new go k result }
+    ensures moves { (files : Option Files) (go : LookIn → Search) (k : Option Found → Run) (whole : Run) (fuel : ℕ)
+        (mine : List (Event × Reply)) → At files whole fuel mine purse.old
+        (Pays false units (searches_in (go given.Kept) k)) → AfterStep files whole fuel mine purse.new go k result }
     ensures fits { Fits ForKeeping result }
     ensures counts { (old new : ℕ) → CountsStep old new result }
-    ensures safe { (s : Shown) (go : LookIn → Search) (k : Option Found → Run) → Safe s (Pays false units (searches_in (go given.Kept) k)) → SafeStep s go k result }
+    ensures safe { (s : Shown) (go : LookIn → Search) (k : Option Found → Run)
+        → Safe s (Pays false units (searches_in (go given.Kept) k)) → SafeStep s go k result }
 {
     if purse.pay(false, units) {
         Step::On(LookIn::Kept)
@@ -138,10 +149,13 @@ fn keep<P: Port>(
     requires ready { (P.view port.old).ready }
     requires runs { (shown (P.view port.old).number (P.view port.old).mine).doing ≡ Running }
     ensures stays { Stays (P.view port.old) (P.view port.new) }
-    ensures given { IfOk result (Given (P.view port.old).number (P.view port.old).mine (P.view port.new).mine purse.old purse.new (wanted.DirSet dir listing)) }
+    ensures given { IfOk result (Given (P.view port.old).number (P.view port.old).mine
+        (P.view port.new).mine purse.old purse.new (wanted.DirSet dir listing)) }
     ensures holds { OnOk result (Keeps (P.view port.old) (P.view port.new)) }
-    ensures part { OnErr result (GiveParted (P.view port.old).mine (P.view port.new).mine purse.old (wanted.DirSet dir listing)) }
-    ensures refused { IsErrOf result Halt.Refused → GiveRefused (P.view port.new) (P.view port.old).mine purse.old (wanted.DirSet dir listing) }
+    ensures part { OnErr result (GiveParted (P.view port.old).mine (P.view port.new).mine purse.old
+        (wanted.DirSet dir listing)) }
+    ensures refused { IsErrOf result Halt.Refused → GiveRefused (P.view port.new) (P.view port.old).mine purse.old
+        (wanted.DirSet dir listing) }
 {
     let units = texts_size(&listing.names);
     purse.read = None;
@@ -159,10 +173,12 @@ fn give_want<P: Port>(port: &mut P, purse: &mut Purse, want: LookWant) -> Result
     requires ready { (P.view port.old).ready }
     requires may { MayGive (shown (P.view port.old).number (P.view port.old).mine) want }
     ensures stays { Stays (P.view port.old) (P.view port.new) }
-    ensures given { IfOk result (Given (P.view port.old).number (P.view port.old).mine (P.view port.new).mine purse.old purse.new want) }
+    ensures given { IfOk result (Given (P.view port.old).number (P.view port.old).mine
+        (P.view port.new).mine purse.old purse.new want) }
     ensures holds { OnOk result (Keeps (P.view port.old) (P.view port.new)) }
     ensures part { OnErr result (GiveParted (P.view port.old).mine (P.view port.new).mine purse.old want) }
-    ensures refused { IsErrOf result Halt.Refused → GiveRefused (P.view port.new) (P.view port.old).mine purse.old want }
+    ensures refused { IsErrOf result Halt.Refused → GiveRefused (P.view port.new)
+        (P.view port.old).mine purse.old want }
 {
     match want {
         LookWant::Pay { tree } => Ok(pay_unit(purse, tree)),
@@ -174,7 +190,9 @@ fn give_want<P: Port>(port: &mut P, purse: &mut Purse, want: LookWant) -> Result
 
 /// A call of the tree failed: the script stands where it paid for it.
 fn unread(purse: &Purse) -> Result<Step, Halt>
-    ensures taken { IfOk result (λ it. (files : Option Files) (faults faults' number : ℕ) (mine : List (Event × Reply)) (before : Search) (go : LookIn → Search) → Rose faults faults' → Taken files faults faults' number mine mine purse.now purse.now before go it) }
+    ensures taken { IfOk result (λ it. (files : Option Files) (faults faults' number : ℕ)
+        (mine : List (Event × Reply)) (before : Search) (go : LookIn → Search) → Rose faults faults'
+        → Taken files faults faults' number mine mine purse.now purse.now before go it) }
     ensures fits { IfOk result (λ it. (kind : Await) → Fits kind it) }
     ensures refused { IsErrOf result Halt.Refused → ⊥ }
 {
@@ -197,13 +215,18 @@ fn take_step<P: Port, T: Tree>(
     requires fits { awaits look.old.stage ≡ input_kind input }
     requires suits { ForSome (T.files tree.old) (λ f. Suits look.old.stage f) }
     ensures stays { Stays (P.view port.old) (P.view port.new) }
-    ensures taken { IfOk result (Taken (T.files tree.old) (T.faults tree.old) (T.faults tree.new) (P.view port.old).number (P.view port.old).mine (P.view port.new).mine purse.old purse.new (means look.old input) (means look.new)) }
+    ensures taken { IfOk result (Taken (T.files tree.old) (T.faults tree.old) (T.faults tree.new)
+        (P.view port.old).number (P.view port.old).mine (P.view port.new).mine purse.old purse.new
+        (means look.old input) (means look.new)) }
     ensures fits { IfOk result (Fits (awaits look.new.stage)) }
     ensures suits { OnOk result (ForSome (T.files tree.old) (λ f. Suits look.new.stage f)) }
-    ensures kept { OnOk result (AllKept (T.lists tree.old) (T.lists tree.new) (P.view port.old).mine (P.view port.new).mine) }
+    ensures kept { OnOk result (AllKept (T.lists tree.old) (T.lists tree.new) (P.view port.old).mine
+        (P.view port.new).mine) }
     ensures holds { OnOk result (Keeps (P.view port.old) (P.view port.new)) }
-    ensures part { OnErr result (SearchParted (T.files tree.old) (P.view port.old).mine (P.view port.new).mine purse.old (means look.old input)) }
-    ensures refused { IsErrOf result Halt.Refused → SearchRefused (P.view port.new) (T.files tree.old) (P.view port.old).mine purse.old (means look.old input) }
+    ensures part { OnErr result (SearchParted (T.files tree.old) (P.view port.old).mine
+        (P.view port.new).mine purse.old (means look.old input)) }
+    ensures refused { IsErrOf result Halt.Refused → SearchRefused (P.view port.new) (T.files tree.old)
+        (P.view port.old).mine purse.old (means look.old input) }
     ensures asked { Asked (T.files tree.old) (T.files tree.new) (T.faults tree.old) (T.faults tree.new) }
 {
     match look.next(tree, input) {
@@ -224,11 +247,15 @@ fn search<P: Port, T: Tree>(
     requires safe { IsSafe (shown (P.view port.old).number (P.view port.old).mine) (means look.old given.Start) }
     requires fresh { look.old.stage ≡ stages.Fresh }
     ensures stays { Stays (P.view port.old) (P.view port.new) }
-    ensures searched { IfOk result (Searched (T.files tree.old) (T.faults tree.old) (T.faults tree.new) (P.view port.old).mine (P.view port.new).mine purse.old purse.new (means look.old given.Start)) }
-    ensures kept { OnOk result (AllKept (T.lists tree.old) (T.lists tree.new) (P.view port.old).mine (P.view port.new).mine) }
+    ensures searched { IfOk result (Searched (T.files tree.old) (T.faults tree.old) (T.faults tree.new)
+        (P.view port.old).mine (P.view port.new).mine purse.old purse.new (means look.old given.Start)) }
+    ensures kept { OnOk result (AllKept (T.lists tree.old) (T.lists tree.new) (P.view port.old).mine
+        (P.view port.new).mine) }
     ensures holds { OnOk result (Keeps (P.view port.old) (P.view port.new)) }
-    ensures part { OnErr result (SearchParted (T.files tree.old) (P.view port.old).mine (P.view port.new).mine purse.old (means look.old given.Start)) }
-    ensures refused { IsErrOf result Halt.Refused → SearchRefused (P.view port.new) (T.files tree.old) (P.view port.old).mine purse.old (means look.old given.Start) }
+    ensures part { OnErr result (SearchParted (T.files tree.old) (P.view port.old).mine
+        (P.view port.new).mine purse.old (means look.old given.Start)) }
+    ensures refused { IsErrOf result Halt.Refused → SearchRefused (P.view port.new) (T.files tree.old)
+        (P.view port.old).mine purse.old (means look.old given.Start) }
     ensures asked { Asked (T.files tree.old) (T.files tree.new) (T.faults tree.old) (T.faults tree.new) }
 {
     let mut input = LookIn::Start;
@@ -260,11 +287,15 @@ pub fn seek<P: Port, T: Tree>(
     requires ready { (P.view port.old).ready }
     requires safe { IsSafe (shown (P.view port.old).number (P.view port.old).mine) (searches name path []) }
     ensures stays { Stays (P.view port.old) (P.view port.new) }
-    ensures searched { IfOk result (Searched (T.files tree.old) (T.faults tree.old) (T.faults tree.new) (P.view port.old).mine (P.view port.new).mine purse.old purse.new (searches name path [])) }
-    ensures kept { OnOk result (AllKept (T.lists tree.old) (T.lists tree.new) (P.view port.old).mine (P.view port.new).mine) }
+    ensures searched { IfOk result (Searched (T.files tree.old) (T.faults tree.old) (T.faults tree.new)
+        (P.view port.old).mine (P.view port.new).mine purse.old purse.new (searches name path [])) }
+    ensures kept { OnOk result (AllKept (T.lists tree.old) (T.lists tree.new) (P.view port.old).mine
+        (P.view port.new).mine) }
     ensures holds { OnOk result (Keeps (P.view port.old) (P.view port.new)) }
-    ensures part { OnErr result (SearchParted (T.files tree.old) (P.view port.old).mine (P.view port.new).mine purse.old (searches name path [])) }
-    ensures refused { IsErrOf result Halt.Refused → SearchRefused (P.view port.new) (T.files tree.old) (P.view port.old).mine purse.old (searches name path []) }
+    ensures part { OnErr result (SearchParted (T.files tree.old) (P.view port.old).mine
+        (P.view port.new).mine purse.old (searches name path [])) }
+    ensures refused { IsErrOf result Halt.Refused → SearchRefused (P.view port.new) (T.files tree.old)
+        (P.view port.old).mine purse.old (searches name path []) }
     ensures asked { Asked (T.files tree.old) (T.files tree.new) (T.faults tree.old) (T.faults tree.new) }
 {
     let Ok(mut look) = Look::start(name, path) else {

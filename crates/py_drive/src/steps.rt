@@ -39,7 +39,9 @@ pub fn pay(course: &mut Course, of_tree: bool, units: u64, item: Item) -> Turn
 
 /// What waits for a way on: no frame, or the first one that it does not pass.
 fn next_frame(work: &mut Work, flow: &Flow) -> Option<Frame>
-    ensures { MatchOption result ((d : ℕ) (s : State) → rest sources work.old d flow.now s ≡ ends flow.now s) (λ frame. (d : ℕ) (s : State) → rest sources work.old d flow.now s ≡ frame_does sources d frame (rest sources work.new) flow.now s) }
+    ensures { MatchOption result ((d : ℕ) (s : State) → rest sources work.old d flow.now s ≡ ends flow.now s)
+        (λ frame. (d : ℕ) (s : State) → rest sources work.old d flow.now s
+        ≡ frame_does sources d frame (rest sources work.new) flow.now s) }
 {
     match flow {
         Flow::Left(leave) => work.unwind(leave),
@@ -94,7 +96,9 @@ pub fn start_under(
 /// What the reply to an event costs is paid. Who is to wait for a lock pays nothing before that.
 #[tactic(auto, using(crate::proofs::Paying::paid_reply))]
 pub fn pay_reply(purse: &mut Purse, reply: &Reply) -> bool
-    ensures { (files : Option Files) (whole : Run) (fuel : ℕ) (mine : List (Event × Reply)) (next : Run) → At files whole fuel mine purse.old (after_reply reply.now next) → AfterPay result files whole fuel mine purse.new next }
+    ensures { (files : Option Files) (whole : Run) (fuel : ℕ) (mine : List (Event × Reply)) (next : Run)
+        → At files whole fuel mine purse.old (after_reply reply.now next)
+        → AfterPay result files whole fuel mine purse.new next }
 {
     match reply {
         Reply::Wait(_) => true,

@@ -24,12 +24,16 @@ pub fn give<P: Port, T: Tree>(
 ) -> Result<Turn, Halt>
     requires stood { Stood (P.view port.old) course.old.held (remains course.old want) }
     ensures stays { Stays (P.view port.old) (P.view port.new) }
-    ensures turned { IfOk result (Turned (T.files tree.old) (T.faults tree.old) (T.faults tree.new) (P.view port.old).mine (P.view port.new).mine course.old.purse course.new (remains course.old want)) }
+    ensures turned { IfOk result (Turned (T.files tree.old) (T.faults tree.old) (T.faults tree.new)
+        (P.view port.old).mine (P.view port.new).mine course.old.purse course.new (remains course.old want)) }
     ensures holds { OnOk result (Holds (P.view port.new) course.new.held) }
-    ensures part { OnErr result (Parted (T.files tree.old) (P.view port.old).mine (P.view port.new).mine course.old.purse (remains course.old want)) }
-    ensures refused { IsErrOf result Halt.Refused → Refused (P.view port.new) (T.files tree.old) (P.view port.old).mine course.old.purse (remains course.old want) }
+    ensures part { OnErr result (Parted (T.files tree.old) (P.view port.old).mine
+        (P.view port.new).mine course.old.purse (remains course.old want)) }
+    ensures refused { IsErrOf result Halt.Refused → Refused (P.view port.new) (T.files tree.old)
+        (P.view port.old).mine course.old.purse (remains course.old want) }
     ensures asked { Asked (T.files tree.old) (T.files tree.new) (T.faults tree.old) (T.faults tree.new) }
-    ensures kept { OnOk result (AllKept (T.lists tree.old) (T.lists tree.new) (P.view port.old).mine (P.view port.new).mine) }
+    ensures kept { OnOk result (AllKept (T.lists tree.old) (T.lists tree.new) (P.view port.old).mine
+        (P.view port.new).mine) }
 {
     match want {
         Want::Go(flow) => match pass(alloc, course, flow) {

@@ -136,7 +136,8 @@ fn call_on_cache(
     name: &str,
     values: Seq<Value>,
 ) -> Result<Want, NoMemory>
-    ensures { IfOk result (Does thread.now (pieces (λ w d s k. calls_on_cache name.now values s (sized k)) thread.now)) }
+    ensures { IfOk result (Does thread.now (pieces (λ w d s k. calls_on_cache name.now values s
+        (sized k)) thread.now)) }
 {
     if name == "get" {
         get(alloc, thread, name, values)

@@ -79,7 +79,8 @@ fn import_front(
     at: usize,
     place: usize,
 ) -> Result<Want, NoMemory>
-    ensures { IfOk result (Does thread.now (pieces (λ w d. fronts_some (around_at w d) (slice_get (aliases_of (slice_get stmts at)) place)) thread.now)) }
+    ensures { IfOk result (Does thread.now (pieces (λ w d. fronts_some (around_at w d)
+        (slice_get (aliases_of (slice_get stmts at)) place)) thread.now)) }
 {
     let name = match front_at(stmts.get(), at, place) {
         None => return fail(alloc, thread, Fault::NotInProfile),
@@ -122,7 +123,9 @@ fn part_then(
     is_bound: bool,
     frame: Frame,
 ) -> Result<Want, NoMemory>
-    ensures { IfOk result (Does thread.now (λ w next. with_module value (λ m s k. name_of (around_at w thread.now.left) is_bound m name s (frame_does w thread.now.left frame next)) thread.now.state (next thread.now.left))) }
+    ensures { IfOk result (Does thread.now (λ w next. with_module value
+        (λ m s k. name_of (around_at w thread.now.left) is_bound m name s
+        (frame_does w thread.now.left frame next)) thread.now.state (next thread.now.left))) }
 {
     match value {
         Value::Module(module) => {
@@ -158,7 +161,8 @@ fn follow_parts(
     part: usize,
     value: Value,
 ) -> Result<Want, NoMemory>
-    ensures { IfOk result (Does thread.now (pieces (λ w d. follows_some (around_at w d) part (slice_get (aliases_of (slice_get stmts.now at)) place) value) thread.now)) }
+    ensures { IfOk result (Does thread.now (pieces (λ w d. follows_some (around_at w d) part
+        (slice_get (aliases_of (slice_get stmts.now at)) place) value) thread.now)) }
 {
     let Some(alias) = alias_at(stmts.get(), at, place) else {
         drop(value);
@@ -213,7 +217,8 @@ fn bind_import(
     place: usize,
     value: Value,
 ) -> Result<Want, NoMemory>
-    ensures { IfOk result (Does thread.now (pieces (λ w d. binds_some_import (around_at w d) (slice_get (aliases_of (slice_get stmts.now at)) place) value) thread.now)) }
+    ensures { IfOk result (Does thread.now (pieces (λ w d. binds_some_import (around_at w d)
+        (slice_get (aliases_of (slice_get stmts.now at)) place) value) thread.now)) }
 {
     let Some(alias) = alias_at(stmts.get(), at, place) else {
         drop(value);

@@ -50,7 +50,8 @@ fn take_namespace(
     name: &Text,
     is_bound: bool,
 ) -> Result<Want, NoMemory>
-    ensures { IfOk result (Does thread.now (pieces (λ w d. namespace_taken (around_at w d) is_bound «module» name.now) thread.now)) }
+    ensures { IfOk result (Does thread.now (pieces (λ w d. namespace_taken
+        (around_at w d) is_bound «module» name.now) thread.now)) }
 {
     if is_bound {
         return replace(alloc, thread, module.mid, module.name, name);
@@ -68,7 +69,8 @@ fn take_value(
     is_bound: bool,
     value: Value,
 ) -> Result<Want, NoMemory>
-    ensures { IfOk result (Does thread.now (pieces (λ w d. taken_value (around_at w d) is_bound «module» name.now value) thread.now)) }
+    ensures { IfOk result (Does thread.now (pieces (λ w d. taken_value
+        (around_at w d) is_bound «module» name.now value) thread.now)) }
 {
     if is_namespace_path(&value) {
         drop(value);
@@ -109,7 +111,8 @@ fn take_name(
     is_bound: bool,
     reply: Reply,
 ) -> Result<Want, NoMemory>
-    ensures { IfOk result (Does thread.now (pieces (λ w d. name_read (around_at w d) is_bound «module» name reply) thread.now)) }
+    ensures { IfOk result (Does thread.now (pieces (λ w d. name_read
+        (around_at w d) is_bound «module» name reply) thread.now)) }
 {
     match reply {
         Reply::Value(value) => take_value(alloc, thread, module, &name, is_bound, value),
@@ -129,7 +132,8 @@ fn wake_for_name(
     name: Text,
     is_bound: bool,
 ) -> Result<Want, NoMemory>
-    ensures { IfOk result (Does thread.now (replies (ons.FromModule «module» name is_bound false) kinds.Sleeping thread.now)) }
+    ensures { IfOk result (Does thread.now (replies (ons.FromModule «module» name is_bound false) kinds.Sleeping
+        thread.now)) }
 {
     let read = name.copy()?;
     let lazy = module.copy()?;
@@ -174,7 +178,8 @@ fn take_entry(
     is_initialising: bool,
     slot: Slot,
 ) -> Result<Want, NoMemory>
-    ensures { IfOk result (Does thread.now (pieces (λ w d. entry_taken «module» name is_initialising slot) thread.now)) }
+    ensures { IfOk result (Does thread.now (pieces (λ w d. entry_taken «module» name is_initialising slot)
+        thread.now)) }
 {
     match slot {
         Slot::Module(found) => Ok(went(thread, Value::Module(found))),

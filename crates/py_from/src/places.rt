@@ -29,7 +29,8 @@ pub fn front_at(stmts: &Seq<Stmt>, at: usize, place: usize) -> Option<&Text>
 
 /// What a `from` statement says: its dots, its parts and its names. None for any other statement.
 pub fn from_at(stmts: &Seq<Stmt>, at: usize) -> Option<(u32, &Texts, &ImportedNames)>
-    ensures { MatchOption result (parts.from_of (slice_get stmts.now at) ≡ None) (λ it. parts.from_of (slice_get stmts.now at) ≡ Some (it.0, it.1.now, it.2.now)) }
+    ensures { MatchOption result (parts.from_of (slice_get stmts.now at) ≡ None)
+        (λ it. parts.from_of (slice_get stmts.now at) ≡ Some (it.0, it.1.now, it.2.now)) }
 {
     match stmts.get(at) {
         Some(Stmt::From(dots, parts, names)) => Some((*dots, parts, names)),

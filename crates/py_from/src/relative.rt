@@ -55,7 +55,8 @@ fn begin_dots(
     at: usize,
 ) -> Result<Want, NoMemory>
     requires { from_of (slice_get stmts at) ≡ Some (dots, parts.now, names.now) }
-    ensures { IfOk result (Does thread.now (pieces (λ w d. spec.from_import (around_at w d) dots parts.now names.now) thread.now)) }
+    ensures { IfOk result (Does thread.now (pieces (λ w d. spec.from_import
+        (around_at w d) dots parts.now names.now) thread.now)) }
 {
     let _ = names;
     if dots == 0 {
@@ -151,7 +152,9 @@ fn import_meant(
     stmts: Shared<Seq<Stmt>>,
     at: usize,
 ) -> Result<Want, NoMemory>
-    ensures { IfOk result (Does thread.now (pieces (λ w d. spec.from_resolved (around_at w d) (names_some (around_at w d) (slice_get stmts at)) (resolved «package» dots (spec.optional_name parts.now))) thread.now)) }
+    ensures { IfOk result (Does thread.now (pieces (λ w d. spec.from_resolved (around_at w d)
+        (names_some (around_at w d) (slice_get stmts at)) (resolved «package» dots
+        (spec.optional_name parts.now))) thread.now)) }
 {
     match meant(package, dots, parts) {
         Ok(name) => {
@@ -197,7 +200,8 @@ fn import_names(
     at: usize,
     module: ModRef,
 ) -> Result<Want, NoMemory>
-    ensures { IfOk result (Does thread.now (pieces (λ w d. names_some (around_at w d) (slice_get stmts.now at) «module») thread.now)) }
+    ensures { IfOk result (Does thread.now (pieces (λ w d. names_some (around_at w d)
+        (slice_get stmts.now at) «module») thread.now)) }
 {
     let block = stmts.share()?;
     match from_at(stmts.get(), at) {
@@ -219,7 +223,8 @@ fn take_names(
     module: ModRef,
 ) -> Result<Want, NoMemory>
     requires { items_of (slice_get stmts at) ≡ listed_in names.now }
-    ensures { IfOk result (Does thread.now (pieces (λ w d. spec.imported_names (around_at w d) names.now «module») thread.now)) }
+    ensures { IfOk result (Does thread.now (pieces (λ w d. spec.imported_names
+        (around_at w d) names.now «module») thread.now)) }
 {
     match names {
         ImportedNames::All => read_all(alloc, thread, module),

@@ -35,7 +35,8 @@ pub fn read_all(alloc: Global, thread: &Thread, module: ModRef) -> Result<Want, 
 
 /// The names of `__all__` are bound, once the submodules among them are asked for.
 fn bind_all(alloc: Global, thread: &Thread, module: ModRef, value: &Value) -> Result<Want, NoMemory>
-    ensures { IfOk result (Does thread.now (pieces (λ w d. stars_of (around_at w d) «module» (all_names (out-Value value.now))) thread.now)) }
+    ensures { IfOk result (Does thread.now (pieces (λ w d. stars_of (around_at w d) «module»
+        (all_names (out-Value value.now))) thread.now)) }
 {
     let Some(names) = all_names(value)? else {
         return fail(alloc, thread, Fault::NotInProfile);

@@ -51,7 +51,8 @@ fn ask_if_package(
     names: Texts,
     reply: Reply,
 ) -> Result<Want, NoMemory>
-    ensures { IfOk result (Does thread.now (pieces (λ w d. spec.if_package (around_at w d) «module» names reply) thread.now)) }
+    ensures { IfOk result (Does thread.now (pieces (λ w d. spec.if_package
+        (around_at w d) «module» names reply) thread.now)) }
 {
     match reply {
         Reply::Value(path) => {
@@ -182,7 +183,8 @@ fn try_submodule(
     module: &ModRef,
     name: &Text,
 ) -> Result<Want, NoMemory>
-    ensures { IfOk result (Does thread.now (pieces (λ w d. spec.tries_submodule (around_at w d) (joined «module».now.name name.now)) thread.now)) }
+    ensures { IfOk result (Does thread.now (pieces (λ w d. spec.tries_submodule (around_at w d)
+        (joined «module».now.name name.now)) thread.now)) }
 {
     let full = joined_name(&module.name, name)?;
     let Some(entry) = Dotted::read(&full)? else {
@@ -204,7 +206,8 @@ fn ask_for_submodule(
     name: &Text,
     reply: Reply,
 ) -> Result<Want, NoMemory>
-    ensures { IfOk result (Does thread.now (pieces (λ w d. spec.submodule_read (around_at w d) «module».now name.now reply) thread.now)) }
+    ensures { IfOk result (Does thread.now (pieces (λ w d. spec.submodule_read
+        (around_at w d) «module».now name.now reply) thread.now)) }
 {
     match reply {
         Reply::Value(value) => {
@@ -226,7 +229,8 @@ fn wake_for_submodule(
     module: &ModRef,
     name: &Text,
 ) -> Result<Want, NoMemory>
-    ensures { IfOk result (Does thread.now (replies (ons.Submodule «module».now name.now false) kinds.Sleeping thread.now)) }
+    ensures { IfOk result (Does thread.now (replies (ons.Submodule «module».now name.now false) kinds.Sleeping
+        thread.now)) }
 {
     let read = name.copy()?;
     let lazy = module.copy()?;

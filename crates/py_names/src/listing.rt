@@ -65,7 +65,8 @@ pub fn list_operand(
     value: Value,
 ) -> Result<Want, NoMemory>
     requires is_listed { spec.is_listed value ≡ true }
-    ensures { IfOk result (Does thread.now (pieces (λ w d. words.listed value (λ v. item_piece w d (with_operand item at v))) thread.now)) }
+    ensures { IfOk result (Does thread.now (pieces (λ w d. words.listed value
+        (λ v. item_piece w d (with_operand item at v))) thread.now)) }
 {
     match value {
         Value::SysPath => {

@@ -64,7 +64,10 @@ fn unset_in(scope: Option<FunctionScope>, name: &Text) -> Option<FunctionScope>
 
 /// Sets a local variable.
 pub fn set_local(thread: &mut Thread, name: Text, value: Value) -> Result<(), NoMemory>
-    ensures { OnOk result (thread.new ≡ record { left = thread.old.left; state = spec.with_local thread.old.state name value }) }
+    ensures { OnOk result (thread.new ≡ record {
+      left = thread.old.left;
+      state = spec.with_local thread.old.state name value;
+    }) }
 {
     let scope = mem::replace(&mut thread.state.scope.function, None);
     thread.state.scope.function = set_in(scope, name, value)?;

@@ -56,7 +56,8 @@ fn error_member(
 
 /// An attribute of a module.
 fn module_member(thread: &Thread, module: ModRef, name: Text) -> Result<Want, NoMemory>
-    ensures { IfOk result (Does thread.now (pieces (λ w d. spec.member_at (around_at w d).access (Value-F.Module «module») name) thread.now)) }
+    ensures { IfOk result (Does thread.now (pieces (λ w d. spec.member_at (around_at w d).access
+        (Value-F.Module «module») name) thread.now)) }
 {
     let _ = thread;
     let event = Event::GetVar {
@@ -121,7 +122,8 @@ fn member_known(
     name: Text,
     reply: Reply,
 ) -> Result<Want, NoMemory>
-    ensures { IfOk result (Does thread.now (pieces (λ w d. spec.member_read (around_at w d).access «module» name reply) thread.now)) }
+    ensures { IfOk result (Does thread.now (pieces (λ w d. spec.member_read
+        (around_at w d).access «module» name reply) thread.now)) }
 {
     match reply {
         Reply::Value(value) => member_value(alloc, thread, module, &name, value),
@@ -179,7 +181,8 @@ fn store_awake(
     name: Text,
     value: Value,
 ) -> Result<Want, NoMemory>
-    ensures { IfOk result (Does thread.now (replies (ons.MemberStored «module» name value false) reply_kinds.Sleeping thread.now)) }
+    ensures { IfOk result (Does thread.now (replies (ons.MemberStored «module» name value false) reply_kinds.Sleeping
+        thread.now)) }
 {
     let event = Event::SetVar {
         mid: module.mid,
@@ -220,7 +223,8 @@ fn set_module_member(
     name: Text,
     value: Value,
 ) -> Result<Want, NoMemory>
-    ensures { IfOk result (Does thread.now (pieces (λ w d. spec.sets_member_at (around_at w d).access (Value-F.Module «module») name value) thread.now)) }
+    ensures { IfOk result (Does thread.now (pieces (λ w d. spec.sets_member_at (around_at w d).access
+        (Value-F.Module «module») name value) thread.now)) }
 {
     let _ = thread;
     let event = Event::SetVar {
@@ -249,7 +253,8 @@ pub fn set_member(
     name: Text,
     value: Value,
 ) -> Result<Want, NoMemory>
-    ensures { IfOk result (Does thread.now (pieces (λ w d. spec.sets_member (around_at w d).access object name value) thread.now)) }
+    ensures { IfOk result (Does thread.now (pieces (λ w d. spec.sets_member
+        (around_at w d).access object name value) thread.now)) }
 {
     match object {
         Value::Module(module) => set_module_member(thread, module, name, value),
@@ -264,7 +269,8 @@ pub fn set_member(
 
 /// An attribute of a module is deleted.
 fn delete_module_member(thread: &Thread, module: ModRef, name: Text) -> Result<Want, NoMemory>
-    ensures { IfOk result (Does thread.now (pieces (λ w d. spec.deletes_member_at (around_at w d).access (Value-F.Module «module») name) thread.now)) }
+    ensures { IfOk result (Does thread.now (pieces (λ w d. spec.deletes_member_at (around_at w d).access
+        (Value-F.Module «module») name) thread.now)) }
 {
     let _ = thread;
     let event = Event::DelVar {
@@ -290,7 +296,8 @@ pub fn delete_member(
     object: Value,
     name: Text,
 ) -> Result<Want, NoMemory>
-    ensures { IfOk result (Does thread.now (pieces (λ w d. spec.deletes_member (around_at w d).access object name) thread.now)) }
+    ensures { IfOk result (Does thread.now (pieces (λ w d. spec.deletes_member
+        (around_at w d).access object name) thread.now)) }
 {
     match object {
         Value::Module(module) => delete_module_member(thread, module, name),
@@ -309,7 +316,8 @@ fn delete_awake(
     module: ModRef,
     name: Text,
 ) -> Result<Want, NoMemory>
-    ensures { IfOk result (Does thread.now (replies (ons.MemberDeleted «module» name false) reply_kinds.Sleeping thread.now)) }
+    ensures { IfOk result (Does thread.now (replies (ons.MemberDeleted «module» name false) reply_kinds.Sleeping
+        thread.now)) }
 {
     let event = Event::DelVar {
         mid: module.mid,

@@ -33,7 +33,8 @@ pub fn is_namespace_path(value: &Value) -> bool
 
 /// A variable's value.
 fn variable(alloc: Global, thread: &Thread, name: &Text, value: Value) -> Result<Want, NoMemory>
-    ensures { IfOk result (Does thread.now (pieces (λ w d. spec.variable (around_at w d).access name.now value) thread.now)) }
+    ensures { IfOk result (Does thread.now (pieces (λ w d. spec.variable
+        (around_at w d).access name.now value) thread.now)) }
 {
     if is_namespace_path(&value) {
         drop(value);
@@ -145,7 +146,8 @@ pub fn sized(thread: &Thread, value: Value) -> Want
 
 /// A name is read, and its value's size is paid.
 pub fn read_name(alloc: Global, thread: &Thread, name: &Text) -> Result<Want, NoMemory>
-    ensures { IfOk result (Does thread.now (pieces (λ w d s k. spec.reads (around_at w d).access name.now s (words.sized k)) thread.now)) }
+    ensures { IfOk result (Does thread.now (pieces (λ w d s k. spec.reads (around_at w d).access name.now s
+        (words.sized k)) thread.now)) }
 {
     if !is_local_name(thread, name) {
         return Ok(Want::Both(Item::ReadGlobal(name.copy()?), Frame::Sized));

@@ -28,7 +28,8 @@ pub fn replace(
     module: Text,
     name: &Text,
 ) -> Result<Want, NoMemory>
-    ensures { IfOk result (Does thread.now (pieces (λ w d. spec.replaces (around_at w d).access mid «module» name.now) thread.now)) }
+    ensures { IfOk result (Does thread.now (pieces (λ w d. spec.replaces
+        (around_at w d).access mid «module» name.now) thread.now)) }
 {
     if name.as_str() == "__path__" {
         let reader = Boxed::new(alloc, PathReader::replacing(mid, module))?;
@@ -40,7 +41,8 @@ pub fn replace(
 
 /// The name that the thread's own module was loaded under.
 fn own_name(thread: &Thread) -> Result<Option<Text>, NoMemory>
-    ensures { IfOk result (λ name. name ≡ option_map (λ (source : Source). source.name) (maps.get thread.now.state.kept thread.now.state.scope.load)) }
+    ensures { IfOk result (λ name. name ≡ option_map (λ (source : Source). source.name)
+        (maps.get thread.now.state.kept thread.now.state.scope.load)) }
 {
     match thread.state.kept.get(thread.state.scope.load) {
         None => Ok(None),
@@ -50,7 +52,8 @@ fn own_name(thread: &Thread) -> Result<Option<Text>, NoMemory>
 
 /// The path of a namespace was read in the module itself.
 pub(crate) fn replace_own(alloc: Global, thread: &Thread, name: &Text) -> Result<Want, NoMemory>
-    ensures { IfOk result (Does thread.now (pieces (λ w d. spec.replaces_own (around_at w d).access (maps.get thread.now.state.kept thread.now.state.scope.load) name.now) thread.now)) }
+    ensures { IfOk result (Does thread.now (pieces (λ w d. spec.replaces_own (around_at w d).access
+        (maps.get thread.now.state.kept thread.now.state.scope.load) name.now) thread.now)) }
 {
     match own_name(thread)? {
         None => fail(alloc, thread, Fault::NotInProfile),
@@ -66,7 +69,8 @@ pub fn member_value(
     name: &Text,
     value: Value,
 ) -> Result<Want, NoMemory>
-    ensures { IfOk result (Does thread.now (pieces (λ w d. spec.member_value (around_at w d).access «module» name.now value) thread.now)) }
+    ensures { IfOk result (Does thread.now (pieces (λ w d. spec.member_value
+        (around_at w d).access «module» name.now value) thread.now)) }
 {
     if is_namespace_path(&value) {
         drop(value);

@@ -23,7 +23,8 @@ pub fn rouse(
     event: Event,
     reply: OnReply,
 ) -> Result<Want, NoMemory>
-    ensures { IfOk result (Does thread.now (pieces (λ w d s k. (around_at w d).access.roused «module» s (on_value k (λ _ s. calls event (λ r. reply_piece w d reply r s k)))) thread.now)) }
+    ensures { IfOk result (Does thread.now (pieces (λ w d s k. (around_at w d).access.roused «module» s
+        (on_value k (λ _ s. calls event (λ r. reply_piece w d reply r s k)))) thread.now)) }
 {
     let _ = thread;
     let rouser = Boxed::new(alloc, Rouser::start(module))?;

@@ -47,8 +47,12 @@ pub fn run_script<D: Desk, T: Tree>(
     ensures lists { OnOk result (T.lists tree.new ≤ T.lists tree.old + lists_in (D.sight desk.new).mine) }
     ensures goes_on { OnErr result (ends_in (D.sight desk.new).mine ≡ 0) }
     ensures ended { IfOk result (λ ending. Ended (D.sight desk.new).mine (outcome ending)) }
-    ensures follows { (files : Files) → T.files tree.old ≡ Some files → IfOk result (λ ending. Follows files script (meaning sources script text.now) fuel (D.sight desk.new).mine (outcome ending)) }
-    ensures part { (files : Files) → T.files tree.old ≡ Some files → OnErr result (Broken files script (meaning sources script text.now) fuel (D.sight desk.new).mine (T.faults tree.old) (T.faults tree.new)) }
+    ensures follows { (files : Files) → T.files tree.old ≡ Some files
+        → IfOk result (λ ending. Follows files script (meaning sources script text.now) fuel (D.sight desk.new).mine
+        (outcome ending)) }
+    ensures part { (files : Files) → T.files tree.old ≡ Some files
+        → OnErr result (Broken files script (meaning sources script text.now) fuel (D.sight desk.new).mine
+        (T.faults tree.old) (T.faults tree.new)) }
     ensures read { IfOk result (λ ending. IsRead ending → Rose (T.faults tree.old) (T.faults tree.new)) }
 {
     let copy = match copy_of(alloc, text) {

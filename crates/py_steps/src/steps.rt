@@ -380,7 +380,8 @@ pub fn fed(
     input: In,
     thread: &mut Thread,
 ) -> Result<Want, NoMemory>
-    ensures { IfOk result (DoesIn sources thread.new (pieces (λ w d. meant.fed w d procedure input) thread.old sources)) }
+    ensures { IfOk result (DoesIn sources thread.new (pieces
+        (λ w d. meant.fed w d procedure input) thread.old sources)) }
 {
     fed_procedure(alloc, procedure, input, thread)
 }

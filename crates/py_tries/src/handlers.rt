@@ -75,7 +75,8 @@ fn choose(
     error: Raised,
     taken: Option<bool>,
 ) -> Result<Want, NoMemory>
-    ensures { IfOk result (Does thread.now (pieces (λ w d. chosen_at (around_at w d) handlers at error taken) thread.now)) }
+    ensures { IfOk result (Does thread.now (pieces (λ w d. chosen_at
+        (around_at w d) handlers at error taken) thread.now)) }
 {
     match handlers.get().get(at) {
         None => fail(alloc, thread, Fault::NotInProfile),

@@ -63,7 +63,8 @@ fn leave_block(
     otherwise: &Shared<Seq<Stmt>>,
     flow: Flow,
 ) -> Result<Want, NoMemory>
-    ensures { IfOk result (Does thread.now (pieces (λ w d. behind (around_at w d) handlers.now otherwise.now flow) thread.now)) }
+    ensures { IfOk result (Does thread.now (pieces (λ w d. behind
+        (around_at w d) handlers.now otherwise.now flow) thread.now)) }
 {
     match flow {
         Flow::Went(value) => {

@@ -1,3 +1,2 @@
-pub mod Endings
-pub mod Leaving
+pub mod Numbered
 pub mod Answering

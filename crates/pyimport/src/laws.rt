@@ -4,15 +4,20 @@ ghost use Rattle.tree_files.specs.Files.{Files};
 ghost use Rattle.machine_events.specs.declared.event.Entry.{Entry};
 ghost use Rattle.machine_laws.specs.Begun.{Begun, first};
 ghost use Rattle.solo_history.specs.Solo.{AreAlone, IsSolo};
-ghost use Rattle.pyimport.specs.Alone.{turns_of};
+ghost use Rattle.program_call.specs.Alone.{turns_of};
+ghost use Rattle.py_meaning.specs.Meaning.{meaning};
+ghost use Rattle.py_sources.specs.Sources.{sources};
 
-use solo_history::solo_without_stops;
+use crate::script::Script;
+use program_call::scripts_have_a_history;
 
 /// Scripts that run alone, each in a round of its own, have a history, whatever their texts, their
 /// files and their budget are, where no call of the tree fails. (That they have no other is the law
 /// `solo_is_one`.)
 pub fn each_script_has_a_history()
-    ensures { (b : Begun) (scripts : List (Files × List ℕ)) (fuel : ℕ) → AreAlone (first b) → length scripts ≡ length (first b).rounds → (history : List Entry) × IsSolo (first b) (turns_of 0 scripts) fuel history }
+    ensures { (b : Begun) (scripts : List (Files × List ℕ)) (fuel : ℕ) → AreAlone (first b)
+        → length scripts ≡ length (first b).rounds
+        → (history : List Entry) × IsSolo (first b) (turns_of (meaning sources) 0 scripts) fuel history }
 {
-    solo_without_stops();
+    scripts_have_a_history::<Script>();
 }

@@ -1,15 +1,13 @@
-//! The program: from the words of its command line to what is written, and to a status.
+//! The program: scripts of the language, run over a tree as the words of a command line ask.
 #![tactic(auto)]
 
-mod alone;
-mod answer;
-mod begin;
 mod laws;
-mod line;
-mod open;
-mod outlet;
+mod made;
+mod run;
+mod script;
 
-pub use alone::{Report, solo};
-pub use answer::pyimport;
 pub use laws::each_script_has_a_history;
-pub use outlet::Out;
+pub use program_call::{Out, Report};
+pub use round_run::{Gate, OpenGate};
+pub use run::{pyimport, run_all, solo};
+pub use script::Script;

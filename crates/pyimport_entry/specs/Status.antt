@@ -1,6 +1,6 @@
 -- The exit status of the program.
 use Rattle.std.specs.Prelude.{ℕ, Option, Some, None}
-use Rattle.pyimport.specs.declared.alone.Report.{Report}
+use Rattle.program_call.specs.declared.report.Report.{Report}
 
 -- that of its report, and 6 where memory was wanted for the words
 abbrev pub status_of : Option Report → ℕ

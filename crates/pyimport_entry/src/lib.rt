@@ -6,10 +6,12 @@ ghost use Rattle.std.specs.Process.{exit_status};
 ghost use Rattle.pyimport_entry.specs.Status.{status_of};
 
 use base_types::{NoMemory, Text};
-use pyimport::{Report, pyimport};
+use pyimport::{OpenGate, Report, pyimport};
 use std::env;
 use std::io::ErrorKind;
 use std::process::ExitCode;
+use std::sync::Wait;
+use std::thread::Threads;
 use tree_files::{RealTree, StdSink};
 
 /// The words after the program's name. Words that are not UTF-8 are refused, as no words are.
@@ -28,8 +30,8 @@ fn words_of(rt: &HostRuntime) -> Result<Vec<String>, NoMemory> {
 }
 
 /// What the words of the command line ask for is done over the current folder. There is no report
-/// where memory was wanted for the words.
-fn report(rt: HostRuntime) -> Option<Report> {
+/// where memory was wanted for the words. Several scripts run on threads of `threads`.
+fn report<R: Threads + Wait + Sync>(rt: HostRuntime, threads: &R) -> Option<Report> {
     let alloc = rt.alloc();
     let Ok(words) = words_of(&rt) else {
         return None;
@@ -37,7 +39,15 @@ fn report(rt: HostRuntime) -> Option<Report> {
     let mut tree = RealTree::at(rt, Text::new(alloc));
     let mut out = StdSink::out(rt);
     let mut err = StdSink::err(rt);
-    Some(pyimport(alloc, words.as_slice(), &mut tree, &mut out, &mut err))
+    Some(pyimport(
+        threads,
+        alloc,
+        words.as_slice(),
+        &mut tree,
+        &mut out,
+        &mut err,
+        &OpenGate,
+    ))
 }
 
 /// How the program ends: with the status of its report, and with 6 where it has none.
@@ -51,6 +61,6 @@ fn exit_of(report: Option<Report>) -> ExitCode
 }
 
 /// Runs the program, and gives its exit status.
-pub fn run(rt: HostRuntime) -> ExitCode {
-    exit_of(report(rt))
+pub fn run<R: Threads + Wait + Sync>(rt: HostRuntime, threads: &R) -> ExitCode {
+    exit_of(report(rt, threads))
 }

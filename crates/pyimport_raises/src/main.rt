@@ -5,5 +5,5 @@ use pyimport_entry::run;
 use std::process::ExitCode;
 
 fn main(rt: HostRuntime) -> ExitCode {
-    run(rt)
+    run(rt, &rt)
 }

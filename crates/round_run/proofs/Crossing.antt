@@ -166,7 +166,8 @@ state-send = recorded_send state_type.the_field.row _ _ state_type.the_type.to_o
 
 machine-send : IsSend machine_type.the_row
 machine-send = view_send machine_inside.the_row _ _ _ _ (recorded_send machine_inside.the_field.row _ _ machine_inside.the_type.to_one
-    (struct_send (structs.shape machine_inside.the_type) (state-field, tt)))
+    (struct_send (structs.shape machine_inside.the_type)
+    (state-field, (name_map.the_send builtin.u64 (plain_send _ _ _ _ _), tt))))
 
 pub book-send : (O : RattleType) (g : outlet.Ghosts O.Denot) → IsSend O → IsSend (book_type.the_row O g)
 book-send O g s = view_send (book_inside.the_row O g) _ _ _ _ (recorded_send (book_inside.the_field O g).row _ _ (book_inside.the_type O g).to_one

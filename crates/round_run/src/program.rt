@@ -29,5 +29,6 @@ pub trait Program: Drop {
         requires first { (D.sight desk.old).mine ≡ [] }
         ensures continues { Continues (D.sight desk.old) (D.sight desk.new) }
         ensures files { T.files tree.new ≡ T.files tree.old }
-        ensures ran { RanOver T.files T.faults T.lists tree.old tree.new script (run self.now script) fuel (D.sight desk.new).mine result };
+        ensures ran { RanOver T.files T.faults T.lists tree.old tree.new script (run self.now script) fuel
+            (D.sight desk.new).mine result };
 }

@@ -152,8 +152,10 @@ fn run_each<
         workers,
         threads,
         &|_, worker: &mut Worker<T, P>|
-            requires { IsNew room.now.shelf.now.table.shared.table_id (facts P.run T.files T.faults T.lists worker.now) }
-            ensures { Works room.entry.now.fuel (facts P.run T.files T.faults T.lists) worker.entry.now worker.exit.now }
+            requires { IsNew room.now.shelf.now.table.shared.table_id
+                (facts P.run T.files T.faults T.lists worker.now) }
+            ensures { Works room.entry.now.fuel (facts P.run T.files T.faults T.lists) worker.entry.now
+                worker.exit.now }
         { worker.work(room) },
     );
 }
@@ -184,6 +186,7 @@ fn leave<T: Grove, P: Program>(
     ensures room { vec_capacity results.old ≤ vec_capacity results.new }
     ensures files { T.files tree.new ≡ T.files tree.old }
     ensures counts { Absorbs T.faults T.lists tree.old tree.new worker.tree }
+    ensures faults_grow { T.faults tree.old ≤ T.faults tree.new }
 {
     let Worker {
         script: _,
@@ -209,7 +212,9 @@ fn gather_all<O: Outlet, T: Grove, P: Program>(
     requires room { (results.items ≡ []) × (length workers.items ≤ vec_capacity results) }
     requires passes { All (λ w. IsSomeAnd w.pass (λ pass. pass.table ≡ shelf.now.table.shared.table_id)) workers.items }
     ensures files { T.files tree.new ≡ T.files tree.old }
-    ensures gathered { Gathers shelf.now.table.shared.table_id (facts P.run T.files T.faults T.lists) (counted T.faults T.lists) workers.items tree.old tree.new result.0 result.1.items }
+    ensures gathered { Gathers shelf.now.table.shared.table_id (facts P.run T.files T.faults T.lists)
+        (counted T.faults T.lists) workers.items tree.old tree.new result.0 result.1.items }
+    ensures faults_grow { T.faults tree.old ≤ T.faults tree.new }
 {
     let first = last_of(&mut workers);
     let Some(mut pass) = leave(first, tree, &mut results) else {
@@ -246,7 +251,9 @@ pub fn run_round<
     requires fits { from + length programs.items < 2 ^ 32 }
     requires may { MayBegin book from (length programs.items) }
     ensures files { T.files tree.new ≡ T.files tree.old }
-    ensures ok { IfOk result (λ round. RoundOver O.piece O.out T.files T.faults T.lists tree.old tree.new from (map P.run programs.items) fuel book round.book round.results.items) }
+    ensures ok { IfOk result (λ round. RoundOver O.piece O.out T.files T.faults T.lists tree.old tree.new from
+        (map P.run programs.items) fuel book round.book round.results.items) }
+    ensures faults_grow { T.faults tree.old ≤ T.faults tree.new }
     ensures err { IfErr result (λ unrun. unrun.book ≡ book) }
     ensures unchanged { OnErr result ((T.faults tree.new ≡ T.faults tree.old) × (T.lists tree.new ≡ T.lists tree.old)) }
 {

@@ -42,7 +42,8 @@ impl<R: Wait, O: Outlet, G: Gate> Room<'_, R, O, G> {
         requires first { mine_of pass ≡ [] }
         ensures continues { Continues (sight_of pass) (sight_of result.0) }
         ensures files { T.files tree.new ≡ T.files tree.old }
-        ensures ran { RanOver T.files T.faults T.lists tree.old tree.new script (P.run program.now script) self.now.fuel (mine_of result.0) result.1 }
+        ensures ran { RanOver T.files T.faults T.lists tree.old tree.new script
+            (P.run program.now script) self.now.fuel (mine_of result.0) result.1 }
     {
         let mut desk = Gated {
             desk: SharedDesk::new(self.rt, self.shelf, pass, self.bell),

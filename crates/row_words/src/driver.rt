@@ -10,26 +10,48 @@ use std::process::ExitCode;
 pub trait Table {
     /// What comes of a row, `None` where it only says what later rows begin with. An answer that begins with a line end
     /// is written below its row.
-    fn answer(&mut self, alloc: Global, row: &mut Row<'_>) -> Result<Option<Text>, RowError>;
+    fn answer(&mut self, alloc: Global, row: &mut Row<'_>) -> Answered;
 }
+
+/// What comes of a row.
+pub type Answered = Result<Option<Text>, RowError>;
 
 /// Writes each row of the standard input with its answer. A row of which anything is not known is told on the
 /// standard error output and ends it, with status 1. Empty rows and notes, which begin with `#`, are written as they are.
 pub fn answer_rows<T: Table>(rt: HostRuntime, table: &mut T) -> ExitCode {
-    match each_is_answered(rt, table) {
+    answer_rows_by(
+        rt,
+        |alloc: Global, row: &mut Row<'_>| table.answer(alloc, row),
+    )
+}
+
+/// As `answer_rows`, with a closure in place of a table, for rows that start threads: no method of a trait may do that for
+/// any runtime.
+pub fn answer_rows_by<F: FnMut(Global, &mut Row<'_>) -> Answered + Drop>(
+    rt: HostRuntime,
+    mut answer: F,
+) -> ExitCode
+    requires pre { (f : _) (a : _) (row : _) → F.pre f a row }
+{
+    match each_is_answered(rt, &mut answer) {
         Ok(true) => ExitCode::SUCCESS,
         _ => ExitCode::FAILURE,
     }
 }
 
-fn each_is_answered<T: Table>(rt: HostRuntime, table: &mut T) -> io::Result<bool> {
+fn each_is_answered<F: FnMut(Global, &mut Row<'_>) -> Answered + Drop>(
+    rt: HostRuntime,
+    answer: &mut F,
+) -> io::Result<bool>
+    requires pre { (f : _) (a : _) (row : _) → F.pre f a row }
+{
     let alloc = rt.alloc();
     let mut out = BufWriter::new(alloc, io::writer(&rt))?;
     for (n, line) in BufReader::new(alloc, rt.reader())?.lines(alloc).enumerate() {
         let line = line?;
-        let answer = answer_of(alloc, table, line.as_str());
+        let answered = answer_of(alloc, answer, line.as_str());
         out.write_all(line.as_bytes())?;
-        if !put_answer(&mut out, &answer)? {
+        if !put_answer(&mut out, &answered)? {
             out.flush()?;
             eprintln!(rt; "line {} is not known: {line}", n.saturating_add(1))?;
             return Ok(false);
@@ -39,14 +61,20 @@ fn each_is_answered<T: Table>(rt: HostRuntime, table: &mut T) -> io::Result<bool
     Ok(true)
 }
 
-fn answer_of<T: Table>(alloc: Global, table: &mut T, line: &str) -> Result<Option<Text>, RowError> {
+fn answer_of<F: FnMut(Global, &mut Row<'_>) -> Answered + Drop>(
+    alloc: Global,
+    answer: &mut F,
+    line: &str,
+) -> Answered
+    requires pre { (f : _) (a : _) (row : _) → F.pre f a row }
+{
     let mut row = Row::of(line);
     if row.is_done() || line.starts_with('#') {
         return Ok(None);
     }
-    let answer = table.answer(alloc, &mut row)?;
+    let answered = answer(alloc, &mut row)?;
     if row.is_done() {
-        Ok(answer)
+        Ok(answered)
     } else {
         Err(RowError::Unknown)
     }

@@ -5,5 +5,5 @@
 mod driver;
 mod row;
 
-pub use driver::{Table, answer_rows};
+pub use driver::{Answered, Table, answer_rows, answer_rows_by};
 pub use row::{Row, RowError};

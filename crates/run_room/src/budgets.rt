@@ -1,11 +1,13 @@
 //! A call with each budget that is too small, and with the one that is just enough.
 
-use crate::calls::{Call, sink, tree};
+use crate::calls::{Call, sink, tree, with_option};
 use base_types::Text;
 use machine_events::{Entry, Event, Outcome, Reply};
-use pyimport::{Report, pyimport};
+use pyimport::{OpenGate, Report, pyimport};
 use row_words::RowError;
 use std::alloc::Global;
+use std::sync::Wait;
+use std::thread::Threads;
 use tree_files::MemSink;
 
 /// Budgets below this one are tried.
@@ -58,26 +60,27 @@ fn ends_spent(history: &[Entry], units: u64) -> bool {
     }
 }
 
-/// The words of a call of `run` with a budget.
-fn with_budget(alloc: Global, words: &[String], units: u64) -> Result<Vec<String>, RowError> {
-    let Some((command, others)) = words.split_first() else {
-        return Err(RowError::Unknown);
-    };
-    let mut all = Vec::new(alloc);
-    all.push(String::from_str(alloc, command.as_str())?)?;
-    all.push(format!(in alloc; "--fuel={units}")?)?;
-    for word in others {
-        all.push(String::from_str(alloc, word.as_str())?)?;
-    }
-    Ok(all)
-}
-
 /// The call with a budget.
-fn tried(alloc: Global, call: &Call, units: u64, out: &mut MemSink) -> Result<Report, RowError> {
-    let words = with_budget(alloc, call.words.as_slice(), units)?;
+fn tried<R: Threads + Wait + Sync>(
+    rt: &R,
+    alloc: Global,
+    call: &Call,
+    units: u64,
+    out: &mut MemSink,
+) -> Result<Report, RowError> {
+    let budget = format!(in alloc; "--fuel={units}")?;
+    let words = with_option(alloc, call.words.as_slice(), budget.as_str())?;
     let mut tree = tree(alloc, call)?;
     let mut err = sink(alloc, None);
-    Ok(pyimport(alloc, words.as_slice(), &mut tree, out, &mut err))
+    Ok(pyimport(
+        rt,
+        alloc,
+        words.as_slice(),
+        &mut tree,
+        out,
+        &mut err,
+        &OpenGate,
+    ))
 }
 
 /// Whether so many units are enough, `None` where the call ends neither well nor with a budget that is spent, or leaves a
@@ -98,11 +101,15 @@ fn is_enough(report: &Report, units: u64) -> Option<bool> {
 
 /// The least budget that is enough. With each smaller one the budget must be spent and the output a prefix, and no lock
 /// may be left.
-pub fn each_budget(alloc: Global, call: &Call) -> Result<Text, RowError> {
+pub fn each_budget<R: Threads + Wait + Sync>(
+    rt: &R,
+    alloc: Global,
+    call: &Call,
+) -> Result<Text, RowError> {
     let mut before = sink(alloc, None);
     for units in 1..MOST_UNITS {
         let mut out = sink(alloc, None);
-        let report = tried(alloc, call, units, &mut out)?;
+        let report = tried(rt, alloc, call, units, &mut out)?;
         let enough = is_enough(&report, units);
         if !out.bytes().starts_with(before.bytes()) || enough.is_none() {
             break;

@@ -12,6 +12,14 @@ pub enum Holding {
     Dir { path: Text, time: u64 },
 }
 
+/// What a call may come to, where several scripts may run in any order.
+#[derive(Drop)]
+pub struct Outcome {
+    pub out: Text,
+    pub err: Text,
+    pub status: u64,
+}
+
 /// A call of the program.
 #[derive(Drop)]
 pub struct Call {
@@ -22,6 +30,7 @@ pub struct Call {
     /// The bytes that each output takes, all where there is none.
     pub out_room: Option<u64>,
     pub err_room: Option<u64>,
+    pub allowed: Vec<Outcome>,
 }
 
 impl Call {
@@ -32,6 +41,7 @@ impl Call {
             fails: Vec::new(alloc),
             out_room: None,
             err_room: None,
+            allowed: Vec::new(alloc),
         }
     }
 
@@ -41,6 +51,20 @@ impl Call {
         self.out_room = None;
         self.err_room = None;
     }
+}
+
+/// The words of a call with an option behind its first word.
+pub fn with_option(alloc: Global, words: &[String], option: &str) -> Result<Vec<String>, RowError> {
+    let Some((command, others)) = words.split_first() else {
+        return Err(RowError::Unknown);
+    };
+    let mut all = Vec::new(alloc);
+    all.push(String::from_str(alloc, command.as_str())?)?;
+    all.push(String::from_str(alloc, option)?)?;
+    for word in others {
+        all.push(String::from_str(alloc, word.as_str())?)?;
+    }
+    Ok(all)
 }
 
 /// Puts bytes behind the file that was begun last.

@@ -6,5 +6,6 @@ mod budgets;
 mod calls;
 mod outcomes;
 mod runs;
+mod schedules;
 
 pub use runs::Runs;

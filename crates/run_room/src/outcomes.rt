@@ -2,21 +2,32 @@
 
 use crate::calls::{Call, sink, tree};
 use base_types::Text;
-use pyimport::pyimport;
+use pyimport::{OpenGate, pyimport};
 use quoted_text::write_source;
 use row_words::RowError;
 use std::alloc::Global;
+use std::sync::Wait;
+use std::thread::Threads;
 use tree_files::MemSink;
 
 /// The status of a call over its tree.
-fn status(
+fn status<R: Threads + Wait + Sync>(
+    rt: &R,
     alloc: Global,
     call: &Call,
     out: &mut MemSink,
     err: &mut MemSink,
 ) -> Result<u8, RowError> {
     let mut tree = tree(alloc, call)?;
-    let report = pyimport(alloc, call.words.as_slice(), &mut tree, out, err);
+    let report = pyimport(
+        rt,
+        alloc,
+        call.words.as_slice(),
+        &mut tree,
+        out,
+        err,
+        &OpenGate,
+    );
     Ok(report.status)
 }
 
@@ -48,11 +59,8 @@ fn put_lines(mut told: Text, bytes: &[u8]) -> Result<Text, RowError> {
     Ok(told)
 }
 
-/// What a call writes, and its status.
-pub fn told(alloc: Global, call: &Call) -> Result<Text, RowError> {
-    let mut out = sink(alloc, call.out_room);
-    let mut err = sink(alloc, call.err_room);
-    let status = status(alloc, call, &mut out, &mut err)?;
+/// What both sinks hold, and a status.
+fn lines_told(alloc: Global, out: &MemSink, err: &MemSink, status: u8) -> Result<Text, RowError> {
     let mut told = Text::from_str(alloc, "\nout")?;
     told = put_lines(told, out.bytes())?;
     if !err.bytes().is_empty() {
@@ -63,23 +71,45 @@ pub fn told(alloc: Global, call: &Call) -> Result<Text, RowError> {
     Ok(told)
 }
 
+/// What a call writes, and its status.
+pub fn told<R: Threads + Wait + Sync>(
+    rt: &R,
+    alloc: Global,
+    call: &Call,
+) -> Result<Text, RowError> {
+    let mut out = sink(alloc, call.out_room);
+    let mut err = sink(alloc, call.err_room);
+    let status = status(rt, alloc, call, &mut out, &mut err)?;
+    lines_told(alloc, &out, &err, status)
+}
+
 /// Whether a call whose error output takes so many bytes keeps a prefix of what it would write, and ends with status 5.
-fn keeps_prefix(alloc: Global, call: &Call, whole: &[u8], room: usize) -> Result<bool, RowError> {
+fn keeps_prefix<R: Threads + Wait + Sync>(
+    rt: &R,
+    alloc: Global,
+    call: &Call,
+    whole: &[u8],
+    room: usize,
+) -> Result<bool, RowError> {
     let mut out = sink(alloc, call.out_room);
     let mut err = sink(alloc, Some(room as u64));
-    let status = status(alloc, call, &mut out, &mut err)?;
+    let status = status(rt, alloc, call, &mut out, &mut err)?;
     let (prefix, _) = whole.split_at(room.min(whole.len()));
     Ok(status == 5 && err.bytes() == prefix)
 }
 
 /// What comes of the call with each room of its error output that is too small.
-pub fn each_room(alloc: Global, call: &Call) -> Result<Text, RowError> {
+pub fn each_room<R: Threads + Wait + Sync>(
+    rt: &R,
+    alloc: Global,
+    call: &Call,
+) -> Result<Text, RowError> {
     let mut out = sink(alloc, call.out_room);
     let mut err = sink(alloc, None);
-    status(alloc, call, &mut out, &mut err)?;
+    status(rt, alloc, call, &mut out, &mut err)?;
     let len = err.bytes().len();
     for room in 0..len {
-        if !keeps_prefix(alloc, call, err.bytes(), room)? {
+        if !keeps_prefix(rt, alloc, call, err.bytes(), room)? {
             return Ok(Text::from_string(format!(in alloc; "otherwise with room for {room}")?));
         }
     }

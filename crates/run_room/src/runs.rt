@@ -1,10 +1,12 @@
 //! The rows, and what each does.
 
-use crate::calls::{Call, Holding, put_all};
-use crate::{budgets, outcomes};
+use crate::calls::{Call, Holding, Outcome, put_all};
+use crate::{budgets, outcomes, schedules};
 use base_types::{Seq, Text};
-use row_words::{Row, RowError, Table};
+use row_words::{Answered, Row, RowError};
 use std::alloc::Global;
+use std::sync::Wait;
+use std::thread::Threads;
 
 /// What the rows so far have made.
 #[derive(Drop)]
@@ -14,9 +16,6 @@ pub struct Runs {
 
 /// The most words of a call.
 const MOST_WORDS: u32 = 1000;
-
-/// What comes of a row: a text, or nothing where it says what a call begins with.
-type Answered = Result<Option<Text>, RowError>;
 
 /// The fork that a row names, `-` for the tree that is handed in.
 fn fork_number(row: &mut Row<'_>) -> Result<Option<u32>, RowError> {
@@ -103,32 +102,53 @@ impl Runs {
         Ok(None)
     }
 
-    fn run(&mut self, alloc: Global, row: &mut Row<'_>) -> Answered {
+    /// `allow OUT ERR STATUS`: what a call of several scripts may come to.
+    fn allow(&mut self, alloc: Global, row: &mut Row<'_>) -> Answered {
+        let out = row.text(alloc)?;
+        let err = row.text(alloc)?;
+        let status = row.number()?;
+        self.call.allowed.push(Outcome { out, err, status })?;
+        Ok(None)
+    }
+
+    fn run<R: Threads + Wait + Sync>(
+        &mut self,
+        rt: &R,
+        alloc: Global,
+        row: &mut Row<'_>,
+    ) -> Answered {
         if row.takes("with each room of err") {
-            return Ok(Some(outcomes::each_room(alloc, &self.call)?));
+            return Ok(Some(outcomes::each_room(rt, alloc, &self.call)?));
         }
         if row.takes("with each budget") {
-            return Ok(Some(budgets::each_budget(alloc, &self.call)?));
+            return Ok(Some(budgets::each_budget(rt, alloc, &self.call)?));
         }
-        let told = outcomes::told(alloc, &self.call)?;
+        if row.takes("again and again") {
+            return Ok(Some(schedules::each_run(rt, alloc, &self.call)?));
+        }
+        let told = outcomes::told(rt, alloc, &self.call)?;
         self.call.forget();
         Ok(Some(told))
     }
 
-    /// A row that says what fails, or makes the call.
-    fn failing(&mut self, alloc: Global, first: &str, row: &mut Row<'_>) -> Answered {
+    /// A row that says what fails, or what may come.
+    fn other(&mut self, alloc: Global, first: &str, row: &mut Row<'_>) -> Answered {
         match first {
             "room" => self.room(row),
             "err_room" => self.err_room(row),
             "fail" => self.fail(row),
-            "run" => self.run(alloc, row),
+            "allow" => self.allow(alloc, row),
             _ => Err(RowError::Unknown),
         }
     }
-}
 
-impl Table for Runs {
-    fn answer(&mut self, alloc: Global, row: &mut Row<'_>) -> Result<Option<Text>, RowError> {
+    /// What comes of a row. Several scripts run on threads of `rt`.
+    pub fn answer<R: Threads + Wait + Sync>(
+        &mut self,
+        rt: &R,
+        alloc: Global,
+        row: &mut Row<'_>,
+    ) -> Answered {
         if let Some(line) = row.line_behind("|") {
             return self.line(line, b"\n");
         }
@@ -141,7 +161,8 @@ impl Table for Runs {
             "dir" => self.dir(alloc, row),
             "pieces" => self.pieces(alloc, row),
             "words" => self.words(alloc, row),
-            first => self.failing(alloc, first, row),
+            "run" => self.run(rt, alloc, row),
+            first => self.other(alloc, first, row),
         }
     }
 }

@@ -104,9 +104,11 @@ fn ending_of(flow: Flow) -> Result<(Ending, Outcome), NoMemory>
 /// A script whose work is done makes its End event.
 pub fn came<P: Port>(port: &mut P, flow: Flow, fuel: u64) -> Result<Ending, Halt>
     requires ready { (P.view port.old).ready }
-    requires knows { IsShown (shown (P.view port.old).number (P.view port.old).mine) (ev.End (meant.outcome_of flow) fuel) }
+    requires knows { IsShown (shown (P.view port.old).number (P.view port.old).mine)
+        (ev.End (meant.outcome_of flow) fuel) }
     ensures stays { Stays (P.view port.old) (P.view port.new) }
-    ensures ends { IfOk result (λ ending. (outcome ending ≡ meant.outcome_of flow) × ((P.view port.new).mine ≡ (P.view port.old).mine ++ (ev.End (meant.outcome_of flow) fuel, Done) ∷ [])) }
+    ensures ends { IfOk result (λ ending. (outcome ending ≡ meant.outcome_of flow)
+        × ((P.view port.new).mine ≡ (P.view port.old).mine ++ (ev.End (meant.outcome_of flow) fuel, Done) ∷ [])) }
     ensures read { IfOk result (λ ending. IsRead ending → ⊥) }
     ensures grows { OnOk result (lists_in (P.view port.old).mine ≤ lists_in (P.view port.new).mine) }
     ensures err { OnErr result ((P.view port.new).mine ≡ (P.view port.old).mine) }
@@ -128,7 +130,8 @@ pub fn came<P: Port>(port: &mut P, flow: Flow, fuel: u64) -> Result<Ending, Halt
 fn broke<P: Port>(port: &mut P, held: &mut Held, how: Outcome, spent: u64) -> Result<(), Halt>
     requires idle { Idle (P.view port.old) held.old }
     ensures stays { Stays (P.view port.old) (P.view port.new) }
-    ensures ends { OnOk result (GaveAll (P.view port.old).number (P.view port.old).mine (P.view port.new).mine how spent) }
+    ensures ends { OnOk result (GaveAll (P.view port.old).number (P.view port.old).mine
+        (P.view port.new).mine how spent) }
     ensures grows { OnOk result (lists_in (P.view port.old).mine ≤ lists_in (P.view port.new).mine) }
     ensures part { OnErr result (Gave (P.view port.old).number (P.view port.old).mine (P.view port.new).mine) }
 {
@@ -148,7 +151,8 @@ fn broke<P: Port>(port: &mut P, held: &mut Held, how: Outcome, spent: u64) -> Re
 pub fn spent<P: Port>(port: &mut P, held: &mut Held, fuel: u64) -> Result<Ending, Halt>
     requires idle { Idle (P.view port.old) held.old }
     ensures stays { Stays (P.view port.old) (P.view port.new) }
-    ensures ends { IfOk result (λ ending. (outcome ending ≡ outcomes.Fuel) × GaveAll (P.view port.old).number (P.view port.old).mine (P.view port.new).mine outcomes.Fuel fuel) }
+    ensures ends { IfOk result (λ ending. (outcome ending ≡ outcomes.Fuel)
+        × GaveAll (P.view port.old).number (P.view port.old).mine (P.view port.new).mine outcomes.Fuel fuel) }
     ensures read { IfOk result (λ ending. IsRead ending → ⊥) }
     ensures grows { OnOk result (lists_in (P.view port.old).mine ≤ lists_in (P.view port.new).mine) }
     ensures part { OnErr result (Gave (P.view port.old).number (P.view port.old).mine (P.view port.new).mine) }
@@ -164,7 +168,8 @@ pub fn spent<P: Port>(port: &mut P, held: &mut Held, fuel: u64) -> Result<Ending
 pub fn unread<P: Port>(port: &mut P, held: &mut Held, paid: u64) -> Result<Ending, Halt>
     requires idle { Idle (P.view port.old) held.old }
     ensures stays { Stays (P.view port.old) (P.view port.new) }
-    ensures ends { IfOk result (λ ending. (outcome ending ≡ outcomes.Read) × GaveAll (P.view port.old).number (P.view port.old).mine (P.view port.new).mine outcomes.Read paid) }
+    ensures ends { IfOk result (λ ending. (outcome ending ≡ outcomes.Read)
+        × GaveAll (P.view port.old).number (P.view port.old).mine (P.view port.new).mine outcomes.Read paid) }
     ensures grows { OnOk result (lists_in (P.view port.old).mine ≤ lists_in (P.view port.new).mine) }
     ensures part { OnErr result (Gave (P.view port.old).number (P.view port.old).mine (P.view port.new).mine) }
 {

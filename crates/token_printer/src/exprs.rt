@@ -29,7 +29,8 @@ fn strength(expr: &Expr) -> u8
 
 /// The expression that an expression begins with, and how strongly that has to bind.
 fn left_of(expr: &Expr) -> Option<(&Expr, u8)>
-    ensures value { MatchOption result (part.left expr.now ≡ None) (λ left. part.left expr.now ≡ Some (left.0.now, left.1)) }
+    ensures value { MatchOption result (part.left expr.now ≡ None)
+        (λ left. part.left expr.now ≡ Some (left.0.now, left.1)) }
     ensures smaller { IfSome result (λ left. size-Expr left.0.now < size-Expr expr.now) }
 {
     match expr {
@@ -73,7 +74,8 @@ fn put_closing(out: &mut Seq<Lexeme>, expr: &Expr) -> Result<(), NoMemory>
 /// Goes down to the innermost left side, and puts the parentheses that open on the way. It gives the expressions that it
 /// comes by, the innermost last.
 fn put_openings<'a>(out: &mut Seq<Lexeme>, expr: &'a Expr) -> Result<Seq<&'a Expr>, NoMemory>
-    ensures put { IfOk result (λ parts. out.new ++ part.behind (map (λ p. p.now) parts) ≡ out.old ++ print.expr_tokens expr.now) }
+    ensures put { IfOk result (λ parts. out.new ++ part.behind (map (λ p. p.now) parts) ≡ out.old
+        ++ print.expr_tokens expr.now) }
     ensures within { IfOk result (λ parts. part.NoDeeper (size-Expr expr.now) (map (λ p. p.now) parts)) }
 {
     let mut parts = Seq::new(out.alloc());
@@ -139,7 +141,8 @@ fn put_own(out: &mut Seq<Lexeme>, expr: &Expr) -> Result<(), NoMemory>
 /// A comparison before its right operand.
 #[cycle(exprs)]
 fn put_compared(out: &mut Seq<Lexeme>, comparison: Comparison, expr: &Expr) -> Result<(), NoMemory>
-    ensures { OnOk result (out.new ≡ out.old ++ (print.comparator comparison ++ print.operand 5 (print.print_of expr.now))) }
+    ensures { OnOk result (out.new ≡ out.old ++ (print.comparator comparison
+        ++ print.operand 5 (print.print_of expr.now))) }
 {
     put_comparator(out, comparison)?;
     put_operand(out, 5, expr)
@@ -177,7 +180,8 @@ fn put_attribute(out: &mut Seq<Lexeme>, name: &Text) -> Result<(), NoMemory>
 
 #[cycle(exprs)]
 fn put_arguments(out: &mut Seq<Lexeme>, arguments: &Seq<Shared<Expr>>) -> Result<(), NoMemory>
-    ensures { OnOk result (out.new ≡ out.old ++ print.enclosed token.OpenParen (print.items (map print.print_of arguments.now)) token.CloseParen) }
+    ensures { OnOk result (out.new ≡ out.old ++ print.enclosed token.OpenParen
+        (print.items (map print.print_of arguments.now)) token.CloseParen) }
 {
     put(out, Lexeme::OpenParen)?;
     put_items(out, arguments)?;
@@ -186,7 +190,8 @@ fn put_arguments(out: &mut Seq<Lexeme>, arguments: &Seq<Shared<Expr>>) -> Result
 
 #[cycle(exprs)]
 fn put_index(out: &mut Seq<Lexeme>, index: &Expr) -> Result<(), NoMemory>
-    ensures { OnOk result (out.new ≡ out.old ++ print.enclosed token.OpenBracket (print.expr_tokens index.now) token.CloseBracket) }
+    ensures { OnOk result (out.new ≡ out.old ++ print.enclosed token.OpenBracket
+        (print.expr_tokens index.now) token.CloseBracket) }
 {
     put(out, Lexeme::OpenBracket)?;
     put_expr(out, index)?;
@@ -195,7 +200,8 @@ fn put_index(out: &mut Seq<Lexeme>, index: &Expr) -> Result<(), NoMemory>
 
 #[cycle(exprs)]
 fn put_list(out: &mut Seq<Lexeme>, items: &Seq<Shared<Expr>>) -> Result<(), NoMemory>
-    ensures { OnOk result (out.new ≡ out.old ++ print.enclosed token.OpenBracket (print.items (map print.print_of items.now)) token.CloseBracket) }
+    ensures { OnOk result (out.new ≡ out.old ++ print.enclosed token.OpenBracket
+        (print.items (map print.print_of items.now)) token.CloseBracket) }
 {
     put(out, Lexeme::OpenBracket)?;
     put_items(out, items)?;
@@ -204,7 +210,8 @@ fn put_list(out: &mut Seq<Lexeme>, items: &Seq<Shared<Expr>>) -> Result<(), NoMe
 
 #[cycle(exprs)]
 fn put_tuple(out: &mut Seq<Lexeme>, items: &Seq<Shared<Expr>>) -> Result<(), NoMemory>
-    ensures { OnOk result (out.new ≡ out.old ++ print.enclosed token.OpenParen (print.tuple_items (map print.print_of items.now)) token.CloseParen) }
+    ensures { OnOk result (out.new ≡ out.old ++ print.enclosed token.OpenParen
+        (print.tuple_items (map print.print_of items.now)) token.CloseParen) }
 {
     put(out, Lexeme::OpenParen)?;
     put_items(out, items)?;

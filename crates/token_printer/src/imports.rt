@@ -64,7 +64,8 @@ pub(crate) fn put_from(
     parts: &Texts,
     names: &ImportedNames,
 ) -> Result<(), NoMemory>
-    ensures { OnOk result (out.new ≡ out.old ++ token.From ∷ ((print.dots dots ++ print.names_with token.Dot parts.now) ++ token.Import ∷ print.imported names.now)) }
+    ensures { OnOk result (out.new ≡ out.old ++ token.From ∷
+        ((print.dots dots ++ print.names_with token.Dot parts.now) ++ token.Import ∷ print.imported names.now)) }
 {
     put(out, Lexeme::From)?;
     put_dots(out, dots)?;

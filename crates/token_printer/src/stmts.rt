@@ -24,7 +24,8 @@ fn put_evaluate(out: &mut Seq<Lexeme>, expr: &Expr) -> Result<(), NoMemory>
 }
 
 fn put_assign(out: &mut Seq<Lexeme>, target: &Expr, value: &Expr) -> Result<(), NoMemory>
-    ensures { OnOk result (out.new ≡ out.old ++ print.on_line (expr_tokens target.now ++ token.Assign ∷ expr_tokens value.now)) }
+    ensures { OnOk result (out.new ≡ out.old ++ print.on_line
+        (expr_tokens target.now ++ token.Assign ∷ expr_tokens value.now)) }
 {
     put_expr(out, target)?;
     put(out, Lexeme::Assign)?;
@@ -38,7 +39,8 @@ fn put_augment(
     op: BinaryOp,
     value: &Expr,
 ) -> Result<(), NoMemory>
-    ensures { OnOk result (out.new ≡ out.old ++ print.on_line (token.Name name.now ∷ print.augmented op ∷ expr_tokens value.now)) }
+    ensures { OnOk result (out.new ≡ out.old ++ print.on_line
+        (token.Name name.now ∷ print.augmented op ∷ expr_tokens value.now)) }
 {
     put_name(out, name)?;
     put(out, augmented(op))?;
@@ -97,7 +99,9 @@ fn put_from_line(
     parts: &Texts,
     names: &ImportedNames,
 ) -> Result<(), NoMemory>
-    ensures { OnOk result (out.new ≡ out.old ++ print.on_line (token.From ∷ ((print.dots dots ++ print.names_with token.Dot parts.now) ++ token.Import ∷ print.imported names.now))) }
+    ensures { OnOk result (out.new ≡ out.old ++ print.on_line
+        (token.From ∷ ((print.dots dots ++ print.names_with token.Dot parts.now)
+        ++ token.Import ∷ print.imported names.now))) }
 {
     put_from(out, dots, parts, names)?;
     put(out, Lexeme::Newline)
@@ -248,7 +252,8 @@ fn put_handlers(out: &mut Seq<Lexeme>, handlers: &Seq<Handler>) -> Result<(), No
 
 #[cycle(stmts)]
 fn put_try(out: &mut Seq<Lexeme>, body: &Seq<Stmt>) -> Result<(), NoMemory>
-    ensures { OnOk result (out.new ≡ out.old ++ token.Try ∷ token.Colon ∷ print.block (map print.stmt_tokens body.now)) }
+    ensures { OnOk result (out.new ≡ out.old ++ token.Try ∷ token.Colon ∷ print.block
+        (map print.stmt_tokens body.now)) }
 {
     put(out, Lexeme::Try)?;
     put(out, Lexeme::Colon)?;

@@ -1,8 +1,7 @@
 -- The steps, at a seat as it stands.
-use Rattle.std.proofs.Common.{◌≡◌, ◌≢◌, ◌⊎◌, ⊎_elim, ℕ, zero, suc, ◌+◌, ◌-◌, ◌<◌, ◌≤◌, List, [], ◌∷◌, ◌++◌, length, get_or, Option, Some, None, append-nil, Bool, true, false, refl, sym, ap, ◌∙◌, subst, inl, inr, arith, append_assoc}
+use Rattle.std.proofs.Common.{◌≡◌, ◌≢◌, ◌⊎◌, ⊎_elim, ℕ, zero, suc, ◌+◌, ◌-◌, ◌<◌, ◌≤◌, List, [], ◌∷◌, ◌++◌, length, get_or, Option, Some, None, append-nil, Bool, true, false, refl, sym, ap, ◌∙◌, subst, inl, arith, append_assoc}
 use Rattle.std.specs.Prelude.{◌==◌}
 use mathlib.Core.Option as m
-use mathlib.Core.List.{IsPrefix}
 use prog.Atomic.{either}
 use Rattle.atomic_table.specs.Table.{Allows, step, rest}
 use Rattle.machine_events.specs.declared.event.Event.{Event}

@@ -35,15 +35,20 @@ module _ {O : Type 0} where
 
   abbrev pub Merges : Step (Option (BoundTo O)) → Seated O → ℕ → Seated O → Type 0
   Merges s me found after =
-      (after ≡ (merged me.0, me.1)) × (IsPrefix me.0.seen (taken_seen me.0.phase) ⊎ IsPrefix (taken_seen me.0.phase) me.0.seen)
-      × ((i : ℕ) → Has i me.0.numbers → own i (longer me.0.seen (taken_seen me.0.phase)) ≡ own i me.0.seen)
-      × ((i : ℕ) → Has i (taken_numbers me.0.phase) → own i (longer me.0.seen (taken_seen me.0.phase)) ≡ own i (taken_seen me.0.phase))
-      × (Rounded me.0.base me.0.seen → Rounded me.0.base (longer me.0.seen (taken_seen me.0.phase)))
+      let other = taken_seen me.0.phase in
+      let both = longer me.0.seen other in
+      (after ≡ (merged me.0, me.1)) × (IsPrefix me.0.seen other ⊎ IsPrefix other me.0.seen)
+      × ((i : ℕ) → Has i me.0.numbers → own i both ≡ own i me.0.seen)
+      × ((i : ℕ) → Has i (taken_numbers me.0.phase) → own i both ≡ own i other)
+      × (Rounded me.0.base me.0.seen → Rounded me.0.base both)
 
 module _ {O : Type 0} (piece : Pieces) (out : O → Outgo) where
-  -- the turn was had, with a book whose history begins with what was seen, and in which the seat's own events are as it knows them
+  -- the turn was had, with a book whose history begins with what was seen, and in which the seat's own events are as it
+  -- knows them
   abbrev pub Took : Seated O → Seated O → Type 0
-  Took me after = (b : BoundTo O) × (after ≡ (holding me.0 b.history, (0, Some b) ∷ [])) × Written piece out me.0.base b.history b × Sees b.history me.0.numbers me.0.seen
+  Took me after =
+      (b : BoundTo O) × (after ≡ (holding me.0 b.history, (0, Some b) ∷ [])) × Written piece out me.0.base b.history b
+      × Sees b.history me.0.numbers me.0.seen
 
   abbrev pub Takes : Step (Option (BoundTo O)) → Seated O → ℕ → Seated O → Type 0
   Takes s me found after = (found ≡ 0 → Took me after) × (found ≢ 0 → after ≡ me)

@@ -1,5 +1,5 @@
 -- The rule of a shelf: one history, of which each view has seen a beginning, and one turn.
-use Rattle.std.specs.Prelude.{◌≡◌, ℕ, ◌<◌, ◌⊎◌, List, [], ◌∷◌, ◌++◌, length, false, Option, Some, None}
+use Rattle.std.specs.Prelude.{◌≡◌, ℕ, ◌⊎◌, List, [], ◌∷◌, ◌++◌, length, false, Option, Some, None}
 use mathlib.Core.Option as m
 use mathlib.Core.List.{IsPrefix}
 use lib.ListN.{get_elem?}
@@ -35,7 +35,8 @@ Follows h ns next = (next ≡ h) ⊎ ((e : Entry) × (next ≡ h ++ e ∷ []) ×
 
 -- each number of the round is spoken for, by the view that `who` names
 abbrev pub Voices : Base → (ℕ → ℕ) → List View → Type 0
-Voices o who views = (i : ℕ) → Within o i → (v : View) × (get_elem? views (who i) ≡ m.some v) × (Has i v.numbers ⊎ Has i (taken_numbers v.phase))
+Voices o who views =
+    (i : ℕ) → Within o i → (v : View) × (get_elem? views (who i) ≡ m.some v) × (Has i v.numbers ⊎ Has i (taken_numbers v.phase))
 
 module _ {O : Type 0} where
   -- a new view finds the slot empty and at home; any other that has the turn has the slot out
@@ -47,7 +48,8 @@ module _ {O : Type 0} where
   place_of Spent = m.none
 
   -- the view v of the seat `by` has the turn
-  pub record Held (h : List Entry) (by : ℕ) (v : View) (next : List Entry) (s : State (Option (BoundTo O)) View) : Type 0 where
+  pub record Held (h : List Entry) (by : ℕ) (v : View) (next : List Entry) (s : State (Option (BoundTo O)) View)
+      : Type 0 where
     pub there : get_elem? s.views by ≡ m.some v
     pub holds : next_of v.phase ≡ Some next
     pub follows : Follows h v.numbers next

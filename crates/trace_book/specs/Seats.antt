@@ -1,16 +1,21 @@
 -- What the seat of a pass is, between calls and while it has the turn, and what is told of a step at it.
 use Rattle.std.specs.Prelude.{◌≡◌, ℕ, List, [], ◌∷◌, ◌++◌, Some}
 use Rattle.machine_events.specs.declared.event.Event.{Event}
+use Rattle.machine_events.specs.declared.event.Event.TheVariants.{Wake}
 use Rattle.machine_events.specs.declared.event.Reply.{Reply}
 use Rattle.machine_events.specs.declared.event.Entry.{Entry}
 use Rattle.machine_events.specs.Fitting.{Fits}
-use Rattle.machine_state.specs.declared.state.State.{State}
 use Rattle.machine_state.specs.Legal.{Allowed, IsLegal, replay}
+use Rattle.thread_knowledge.specs.Own.{own}
 use Rattle.machine_laws.specs.Begun.{Begun, first}
 use Rattle.machine_book.specs.Bound.{BoundTo}
 use Rattle.machine_book.specs.Outgo.{Outgo, Pieces}
+use Rattle.machine_book.specs.Sight.{Continues, Gains}
+use Rattle.trace_book.specs.declared.view.Base.{Base}
 use Rattle.trace_book.specs.declared.view.View.{View}
-use Rattle.trace_book.specs.Views.{Has, Within, Rounded, holding, idle}
+use Rattle.trace_book.specs.declared.view.Phase.TheVariants.{Idle}
+use Rattle.trace_book.specs.Views.{Has, Within, Rounded, view, holding, idle, longer}
+use Rattle.trace_book.specs.Told.{TableId, seat_sight}
 use Rattle.trace_book.specs.Rule.{Written, Sees}
 use Rattle.trace_book.specs.Plays.{Seated, history_out}
 
@@ -27,14 +32,16 @@ Ready me t = Rests me.0 t × (me.1 ≡ [])
 
 -- with the turn, and a book that it may give back
 abbrev pub Busy : {O : Type 0} → Pieces → (O → Outgo) → Seated O → Type 0
-Busy {O} piece out me = (b : BoundTo O) × (me ≡ (holding me.0 b.history, (0, Some b) ∷ [])) × Written piece out me.0.base b.history b
+Busy {O} piece out me =
+    (b : BoundTo O) × (me ≡ (holding me.0 b.history, (0, Some b) ∷ [])) × Written piece out me.0.base b.history b
 
 -- the seat has the turn, and its thread may make the event
 pub record MayMake {O : Type 0} (me : Seated O) (t : ℕ) (e : Event) : Type 0 where
   pub number : Has t me.0.numbers
   pub within : Within me.0.base t
   pub sees : Sees (history_out me.1) me.0.numbers me.0.seen
-  pub allowed : (b : Begun) × (first b ≡ me.0.base.opening) → IsLegal me.0.base.opening (history_out me.1) → Allowed (replay me.0.base.opening (history_out me.1)) t e
+  pub allowed : (b : Begun) × (first b ≡ me.0.base.opening) → IsLegal me.0.base.opening (history_out me.1)
+      → Allowed (replay me.0.base.opening (history_out me.1)) t e
 
 abbrev pub entry : ℕ → Event → Reply → Entry
 entry t e r = record { thread = t; event = e; reply = r }
@@ -49,8 +56,47 @@ pub record Made {O : Type 0} (me : Seated O) (t : ℕ) (e : Event) (r : Reply) :
   pub fits : Fits e r
 
 -- the seat has the turn with one entry more
-pub record Noted {O : Type 0} (piece : Pieces) (out : O → Outgo) (me after : Seated O) (t : ℕ) (e : Event) (r : Reply) : Type 0 where
+pub record Noted {O : Type 0} (piece : Pieces) (out : O → Outgo) (me after : Seated O) (t : ℕ) (e : Event) (r : Reply)
+    : Type 0 where
   pub busy : Busy piece out after
   pub view : after.0 ≡ holding me.0 (longer_by me t e r)
   pub history : history_out after.1 ≡ longer_by me t e r
   pub made : Made me t e r
+
+-- the book that the seat has out lets a thread that waits wake up
+abbrev pub MayWake : {O : Type 0} → Seated O → ℕ → Type 0
+MayWake me t = Allowed (replay me.0.base.opening (history_out me.1)) t Wake
+
+-- the seat without the turn, which has seen these entries
+abbrev pub resting : {O : Type 0} → Seated O → List Entry → Seated O
+resting me seen = (idle me.0 seen, [])
+
+-- the seat without the turn, which speaks for these numbers
+abbrev pub speaking : {O : Type 0} → Seated O → List ℕ → Seated O
+speaking me ns = (view me.0.base ns me.0.seen Idle, [])
+
+-- the longer of what two seats have seen, and the seat that took the other in
+abbrev pub seen_by_both : {O : Type 0} → Seated O → Seated O → List Entry
+seen_by_both me other = longer me.0.seen other.0.seen
+
+abbrev pub taken_in : {O : Type 0} → Seated O → Seated O → Seated O
+taken_in me other = (view me.0.base (me.0.numbers ++ other.0.numbers) (seen_by_both me other) Idle, [])
+
+-- what the desk of a seat tells goes on from one seat to the other
+abbrev pub GoesOn : {O : Type 0} → TableId → ℕ → Seated O → Seated O → Type 0
+GoesOn z t old new = Continues (seat_sight z t old.0) (seat_sight z t new.0)
+
+-- its desk made the event, and got the reply
+abbrev pub MadeAt : {O : Type 0} → TableId → ℕ → Seated O → Seated O → Event → Reply → Type 0
+MadeAt z t old new e r = Gains (seat_sight z t old.0) (seat_sight z t new.0) e r
+
+-- the thread's own events are the same
+abbrev pub SameOwn : {O : Type 0} → ℕ → Seated O → Seated O → Type 0
+SameOwn t old new = own t new.0.seen ≡ own t old.0.seen
+
+-- the events of these numbers are the same
+abbrev pub SameOf : List ℕ → List Entry → List Entry → Type 0
+SameOf ns history seen = (i : ℕ) → Has i ns → own i history ≡ own i seen
+
+abbrev pub RoundedToo : Base → List Entry → List Entry → Type 0
+RoundedToo o old new = Rounded o old → Rounded o new

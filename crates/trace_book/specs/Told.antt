@@ -1,15 +1,16 @@
 -- Passes as contracts see them.
-use Rattle.std.specs.Prelude.{ℕ, zero, suc, List, [], ◌∷◌, None}
+use Rattle.std.specs.Prelude.{◌≡◌, ℕ, zero, suc, List, [], ◌∷◌, None}
 pub use Rattle.atomic_table.specs.Seated.{TableId}
 use Rattle.machine_events.specs.declared.event.Event.{Event}
 use Rattle.machine_events.specs.declared.event.Reply.{Reply}
 use Rattle.machine_events.specs.declared.event.Entry.{Entry}
 use Rattle.thread_knowledge.specs.Own.{own}
+use Rattle.machine_book.specs.Outgo.{Outgo}
 use Rattle.machine_book.specs.Sight.{Sight}
 use Rattle.trace_book.specs.declared.view.Base.{Base}
 use Rattle.trace_book.specs.declared.view.View.{View}
 use Rattle.trace_book.specs.declared.place.Place.{Place}
-use Rattle.trace_book.specs.Views.{spent}
+use Rattle.trace_book.specs.Views.{Opened, base_of, spent}
 
 -- of which shelf a pass is, what that was opened with, its number, the numbers that it speaks for, and what it has seen
 pub record Told : Type 0 where
@@ -38,6 +39,14 @@ new_pass z o t = record { table = z; base = o; number = t; numbers = t ∷ []; s
 abbrev pub new_passes : TableId → Base → ℕ → ℕ → List Told
 new_passes z o k zero = []
 new_passes z o k (suc n) = new_pass z o k ∷ new_passes z o (suc k) n
+
+-- the passes that a shelf deals at its opening
+abbrev pub dealt : {O : Type 0} → (O → Outgo) → TableId → Opened O → List Told
+dealt out z key = new_passes z (base_of out key) key.1 key.2
+
+-- a pass is still of the same shelf, opening and number
+abbrev pub SamePlace : Told → Told → Type 0
+SamePlace old new = (new.table ≡ old.table) × (new.base ≡ old.base) × (new.number ≡ old.number)
 
 -- a pass as the desk of its number: what the desk tells of its book's outlet comes at the closing of the shelf
 abbrev pub sight_of : Told → Sight Place

@@ -29,7 +29,7 @@ abbrev pub AllWithin : Base → List Entry → Type 0
 AllWithin o [] = Unit {0}
 AllWithin o (e ∷ es) = Within o e.thread × AllWithin o es
 
--- a history begins with the entries that the shelf was opened with, and each entry after them is of a number of the round
+-- a history begins with the entries that the shelf was opened with, and each one after them is of a number of the round
 pub record Rounded (o : Base) (h : List Entry) : Type 0 where
   pub since : List Entry
   pub joined : o.first ++ since ≡ h
@@ -50,7 +50,13 @@ abbrev pub outgo_of : Start → Outgo
 outgo_of x = record { trace = x.trace; written = x.written; faults = x.faults; flow = x.flow }
 
 abbrev pub base_of : {O : Type 0} → (O → Outgo) → Opened O → Base
-base_of out key = record { opening = key.0.opening; first = key.0.history; from = key.1; size = key.2; start = start_of (out key.0.outlet) }
+base_of out key = record {
+  opening = key.0.opening;
+  first = key.0.history;
+  from = key.1;
+  size = key.2;
+  start = start_of (out key.0.outlet);
+}
 
 -- the first view speaks for all numbers of the round, and has the turn
 abbrev pub new_view : Base → View

@@ -2,16 +2,14 @@
 ghost use Rattle.std.specs.Prelude.{◌≡◌, ◌≢◌, ℕ, suc, ◌<◌, ◌≤◌, ◌+◌, ◌^◌, vec_len, vec_capacity, ◌++◌, ◌∷◌, [], ◌⊎◌, IfOk, IfErr, OnErr, IfSome, IfNone, MatchBool, IsTrue};
 ghost use mathlib.Core.List.{IsPrefix};
 ghost use Rattle.machine_events.specs.declared.event.Event.TheVariants as events;
-ghost use Rattle.machine_state.specs.Legal.{Allowed, replay};
 ghost use Rattle.thread_knowledge.specs.Own.{own, Ready as HasTurn};
 ghost use Rattle.thread_knowledge.specs.Knowing.{Knows};
-ghost use Rattle.machine_book.specs.Sight.{Continues, Gains};
 ghost use Rattle.trace_book.specs.declared.view.Phase.TheVariants.{Idle};
-ghost use Rattle.trace_book.specs.Views.{Has, Within, Rounded, idle, view, base_of, first_view, numbers_from, kept_of, longer};
+ghost use Rattle.trace_book.specs.Views.{Has, Within, view, first_view, numbers_from, kept_of, longer};
 ghost use Rattle.trace_book.specs.Rule.{Written};
-ghost use Rattle.trace_book.specs.Told.{new_passes, seat_sight};
+ghost use Rattle.trace_book.specs.Told.{new_passes, dealt, SamePlace};
 ghost use Rattle.trace_book.specs.Plays.{Took, history_out};
-ghost use Rattle.trace_book.specs.Seats.{Ready, Busy, MayMake, Made, Noted, longer_by};
+ghost use Rattle.trace_book.specs.Seats.{Ready, Busy, MayMake, Made, Noted, MayWake, GoesOn, MadeAt, SameOwn, SameOf, RoundedToo, longer_by, resting, speaking, taken_in, seen_by_both};
 
 use crate::bell::{Bell, frees};
 use crate::pass::Pass;
@@ -70,7 +68,7 @@ impl<O: Outlet> Shelf<O> {
         requires busy { Busy O.piece O.out seat.old.me }
         requires turn { (turn ≡ 0) ⊎ (turn ≡ 2) }
         ensures table { seat.new.table_id ≡ seat.old.table_id }
-        ensures seat { seat.new.me ≡ (idle seat.old.me.0 (history_out seat.old.me.1), []) }
+        ensures seat { seat.new.me ≡ resting seat.old.me (history_out seat.old.me.1) }
     {
         self.table.shared.swap::<GiveBack>(seat, TURN, turn);
     }
@@ -102,7 +100,7 @@ impl<O: Outlet> Shelf<O> {
         requires busy { Busy O.piece O.out seat.old.me }
         ensures table { seat.new.table_id ≡ seat.old.table_id }
         ensures seat { seat.new.me ≡ seat.old.me }
-        ensures yes { IsTrue result → Allowed (replay seat.old.me.0.base.opening (history_out seat.old.me.1)) number events.Wake }
+        ensures yes { IsTrue result → MayWake seat.old.me number }
     {
         let Some(book) = self.table.shared.exchange(seat, HOME, None) else {
             unreachable!()
@@ -118,9 +116,9 @@ impl<O: Outlet> Shelf<O> {
         requires busy { Busy O.piece O.out seat.old.me }
         requires may { MayMake seat.old.me number event }
         ensures table { seat.new.table_id ≡ seat.old.table_id }
-        ensures seat { IfOk result (λ reply. seat.new.me ≡ (idle seat.old.me.0 (longer_by seat.old.me number event reply), [])) }
+        ensures seat { IfOk result (λ r. seat.new.me ≡ resting seat.old.me (longer_by seat.old.me number event r)) }
         ensures made { IfOk result (Made seat.old.me number event) }
-        ensures err { OnErr result (seat.new.me ≡ (idle seat.old.me.0 (history_out seat.old.me.1), [])) }
+        ensures err { OnErr result (seat.new.me ≡ resting seat.old.me (history_out seat.old.me.1)) }
     {
         match self.note(seat, number, event) {
             Ok(reply) => {
@@ -169,9 +167,9 @@ impl<O: Outlet> Shelf<O> {
         requires turn { HasTurn seat.old.me.0.base.opening.rounds seat.old.me.0.seen number }
         ensures table { seat.new.table_id ≡ seat.old.table_id }
         ensures ready { Ready seat.new.me number }
-        ensures continues { Continues (seat_sight seat.old.table_id number seat.old.me.0) (seat_sight seat.old.table_id number seat.new.me.0) }
-        ensures ok { IfOk result (Gains (seat_sight seat.old.table_id number seat.old.me.0) (seat_sight seat.old.table_id number seat.new.me.0) event) }
-        ensures err { OnErr result (own number seat.new.me.0.seen ≡ own number seat.old.me.0.seen) }
+        ensures continues { GoesOn seat.old.table_id number seat.old.me seat.new.me }
+        ensures ok { IfOk result (MadeAt seat.old.table_id number seat.old.me seat.new.me event) }
+        ensures err { OnErr result (SameOwn number seat.old.me seat.new.me) }
     {
         knows_is_allowed();
         if !self.take_turn(rt, bell, seat, number) {
@@ -199,9 +197,9 @@ impl<O: Outlet> Shelf<O> {
         requires ready { Ready seat.old.me number }
         ensures table { seat.new.table_id ≡ seat.old.table_id }
         ensures ready { Ready seat.new.me number }
-        ensures continues { Continues (seat_sight seat.old.table_id number seat.old.me.0) (seat_sight seat.old.table_id number seat.new.me.0) }
-        ensures ok { IfOk result (Gains (seat_sight seat.old.table_id number seat.old.me.0) (seat_sight seat.old.table_id number seat.new.me.0) events.Wake) }
-        ensures err { OnErr result (own number seat.new.me.0.seen ≡ own number seat.old.me.0.seen) }
+        ensures continues { GoesOn seat.old.table_id number seat.old.me seat.new.me }
+        ensures ok { IfOk result (MadeAt seat.old.table_id number seat.old.me seat.new.me events.Wake) }
+        ensures err { OnErr result (SameOwn number seat.old.me seat.new.me) }
     {
         for _ in rt.forever() {
             let locks = bell.locks(rt);
@@ -225,10 +223,10 @@ impl<O: Outlet> Shelf<O> {
         requires ready { Ready seat.old.me number }
         ensures table { seat.new.table_id ≡ seat.old.table_id }
         ensures ready { Ready seat.new.me number }
-        ensures continues { Continues (seat_sight seat.old.table_id number seat.old.me.0) (seat_sight seat.old.table_id number seat.new.me.0) }
-        ensures ok { IfSome result (λ done. IfOk done (Gains (seat_sight seat.old.table_id number seat.old.me.0) (seat_sight seat.old.table_id number seat.new.me.0) events.Wake)) }
-        ensures err { IfSome result (λ done. OnErr done (own number seat.new.me.0.seen ≡ own number seat.old.me.0.seen)) }
-        ensures none { IfNone result (own number seat.new.me.0.seen ≡ own number seat.old.me.0.seen) }
+        ensures continues { GoesOn seat.old.table_id number seat.old.me seat.new.me }
+        ensures ok { IfSome result (λ r. IfOk r (MadeAt seat.old.table_id number seat.old.me seat.new.me events.Wake)) }
+        ensures err { IfSome result (λ done. OnErr done (SameOwn number seat.old.me seat.new.me)) }
+        ensures none { IfNone result (SameOwn number seat.old.me seat.new.me) }
     {
         if !self.take_turn(rt, bell, seat, number) {
             return Some(Err(Halt::NoMemory));
@@ -252,8 +250,8 @@ impl<O: Outlet> Shelf<O> {
         requires ready { Ready seat.old.me number }
         ensures table { seat.new.table_id ≡ seat.old.table_id }
         ensures ready { Ready seat.new.me number }
-        ensures continues { Continues (seat_sight seat.old.table_id number seat.old.me.0) (seat_sight seat.old.table_id number seat.new.me.0) }
-        ensures mine { own number seat.new.me.0.seen ≡ own number seat.old.me.0.seen }
+        ensures continues { GoesOn seat.old.table_id number seat.old.me seat.new.me }
+        ensures mine { SameOwn number seat.old.me seat.new.me }
     {
         if self.take_turn(rt, bell, seat, number) {
             self.give_back(seat, STOPPED);
@@ -266,7 +264,7 @@ impl<O: Outlet> Shelf<O> {
         requires table { seat.old.table_id ≡ self.now.table.shared.table_id }
         requires new { seat.old.me ≡ (first_view O.out (book, from, n), []) }
         ensures table { seat.new.table_id ≡ seat.old.table_id }
-        ensures seat { seat.new.me ≡ (idle seat.old.me.0 book.history, []) }
+        ensures seat { seat.new.me ≡ resting seat.old.me book.history }
     {
         self.table.shared.swap::<Fill>(seat, TURN, HELD);
         drop(self.table.shared.exchange(seat, HOME, Some(book)));
@@ -276,24 +274,25 @@ impl<O: Outlet> Shelf<O> {
     // The first number of the seat, in a seat of its own.
     fn split(&self, seat: &mut Seat<O>, _number: u32) -> Seat<O>
         requires table { seat.old.table_id ≡ self.now.table.shared.table_id }
-        requires seat { (n : ℕ) × (seat.old.me ≡ (view seat.old.me.0.base (numbers_from _number (suc n)) seat.old.me.0.seen Idle, [])) }
+        requires seat { (n : ℕ) × (seat.old.me ≡ speaking seat.old.me (numbers_from _number (suc n))) }
         ensures table { (seat.new.table_id ≡ seat.old.table_id) × (result.table_id ≡ seat.old.table_id) }
         ensures seat { seat.new.me ≡ (kept_of seat.old.me.0, []) }
-        ensures new { result.me ≡ (view seat.old.me.0.base (_number ∷ []) seat.old.me.0.seen Idle, []) }
+        ensures new { result.me ≡ speaking seat.old.me (_number ∷ []) }
     {
         self.table.shared.split_seat::<OneNumber>(seat)
     }
 
     // Takes in the numbers and the beginning of another seat.
     pub(crate) fn merge(&self, into: &mut Seat<O>, other: Seat<O>, _number: u32, _other: u32)
-        requires table { (into.old.table_id ≡ self.now.table.shared.table_id) × (other.table_id ≡ self.now.table.shared.table_id) }
+        requires table { into.old.table_id ≡ self.now.table.shared.table_id }
+        requires others { other.table_id ≡ self.now.table.shared.table_id }
         requires ready { Ready into.old.me _number × Ready other.me _other }
         ensures table { into.new.table_id ≡ into.old.table_id }
-        ensures seat { into.new.me ≡ (view into.old.me.0.base (into.old.me.0.numbers ++ other.me.0.numbers) (longer into.old.me.0.seen other.me.0.seen) Idle, []) }
+        ensures seat { into.new.me ≡ taken_in into.old.me other.me }
         ensures begins { IsPrefix into.old.me.0.seen other.me.0.seen ⊎ IsPrefix other.me.0.seen into.old.me.0.seen }
-        ensures into { (i : ℕ) → Has i into.old.me.0.numbers → own i (longer into.old.me.0.seen other.me.0.seen) ≡ own i into.old.me.0.seen }
-        ensures other { (i : ℕ) → Has i other.me.0.numbers → own i (longer into.old.me.0.seen other.me.0.seen) ≡ own i other.me.0.seen }
-        ensures round { Rounded into.old.me.0.base into.old.me.0.seen → Rounded into.old.me.0.base (longer into.old.me.0.seen other.me.0.seen) }
+        ensures into { SameOf into.old.me.0.numbers (seen_by_both into.old.me other.me) into.old.me.0.seen }
+        ensures other { SameOf other.me.0.numbers (seen_by_both into.old.me other.me) other.me.0.seen }
+        ensures round { RoundedToo into.old.me.0.base into.old.me.0.seen (seen_by_both into.old.me other.me) }
     {
         self.table.shared.join_seat::<OneNumber>(into, other);
         self.table.shared.load::<Merge>(into, TURN);
@@ -353,7 +352,7 @@ impl<O: Outlet> Shelf<O> {
     ) -> Result<(Shelf<O>, Vec<Pass>), Unopened<O>>
         requires some { 1 ≤ n }
         requires fits { from + n ≤ 2 ^ 32 }
-        ensures ok { IfOk result (λ r. r.1.items ≡ new_passes r.0.table.shared.table_id (base_of O.out (book, from, n)) from n) }
+        ensures ok { IfOk result (λ r. r.1.items ≡ dealt O.out r.0.table.shared.table_id (book, from, n)) }
         ensures err { IfErr result (λ u. u.book ≡ book) }
     {
         let Ok(mut passes) = Vec::with_capacity(alloc, n as usize) else {
@@ -386,12 +385,12 @@ impl<O: Outlet> Shelf<O> {
 /// Takes in another pass of the shelf, with its numbers. It takes no memory.
 pub fn gather<O: Outlet>(shelf: &Shelf<O>, into: &mut Pass, other: Pass)
     requires { (into.old.table ≡ shelf.now.table.shared.table_id) × (other.table ≡ shelf.now.table.shared.table_id) }
-    ensures same { (into.new.table ≡ into.old.table) × (into.new.base ≡ into.old.base) × (into.new.number ≡ into.old.number) }
+    ensures same { SamePlace into.old into.new }
     ensures numbers { into.new.numbers ≡ into.old.numbers ++ other.numbers }
     ensures seen { into.new.seen ≡ longer into.old.seen other.seen }
     ensures begins { IsPrefix into.old.seen other.seen ⊎ IsPrefix other.seen into.old.seen }
-    ensures into_calls { (i : ℕ) → Has i into.old.numbers → own i into.new.seen ≡ own i into.old.seen }
-    ensures other_calls { (i : ℕ) → Has i other.numbers → own i into.new.seen ≡ own i other.seen }
+    ensures into_calls { SameOf into.old.numbers into.new.seen into.old.seen }
+    ensures other_calls { SameOf other.numbers into.new.seen other.seen }
 {
     let Pass { badge, number } = other;
     let mine = replace(&mut into.badge, Badge::blank());

@@ -5,7 +5,7 @@ use Rattle.machine_events.specs.declared.event.Outcome.TheVariants as outcomes
 use Rattle.trace_fields.specs.declared.refusal.Cause.TheVariants as cause
 use Rattle.trace_fields.specs.Reading.{taken}
 use Rattle.trace_entries.specs.declared.event_words.NamedEvent.{NamedEvent}
-use Rattle.trace_entries.specs.declared.event_words.NamedEvent.TheVariants as named
+use Rattle.trace_entries.specs.declared.event_words.BareEvent.TheVariants as bare
 use Rattle.trace_entries.specs.declared.event_words.NumberedEvent.{NumberedEvent}
 use Rattle.trace_entries.specs.declared.event_words.MadeEvent.{MadeEvent}
 use Rattle.trace_entries.specs.declared.event_words.EventWord.{EventWord}
@@ -15,8 +15,8 @@ use Rattle.trace_entries.specs.declared.events.OutcomeWord.TheVariants as ends
 use Rattle.trace_entries.specs.EventWords.{any_event_word, event_word_in}
 use Rattle.trace_entries.specs.Events.{bare_event, named_event, numbered_event, made_event, spec_at, named_at, numbered_at, made_at, finish_at, get_at, set_at, del_at, print_at, path_add_at, dir_get_at, dir_set_at, ns_set_at, tab_set_at, reload_begin_at, reload_take_at, reload_end_at, outcome_word_in, outcome_at, end_at, event_of, event_at}
 use Rattle.trace_entries.specs.Taking.{small_number_at, number_at, name_at, text_at, source_at, tree_path_at, any_name_at, variable_at, place_at, load_at, error_at, slot_at, value_at, texts_at, spec_kind_at, state_at, raw_at, good_at}
-use Rattle.trace_read.proofs.Steady.{Steady, bound, done, steady_done, steady_bound, steady_field}
-use Rattle.trace_read.proofs.OneField.{small_number_steady, number_steady, name_steady, text_steady, source_steady, tree_path_steady, any_name_steady, variable_steady, place_steady, load_steady, error_steady, slot_steady, value_steady, texts_steady, spec_kind_steady, state_steady, raw_steady, good_steady}
+use Rattle.trace_read.proofs.Steady.{Steady, Told, bound, done, steady_done, steady_bound, steady_field, only_kind}
+use Rattle.trace_read.proofs.OneField.{small_number_steady, number_steady, name_steady, text_steady, source_steady, tree_path_steady, any_name_steady, variable_steady, place_steady, load_steady, error_steady, slot_steady, value_steady, texts_steady, spec_kind_steady, state_steady, raw_steady, good_steady, word_steady}
 
 spec_steady : (old : Bool) → Steady old spec_at
 spec_steady old =
@@ -105,7 +105,7 @@ reload_end_steady old =
 
 outcome_word_steady : (old : Bool) → Steady old (taken cause.Fields outcome_word_in)
 unfolding outcome_word_in
-outcome_word_steady old = steady_field old cause.Fields outcome_word_in (codes "normal") ends.Normal refl (λ field w h. tt)
+outcome_word_steady old = word_steady old outcome_word_in (codes "normal") ends.Normal refl refl refl refl refl refl
 
 outcome_steady : (old : Bool) (w : OutcomeWord) → Steady old (outcome_at w)
 outcome_steady old ends.Normal = steady_done old outcomes.Normal
@@ -139,13 +139,17 @@ event_of_steady old words.ReloadTake = reload_take_steady old
 event_of_steady old words.ReloadEnd = reload_end_steady old
 event_of_steady old words.End = end_steady old
 
-ask_known : (old : Bool) → event_word_in old (codes "ask") ≡ Some (words.Named named.Ask)
+wake_known : (old : Bool) → event_word_in old (codes "wake") ≡ Some (words.Bare bare.Wake)
 unfolding event_word_in any_event_word
-ask_known false = refl
-ask_known true = refl
+wake_known false = refl
+wake_known true = refl
+
+event_told : (old : Bool) → Told old cause.Event (event_word_in old)
+event_told old field w h = (w, h)
 
 pub event_steady : (old : Bool) → Steady old (event_at old)
 unfolding event_at
 event_steady old =
     steady_bound old (taken cause.Event (event_word_in old)) event_of
-    (steady_field old cause.Event (event_word_in old) (codes "ask") (words.Named named.Ask) (ask_known old) (λ field w h. (w, h))) (event_of_steady old)
+    (steady_field old cause.Event (event_word_in old) (codes "wake") (words.Bare bare.Wake) (wake_known old) (only_kind old cause.Event (event_word_in old) (event_told old) (words.Bare bare.Wake, wake_known old)))
+    (event_of_steady old)

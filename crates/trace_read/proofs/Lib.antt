@@ -8,6 +8,8 @@ pub mod Entries
 pub mod Lines
 pub mod Alike
 pub mod Found
+pub mod Odd
+pub mod Causes
 pub mod Steady
 pub mod OneField
 pub mod EventsStop

@@ -13,8 +13,9 @@ use Rattle.trace_entries.specs.Taking.{small_number_at}
 use Rattle.trace_entries.specs.Events.{event_at}
 use Rattle.trace_entries.specs.Replies.{reply_at}
 use Rattle.trace_entries.specs.Entries.{arrow, last_reply, reply_in, with_reply, entry_of, entry_in}
-use Rattle.trace_read.specs.Refusing.{Stands, NoneGoesOn, Refused}
-use Rattle.trace_read.proofs.Steady.{Here, bound, WholeStop, Whole, whole_bound}
+use Rattle.trace_read.specs.Refusing.{CouldStand, Fits, NoneGoesOn, Refused}
+use Rattle.trace_read.proofs.Causes.{Unfit, Because, Why, because_there, why_there, plain_unfit, fits}
+use Rattle.trace_read.proofs.Steady.{Here, Could, bound, WholeStop, Whole, whole_bound}
 use Rattle.trace_read.proofs.OneField.{small_number_steady}
 use Rattle.trace_read.proofs.EventsStop.{event_steady}
 use Rattle.trace_read.proofs.RepliesStop.{reply_steady}
@@ -28,13 +29,25 @@ err_is x y h = cc
 abbrev ok : {A : Type 0} → A → Result A Cause
 ok x = Ok x
 
+-- ---- what fits no cause but `Fields`
+
+unfit_there : {Y : Type 0} (old : Bool) (r : Fields → Result Y Cause) (why : Cause) → cause.Fields ≡ why → ((other : Cause) → Unfit old (Could r []) (Could r []) other) → Because old (Could r []) (Could r []) why
+unfit_there old r why same unfit = subst (λ w. Because old (Could r []) (Could r []) w) same unfit
+
 -- ---- nothing stands behind the reply
+
+no_more : (reply : Reply) (field : List ℕ) → Could (last_reply reply) [] field → ⊥
+no_more reply field c = let bad : err cause.Fields ≡ ok c.1 = c.2 in cc
+
+none_behind : (old : Bool) (reply : Reply) (other : Cause) → Unfit old (Could (last_reply reply) []) (Could (last_reply reply) []) other
+none_behind old reply other =
+    plain_unfit old (Could (last_reply reply) []) (Could (last_reply reply) []) (no_more reply (codes "0")) (no_more reply (codes "a")) (no_more reply (codes "\"\"")) (no_more reply (codes "wake")) (no_more reply (codes "done")) other
 
 last_stops : (old : Bool) (reply : Reply) (fields : Fields) (why : Cause) → last_reply reply fields ≡ Err why → WholeStop old (last_reply reply) fields why
 last_stops old reply [] why h = cc
 last_stops old reply (field ∷ fields) why h =
     let same : cause.Fields ≡ why = err_is {A = Reply} cause.Fields why h in
-    record { front = []; rest = field ∷ fields; parts = refl; tail = []; y = reply; onward = refl; here = λ more. ap err same; only = λ other more y k. subst (λ w. Stands old w other) same tt }
+    record { front = []; rest = field ∷ fields; parts = refl; tail = []; y = reply; onward = refl; here = λ more. ap err same; because = unfit_there old (last_reply reply) why same (none_behind old reply) }
 
 last_whole : (old : Bool) (reply : Reply) → Whole old (last_reply reply)
 last_whole old reply = record { example = record { fields = []; y = reply; read = refl }; stops = last_stops old reply }
@@ -54,10 +67,28 @@ here_behind : {Y : Type 0} (k : Fields → Result Y Cause) (arrow_field : List �
 here_behind k arrow_field is front [] why h = h
 here_behind k arrow_field is front (field ∷ fields) why h = λ more. arrow_on k arrow_field (front ++ field ∷ more) is ∙ h more
 
+could_behind : {Y : Type 0} (k : Fields → Result Y Cause) (arrow_field : List ℕ) → bytes_eq arrow_field (codes "->") ≡ true → (front : Fields) (field : List ℕ) → Could (behind_arrow k) (arrow_field ∷ front) field → Could k front field
+could_behind k arrow_field is front field c = (c.0, c.1, sym (arrow_on k arrow_field (front ++ field ∷ c.0) is) ∙ c.2)
+
+does_behind : {Y : Type 0} (k : Fields → Result Y Cause) (arrow_field : List ℕ) → bytes_eq arrow_field (codes "->") ≡ true → (front : Fields) (field : List ℕ) → Could k front field → Could (behind_arrow k) (arrow_field ∷ front) field
+does_behind k arrow_field is front field c = (c.0, c.1, arrow_on k arrow_field (front ++ field ∷ c.0) is ∙ c.2)
+
+because_behind : {Y : Type 0} (old : Bool) (k : Fields → Result Y Cause) (arrow_field : List ℕ) → bytes_eq arrow_field (codes "->") ≡ true → (front rest : Fields) (why : Cause) → Why old (Could k front) (Could k front) rest why → Why old (Could (behind_arrow k) (arrow_field ∷ front)) (Could (behind_arrow k) (arrow_field ∷ front)) rest why
+because_behind old k arrow_field is front rest why h =
+    why_there old (Could k front) (Could k front) (Could (behind_arrow k) (arrow_field ∷ front)) (Could (behind_arrow k) (arrow_field ∷ front)) (could_behind k arrow_field is front) (does_behind k arrow_field is front) rest why h
+
+-- only the arrow could stand there, which is of no kind
+arrow_unlike : {Y : Type 0} (k : Fields → Result Y Cause) (field : List ℕ) → bytes_eq field (codes "->") ≡ false → Could (behind_arrow k) [] field → ⊥
+arrow_unlike k field isnt c = let bad : ok c.1 ≡ err cause.Fields = sym c.2 ∙ arrow_off k field c.0 isnt in cc
+
+no_arrow : {Y : Type 0} (old : Bool) (k : Fields → Result Y Cause) (other : Cause) → Unfit old (Could (behind_arrow k) []) (Could (behind_arrow k) []) other
+no_arrow old k other =
+    plain_unfit old (Could (behind_arrow k) []) (Could (behind_arrow k) []) (arrow_unlike k (codes "0") refl) (arrow_unlike k (codes "a") refl) (arrow_unlike k (codes "\"\"") refl) (arrow_unlike k (codes "wake") refl) (arrow_unlike k (codes "done") refl) other
+
 arrow_stops : {Y : Type 0} (old : Bool) (k : Fields → Result Y Cause) → Whole old k → (fields : Fields) (why : Cause) → behind_arrow k fields ≡ Err why → WholeStop old (behind_arrow k) fields why
 arrow_stops {Y} old k w [] why h =
     let same : cause.Fields ≡ why = err_is {A = Y} cause.Fields why h in
-    record { front = []; rest = []; parts = refl; tail = codes "->" ∷ w.example.fields; y = w.example.y; onward = w.example.read; here = sym same; only = λ other more y g. subst (λ c. Stands old c other) same tt }
+    record { front = []; rest = []; parts = refl; tail = codes "->" ∷ w.example.fields; y = w.example.y; onward = w.example.read; here = sym same; because = tt }
 arrow_stops {Y} old k w (field ∷ fields) why h = elim (cases_Bool (bytes_eq field (codes "->"))) [
   | inl is ↦
       let s = w.stops fields why (sym (arrow_on k field fields is) ∙ h) in
@@ -69,7 +100,7 @@ arrow_stops {Y} old k w (field ∷ fields) why h = elim (cases_Bool (bytes_eq fi
         y = s.y;
         onward = arrow_on k field (s.front ++ s.tail) is ∙ s.onward;
         here = here_behind k field is s.front s.rest why s.here;
-        only = λ other more y g. s.only other more y (sym (arrow_on k field (s.front ++ other ∷ more) is) ∙ g);
+        because = because_behind old k field is s.front s.rest why s.because;
       }
   | inr isnt ↦
       let same : cause.Fields ≡ why = err_is {A = Y} cause.Fields why (sym (arrow_off k field fields isnt) ∙ h) in
@@ -81,7 +112,7 @@ arrow_stops {Y} old k w (field ∷ fields) why h = elim (cases_Bool (bytes_eq fi
         y = w.example.y;
         onward = w.example.read;
         here = λ more. arrow_off k field more isnt ∙ ap err same;
-        only = λ other more y g. subst (λ c. Stands old c other) same tt;
+        because = unfit_there old (behind_arrow k) why same (no_arrow old k);
       }
 ]
 
@@ -108,6 +139,15 @@ here_mapped : {Y Z : Type 0} (f : Y → Z) (r : Fields → Result Y Cause) (fron
 here_mapped f r front [] why h = h
 here_mapped f r front (field ∷ fields) why h = λ more. ap (λ o. o >>= λ y. ok (f y)) (h more)
 
+could_mapped : {Y Z : Type 0} (f : Y → Z) (r : Fields → Result Y Cause) (front : Fields) (field : List ℕ) → Could (mapped f r) front field → Could r front field
+could_mapped f r front field c = let was = mapped_was f c.1 (r (front ++ field ∷ c.0)) c.2 in (c.0, was.0, was.1)
+
+does_mapped : {Y Z : Type 0} (f : Y → Z) (r : Fields → Result Y Cause) (front : Fields) (field : List ℕ) → Could r front field → Could (mapped f r) front field
+does_mapped f r front field c = (c.0, f c.1, ap (λ o. o >>= λ y. ok (f y)) c.2)
+
+because_mapped : {Y Z : Type 0} (old : Bool) (f : Y → Z) (r : Fields → Result Y Cause) (front rest : Fields) (why : Cause) → Why old (Could r front) (Could r front) rest why → Why old (Could (mapped f r) front) (Could (mapped f r) front) rest why
+because_mapped old f r front rest why h = why_there old (Could r front) (Could r front) (Could (mapped f r) front) (Could (mapped f r) front) (could_mapped f r front) (does_mapped f r front) rest why h
+
 mapped_stops : {Y Z : Type 0} (old : Bool) (f : Y → Z) (r : Fields → Result Y Cause) → Whole old r → (fields : Fields) (why : Cause) → mapped f r fields ≡ Err why → WholeStop old (mapped f r) fields why
 mapped_stops old f r w fields why h =
     let s = w.stops fields why (mapped_refused f why (r fields) h) in
@@ -119,7 +159,7 @@ mapped_stops old f r w fields why h =
       y = f s.y;
       onward = ap (λ o. o >>= λ y. ok (f y)) s.onward;
       here = here_mapped f r s.front s.rest why s.here;
-      only = λ other more z g. let was = mapped_was f z (r (s.front ++ other ∷ more)) g in s.only other more was.0 was.1;
+      because = because_mapped old f r s.front s.rest why s.because;
     }
 
 mapped_whole : {Y Z : Type 0} (old : Bool) (f : Y → Z) (r : Fields → Result Y Cause) → Whole old r → Whole old (mapped f r)
@@ -146,13 +186,24 @@ entry_whole old =
 
 -- ---- the law
 
-none_goes_on : (old : Bool) (front rest : Fields) (why : Cause) → Here (entry_of old) front rest why → NoneGoesOn old front rest why
-none_goes_on old front [] why h = h
-none_goes_on old front (field ∷ fields) why h = λ g.
-    let refused : entry_of old (front ++ field ∷ g.0) ≡ Err why = h g.0 in
-    let read : entry_of old (front ++ field ∷ g.0) ≡ Ok g.1 = ap (entry_of old) (sym (append_assoc front (field ∷ []) g.0)) ∙ g.2 in
-    let both : ok g.1 ≡ Err why = sym read ∙ refused in
+could_stand : (old : Bool) (front : Fields) (field : List ℕ) → Could (entry_of old) front field → CouldStand old front field
+could_stand old front field c = (c.0, c.1, ap (entry_of old) (append_assoc front (field ∷ []) c.0) ∙ c.2)
+
+stands_could : (old : Bool) (front : Fields) (field : List ℕ) → CouldStand old front field → Could (entry_of old) front field
+stands_could old front field g = (g.0, g.1, ap (entry_of old) (sym (append_assoc front (field ∷ []) g.0)) ∙ g.2)
+
+fits_there : (old : Bool) (front : Fields) (why : Cause) → Because old (Could (entry_of old) front) (Could (entry_of old) front) why → Fits old front why
+fits_there old front why h = fits old front why (because_there old (Could (entry_of old) front) (Could (entry_of old) front) (CouldStand old front) (CouldStand old front) (stands_could old front) (could_stand old front) why h)
+
+never_stands : (old : Bool) (front : Fields) (field : List ℕ) (why : Cause) → ((more : Fields) → entry_of old (front ++ field ∷ more) ≡ Err why) → CouldStand old front field → ⊥
+never_stands old front field why refused g =
+    let c = stands_could old front field g in
+    let both : ok c.1 ≡ Err why = sym c.2 ∙ refused c.0 in
     cc
+
+none_goes_on : (old : Bool) (front rest : Fields) (why : Cause) → Here (entry_of old) front rest why → Why old (Could (entry_of old) front) (Could (entry_of old) front) rest why → NoneGoesOn old front rest why
+none_goes_on old front [] why h because = h
+none_goes_on old front (field ∷ fields) why h because = (never_stands old front field why h, fits_there old front why because)
 
 entry_refused : (old : Bool) (fields : Fields) (why : Cause) → entry_of old fields ≡ Err why → Refused old fields why
 entry_refused old fields why h =
@@ -162,8 +213,7 @@ entry_refused old fields why h =
       rest = s.rest;
       fields_are = s.parts;
       goes_on = (s.tail, s.y, s.onward);
-      stops = none_goes_on old s.front s.rest why s.here;
-      could_stand = λ field g. s.only field g.0 g.1 (ap (entry_of old) (sym (append_assoc s.front (field ∷ []) g.0)) ∙ g.2);
+      stops = none_goes_on old s.front s.rest why s.here s.because;
     }
 
 pub refused_there : (old : Bool) (line : List ℕ) (why : Cause) → entry_in old line ≡ Err why → Refused old (split 32 line) why

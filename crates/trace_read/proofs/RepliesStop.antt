@@ -9,7 +9,7 @@ use Rattle.trace_entries.specs.declared.reply_words.ReplyWord.TheVariants as wor
 use Rattle.trace_entries.specs.ReplyWords.{any_reply_word, reply_word_in}
 use Rattle.trace_entries.specs.Replies.{bare_reply, module_reply, slot_reply, epoch_reply, reply_of, reply_at}
 use Rattle.trace_entries.specs.Taking.{small_number_at, number_at, name_at, source_at, module_at, slot_at, value_at, values_at, texts_at, state_at, init_at, yes_at}
-use Rattle.trace_read.proofs.Steady.{Steady, bound, done, steady_done, steady_bound, steady_field}
+use Rattle.trace_read.proofs.Steady.{Steady, Told, bound, done, steady_done, steady_bound, steady_field, only_kind}
 use Rattle.trace_read.proofs.OneField.{small_number_steady, number_steady, name_steady, source_steady, module_steady, slot_steady, value_steady, values_steady, texts_steady, state_steady, init_steady, yes_steady}
 
 reply_of_steady : (old : Bool) (w : ReplyWord) → Steady old (reply_of w)
@@ -44,8 +44,12 @@ unfolding reply_word_in any_reply_word
 done_known false = refl
 done_known true = refl
 
+reply_told : (old : Bool) → Told old cause.Reply (reply_word_in old)
+reply_told old field w h = (w, h)
+
 pub reply_steady : (old : Bool) → Steady old (reply_at old)
 unfolding reply_at
 reply_steady old =
     steady_bound old (taken cause.Reply (reply_word_in old)) reply_of
-    (steady_field old cause.Reply (reply_word_in old) (codes "done") (words.Bare bare.Done) (done_known old) (λ field w h. (w, h))) (reply_of_steady old)
+    (steady_field old cause.Reply (reply_word_in old) (codes "done") (words.Bare bare.Done) (done_known old) (only_kind old cause.Reply (reply_word_in old) (reply_told old) (words.Bare bare.Done, done_known old)))
+    (reply_of_steady old)

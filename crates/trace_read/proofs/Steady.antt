@@ -4,14 +4,23 @@ use Rattle.trace_fields.specs.declared.refusal.Cause.{Cause}
 use Rattle.trace_fields.specs.declared.refusal.Cause.TheVariants as cause
 use Rattle.trace_fields.specs.Reading.{Fields, ◌>>=◌, taken}
 use Rattle.trace_entries.specs.Taking.{Taken, held_or}
-use Rattle.trace_read.specs.Refusing.{Stands}
+use Rattle.trace_read.specs.Refusing.{Stands, OfPlainest}
+use Rattle.trace_read.proofs.Causes.{Only, Because, Why, Holds, because_there, why_there}
 
 -- a field is missing, or this one is refused whatever stands behind it
 abbrev pub Here : {Y : Type 0} → (Fields → Result Y Cause) → Fields → Fields → Cause → Type 0
 Here r front [] why = why ≡ cause.Fields
 Here r front (field ∷ fields) why = (more : Fields) → r (front ++ field ∷ more) ≡ Err why
 
+-- a field that could stand behind those
+abbrev pub Could : {Y : Type 0} → (Fields → Result Y Cause) → Fields → List ℕ → Type 0
+Could {Y} r front field = (more : Fields) × (y : Y) × (r (front ++ field ∷ more) ≡ Ok y)
+
 -- ---- readers of the front of some fields
+
+-- a field that stands behind those in some fields that are read, whatever stands behind them
+abbrev pub Does : {X : Type 0} → (Fields → Taken X) → Fields → List ℕ → Type 0
+Does {X} r front field = (tail : Fields) × (x : X) × ((more : Fields) → r (front ++ field ∷ (tail ++ more)) ≡ Ok (x, more))
 
 -- some fields that are read, whatever stands behind them
 pub record Example {X : Type 0} (r : Fields → Taken X) : Type 0 where
@@ -32,7 +41,7 @@ pub record Stop {X : Type 0} (old : Bool) (r : Fields → Taken X) (fields : Fie
   pub x : X
   pub onward : (more : Fields) → r (front ++ (tail ++ more)) ≡ Ok (x, more)
   pub here : Here r front rest why
-  pub only : (field : List ℕ) (more : Fields) (y : X × Fields) → r (front ++ field ∷ more) ≡ Ok y → Stands old why field
+  pub because : Why old (Could r front) (Does r front) rest why
 
 pub record Steady {X : Type 0} (old : Bool) (r : Fields → Taken X) : Type 0 where
   pub example : Example r
@@ -85,16 +94,28 @@ taken_reads : {X : Type 0} (why : Cause) (read : List ℕ → Option X) (fields 
 taken_reads why read [] x rest h = cc
 taken_reads why read (field ∷ fields) x rest h = one_reads why read field fields x rest (read field) refl h
 
--- what a kind of field holds could stand there
+-- what a kind of field holds is of the kind that a cause names
 abbrev pub Told : {X : Type 0} → Bool → Cause → (List ℕ → Option X) → Type 0
 Told {X} old why read = (field : List ℕ) (x : X) → read field ≡ Some x → Stands old why field
 
-one_only : {X : Type 0} (old : Bool) (why : Cause) (read : List ℕ → Option X) → Told old why read → (field : List ℕ) (more : Fields) (y : X × Fields) (o : Option X) → read field ≡ o → held_or why o more ≡ Ok y → Stands old why field
-one_only old why read told field more y None is h = cc
-one_only old why read told field more y (Some x) is h = told field x is
+pub only_kind : {X : Type 0} (old : Bool) (why : Cause) (read : List ℕ → Option X) → Told old why read → OfPlainest (Holds read) why → Only old (Holds read) (Holds read) why
+only_kind old why read told plainest = (λ field h. told field h.0 h.1, plainest)
 
-one_stops : {X : Type 0} (old : Bool) (why : Cause) (read : List ℕ → Option X) (sample : List ℕ) (held : X) → read sample ≡ Some held → Told old why read → (field : List ℕ) (fields : Fields) (told_why : Cause) (o : Option X) → read field ≡ o → held_or why o fields ≡ Err told_why → Stop old (taken why read) (field ∷ fields) told_why
-one_stops {X} old why read sample held sampled told field fields told_why None is h =
+held_was : {X : Type 0} (why : Cause) (read : List ℕ → Option X) (field : List ℕ) (more : Fields) (y : X × Fields) (o : Option X) → read field ≡ o → held_or why o more ≡ Ok y → Holds read field
+held_was why read field more y None is h = cc
+held_was why read field more y (Some x) is h = (x, is)
+
+could_hold : {X : Type 0} (why : Cause) (read : List ℕ → Option X) (field : List ℕ) → Could (taken why read) [] field → Holds read field
+could_hold why read field c = held_was why read field c.0 c.1 (read field) refl c.2
+
+does_hold : {X : Type 0} (why : Cause) (read : List ℕ → Option X) (field : List ℕ) → Holds read field → Does (taken why read) [] field
+does_hold why read field h = ([], h.0, λ more. ap (λ o. held_or why o more) h.1)
+
+one_because : {X : Type 0} (old : Bool) (why : Cause) (read : List ℕ → Option X) → Because old (Holds read) (Holds read) why → Because old (Could (taken why read) []) (Does (taken why read) []) why
+one_because old why read h = because_there old (Holds read) (Holds read) (Could (taken why read) []) (Does (taken why read) []) (could_hold why read) (does_hold why read) why h
+
+one_stops : {X : Type 0} (old : Bool) (why : Cause) (read : List ℕ → Option X) (sample : List ℕ) (held : X) → read sample ≡ Some held → Because old (Holds read) (Holds read) why → (field : List ℕ) (fields : Fields) (told_why : Cause) (o : Option X) → read field ≡ o → held_or why o fields ≡ Err told_why → Stop old (taken why read) (field ∷ fields) told_why
+one_stops {X} old why read sample held sampled reason field fields told_why None is h =
     let same : why ≡ told_why = err_is {A = X × Fields} why told_why h in
     record {
       front = [];
@@ -104,12 +125,12 @@ one_stops {X} old why read sample held sampled told field fields told_why None i
       x = held;
       onward = λ more. ap (λ o. held_or why o more) sampled;
       here = λ more. ap (λ o. held_or why o more) is ∙ ap err same;
-      only = λ other more y k. subst (λ w. Stands old w other) same (one_only old why read told other more y (read other) refl k);
+      because = subst (λ w. Because old (Could (taken why read) []) (Does (taken why read) []) w) same (one_because old why read reason);
     }
-one_stops {X} old why read sample held sampled told field fields told_why (Some y) is h = cc
+one_stops {X} old why read sample held sampled reason field fields told_why (Some y) is h = cc
 
-taken_stops : {X : Type 0} (old : Bool) (why : Cause) (read : List ℕ → Option X) (sample : List ℕ) (held : X) → read sample ≡ Some held → Told old why read → (fields : Fields) (told_why : Cause) → taken why read fields ≡ Err told_why → Stop old (taken why read) fields told_why
-taken_stops {X} old why read sample held sampled told [] told_why h =
+taken_stops : {X : Type 0} (old : Bool) (why : Cause) (read : List ℕ → Option X) (sample : List ℕ) (held : X) → read sample ≡ Some held → Because old (Holds read) (Holds read) why → (fields : Fields) (told_why : Cause) → taken why read fields ≡ Err told_why → Stop old (taken why read) fields told_why
+taken_stops {X} old why read sample held sampled reason [] told_why h =
     let same : cause.Fields ≡ told_why = err_is {A = X × Fields} cause.Fields told_why h in
     record {
       front = [];
@@ -119,15 +140,15 @@ taken_stops {X} old why read sample held sampled told [] told_why h =
       x = held;
       onward = λ more. ap (λ o. held_or why o more) sampled;
       here = sym same;
-      only = λ other more y k. subst (λ w. Stands old w other) same tt;
+      because = tt;
     }
-taken_stops {X} old why read sample held sampled told (field ∷ fields) told_why h = one_stops old why read sample held sampled told field fields told_why (read field) refl h
+taken_stops {X} old why read sample held sampled reason (field ∷ fields) told_why h = one_stops old why read sample held sampled reason field fields told_why (read field) refl h
 
-pub steady_field : {X : Type 0} (old : Bool) (why : Cause) (read : List ℕ → Option X) (sample : List ℕ) (held : X) → read sample ≡ Some held → Told old why read → Steady old (taken why read)
-steady_field old why read sample held sampled told = record {
+pub steady_field : {X : Type 0} (old : Bool) (why : Cause) (read : List ℕ → Option X) (sample : List ℕ) (held : X) → read sample ≡ Some held → Because old (Holds read) (Holds read) why → Steady old (taken why read)
+steady_field old why read sample held sampled reason = record {
   example = record { fields = sample ∷ []; x = held; read = λ more. ap (λ o. held_or why o more) sampled };
   reads = taken_reads why read;
-  stops = taken_stops old why read sample held sampled told;
+  stops = taken_stops old why read sample held sampled reason;
 }
 
 -- ---- one reader behind another
@@ -181,14 +202,30 @@ first_read : {X Y : Type 0} (r : Fields → Taken X) (k : X → Fields → Resul
 first_read r k fields y (Ok p) known = (p, known.0)
 first_read r k fields y (Err why) known = let h = known.1 in cc
 
-only_first : {X Y : Type 0} (old : Bool) (r : Fields → Taken X) (k : X → Fields → Result Y Cause) (front : Fields) (why : Cause) → ((field : List ℕ) (more : Fields) (p : X × Fields) → r (front ++ field ∷ more) ≡ Ok p → Stands old why field) → (field : List ℕ) (more : Fields) (y : Y) → bound r k (front ++ field ∷ more) ≡ Ok y → Stands old why field
-only_first old r k front why only field more y h =
-    let whole = front ++ field ∷ more in
-    let was = first_read r k whole y (r whole) (bound_is r k whole (Ok y) (r whole) refl h) in
-    only field more was.0 was.1
+-- what could stand for both could stand for the first
+could_first : {X Y : Type 0} (r : Fields → Taken X) (k : X → Fields → Result Y Cause) (front : Fields) (field : List ℕ) → Could (bound r k) front field → Could r front field
+could_first r k front field c =
+    let whole = front ++ field ∷ c.0 in
+    let was = first_read r k whole c.1 (r whole) (bound_is r k whole (Ok c.1) (r whole) refl c.2) in
+    (c.0, was.0, was.1)
 
-only_next : {X Y : Type 0} (old : Bool) (r : Fields → Taken X) (k : X → Fields → Result Y Cause) (front : Fields) (x : X) (again : (more : Fields) → r (front ++ more) ≡ Ok (x, more)) (next : Fields) (why : Cause) → ((field : List ℕ) (more : Fields) (y : Y) → k x (next ++ field ∷ more) ≡ Ok y → Stands old why field) → (field : List ℕ) (more : Fields) (y : Y) → bound r k ((front ++ next) ++ field ∷ more) ≡ Ok y → Stands old why field
-only_next old r k front x again next why only field more y h = only field more y (sym (on_both r k front x again next (field ∷ more)) ∙ h)
+does_first : {X Y : Type 0} (r : Fields → Taken X) (k : X → Fields → Taken Y) → ((x : X) → Example (k x)) → (front : Fields) (field : List ℕ) → Does r front field → Does (bound r k) front field
+does_first r k next front field d =
+    let b = next d.1 in
+    (d.0 ++ b.fields, b.x, λ more. ap (λ t. bound r k (front ++ field ∷ t)) (append_assoc d.0 b.fields more) ∙ ap (λ o. o >>= λ p. k p.0 p.1) (d.2 (b.fields ++ more)) ∙ b.read more)
+
+could_next : {X Y : Type 0} (r : Fields → Taken X) (k : X → Fields → Result Y Cause) (front : Fields) (x : X) (again : (more : Fields) → r (front ++ more) ≡ Ok (x, more)) (next : Fields) (field : List ℕ) → Could (bound r k) (front ++ next) field → Could (k x) next field
+could_next r k front x again next field c = (c.0, c.1, sym (on_both r k front x again next (field ∷ c.0)) ∙ c.2)
+
+does_next : {X Y : Type 0} (r : Fields → Taken X) (k : X → Fields → Taken Y) (front : Fields) (x : X) (again : (more : Fields) → r (front ++ more) ≡ Ok (x, more)) (next : Fields) (field : List ℕ) → Does (k x) next field → Does (bound r k) (front ++ next) field
+does_next r k front x again next field d = (d.0, d.1, λ more. on_both r k front x again next (field ∷ (d.0 ++ more)) ∙ d.2 more)
+
+because_first : {X Y : Type 0} (old : Bool) (r : Fields → Taken X) (k : X → Fields → Taken Y) → ((x : X) → Example (k x)) → (front rest : Fields) (why : Cause) → Why old (Could r front) (Does r front) rest why → Why old (Could (bound r k) front) (Does (bound r k) front) rest why
+because_first old r k next front rest why h = why_there old (Could r front) (Does r front) (Could (bound r k) front) (Does (bound r k) front) (could_first r k front) (does_first r k next front) rest why h
+
+because_next : {X Y : Type 0} (old : Bool) (r : Fields → Taken X) (k : X → Fields → Taken Y) (front : Fields) (x : X) (again : (more : Fields) → r (front ++ more) ≡ Ok (x, more)) (next rest : Fields) (why : Cause) → Why old (Could (k x) next) (Does (k x) next) rest why → Why old (Could (bound r k) (front ++ next)) (Does (bound r k) (front ++ next)) rest why
+because_next old r k front x again next rest why h =
+    why_there old (Could (k x) next) (Does (k x) next) (Could (bound r k) (front ++ next)) (Does (bound r k) (front ++ next)) (could_next r k front x again next) (does_next r k front x again next) rest why h
 
 stops_from : {X Y : Type 0} (old : Bool) (r : Fields → Taken X) (k : X → Fields → Taken Y) → Steady old r → ((x : X) → Steady old (k x)) → (fields : Fields) (why : Cause) (one : Result (X × Fields) Cause) → Known r k fields (Err why) one → Stop old (bound r k) fields why
 stops_from {X} {Y} old r k first next fields why (Ok p) known =
@@ -202,7 +239,7 @@ stops_from {X} {Y} old r k first next fields why (Ok p) known =
       x = b.x;
       onward = λ more. on_both r k a.front p.0 a.again b.front (b.tail ++ more) ∙ b.onward more;
       here = here_next r k a.front p.0 a.again b.front b.rest why b.here;
-      only = only_next old r k a.front p.0 a.again b.front why b.only;
+      because = because_next old r k a.front p.0 a.again b.front b.rest why b.because;
     }
 stops_from {X} {Y} old r k first next fields why (Err told) known =
     let same : told ≡ why = err_is {A = Y × Fields} told why known.1 in
@@ -216,7 +253,7 @@ stops_from {X} {Y} old r k first next fields why (Err told) known =
       x = b.x;
       onward = λ more. ap (λ t. bound r k (a.front ++ t)) (append_assoc a.tail b.fields more) ∙ ap (λ o. o >>= λ p. k p.0 p.1) (a.onward (b.fields ++ more)) ∙ b.read more;
       here = here_first r k a.front a.rest why a.here;
-      only = only_first old r k a.front why a.only;
+      because = because_first old r k (λ x. (next x).example) a.front a.rest why a.because;
     }
 
 pub steady_bound : {X Y : Type 0} (old : Bool) (r : Fields → Taken X) (k : X → Fields → Taken Y) → Steady old r → ((x : X) → Steady old (k x)) → Steady old (bound r k)
@@ -241,11 +278,26 @@ pub record WholeStop {Y : Type 0} (old : Bool) (r : Fields → Result Y Cause) (
   pub y : Y
   pub onward : r (front ++ tail) ≡ Ok y
   pub here : Here r front rest why
-  pub only : (field : List ℕ) (more : Fields) (y : Y) → r (front ++ field ∷ more) ≡ Ok y → Stands old why field
+  pub because : Why old (Could r front) (Could r front) rest why
 
 pub record Whole {Y : Type 0} (old : Bool) (r : Fields → Result Y Cause) : Type 0 where
   pub example : WholeExample r
   pub stops : (fields : Fields) (why : Cause) → r fields ≡ Err why → WholeStop old r fields why
+
+does_first_whole : {X Y : Type 0} (r : Fields → Taken X) (k : X → Fields → Result Y Cause) → ((x : X) → WholeExample (k x)) → (front : Fields) (field : List ℕ) → Does r front field → Could (bound r k) front field
+does_first_whole r k next front field d =
+    let b = next d.1 in
+    (d.0 ++ b.fields, b.y, ap (λ o. o >>= λ p. k p.0 p.1) (d.2 b.fields) ∙ b.read)
+
+could_on : {X Y : Type 0} (r : Fields → Taken X) (k : X → Fields → Result Y Cause) (front : Fields) (x : X) (again : (more : Fields) → r (front ++ more) ≡ Ok (x, more)) (next : Fields) (field : List ℕ) → Could (k x) next field → Could (bound r k) (front ++ next) field
+could_on r k front x again next field c = (c.0, c.1, on_both r k front x again next (field ∷ c.0) ∙ c.2)
+
+because_first_whole : {X Y : Type 0} (old : Bool) (r : Fields → Taken X) (k : X → Fields → Result Y Cause) → ((x : X) → WholeExample (k x)) → (front rest : Fields) (why : Cause) → Why old (Could r front) (Does r front) rest why → Why old (Could (bound r k) front) (Could (bound r k) front) rest why
+because_first_whole old r k next front rest why h = why_there old (Could r front) (Does r front) (Could (bound r k) front) (Could (bound r k) front) (could_first r k front) (does_first_whole r k next front) rest why h
+
+because_next_whole : {X Y : Type 0} (old : Bool) (r : Fields → Taken X) (k : X → Fields → Result Y Cause) (front : Fields) (x : X) (again : (more : Fields) → r (front ++ more) ≡ Ok (x, more)) (next rest : Fields) (why : Cause) → Why old (Could (k x) next) (Could (k x) next) rest why → Why old (Could (bound r k) (front ++ next)) (Could (bound r k) (front ++ next)) rest why
+because_next_whole old r k front x again next rest why h =
+    why_there old (Could (k x) next) (Could (k x) next) (Could (bound r k) (front ++ next)) (Could (bound r k) (front ++ next)) (could_next r k front x again next) (could_on r k front x again next) rest why h
 
 whole_stops_from : {X Y : Type 0} (old : Bool) (r : Fields → Taken X) (k : X → Fields → Result Y Cause) → Steady old r → ((x : X) → Whole old (k x)) → (fields : Fields) (why : Cause) (one : Result (X × Fields) Cause) → Known r k fields (Err why) one → WholeStop old (bound r k) fields why
 whole_stops_from {X} {Y} old r k first next fields why (Ok p) known =
@@ -259,7 +311,7 @@ whole_stops_from {X} {Y} old r k first next fields why (Ok p) known =
       y = b.y;
       onward = on_both r k a.front p.0 a.again b.front b.tail ∙ b.onward;
       here = here_next r k a.front p.0 a.again b.front b.rest why b.here;
-      only = only_next old r k a.front p.0 a.again b.front why b.only;
+      because = because_next_whole old r k a.front p.0 a.again b.front b.rest why b.because;
     }
 whole_stops_from {X} {Y} old r k first next fields why (Err told) known =
     let same : told ≡ why = err_is {A = Y} told why known.1 in
@@ -273,7 +325,7 @@ whole_stops_from {X} {Y} old r k first next fields why (Err told) known =
       y = b.y;
       onward = ap (λ o. o >>= λ p. k p.0 p.1) (a.onward b.fields) ∙ b.read;
       here = here_first r k a.front a.rest why a.here;
-      only = only_first old r k a.front why a.only;
+      because = because_first_whole old r k (λ x. (next x).example) a.front a.rest why a.because;
     }
 
 pub whole_bound : {X Y : Type 0} (old : Bool) (r : Fields → Taken X) (k : X → Fields → Result Y Cause) → Steady old r → ((x : X) → Whole old (k x)) → Whole old (bound r k)

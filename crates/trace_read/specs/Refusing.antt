@@ -1,5 +1,5 @@
 -- Where a line is refused: from the left, at the first field at which no line of the format goes on.
-use Rattle.std.specs.Prelude.{◌≡◌, ℕ, ◌+◌, List, [], ◌∷◌, ◌++◌, length, Bool, Option, Some, None, Ok, ◌⊎◌}
+use Rattle.std.specs.Prelude.{◌≡◌, ℕ, ◌+◌, List, [], ◌∷◌, ◌++◌, length, codes, Bool, Option, Some, None, Ok, ◌⊎◌}
 use Rattle.std.specs.List.{AllByRecursion}
 use Rattle.machine_events.specs.declared.event.Entry.{Entry}
 use Rattle.decimal_text.specs.Numbers.{number_in}
@@ -20,7 +20,7 @@ use Rattle.trace_lines.specs.Reading.{format_in, pieces}
 abbrev pub Is : {X : Type 0} → Option X → Type 0
 Is {X} held = (x : X) × (held ≡ Some x)
 
--- what every field is that could stand where a cause is told. `old` is format 1.
+-- this field is of the kind that a cause names. `old` is format 1.
 abbrev pub Stands : Bool → Cause → List ℕ → Type 0
 Stands old cause.Fields field = Unit {0}
 Stands old cause.Number field = Is (number_in field)
@@ -30,23 +30,45 @@ Stands old cause.Event field = Is (event_word_in old field)
 Stands old cause.Reply field = Is (reply_word_in old field)
 Stands old cause.Cut field = ⊥
 
+-- it holds of the plainest field of that kind
+abbrev pub OfPlainest : (List ℕ → Type 0) → Cause → Type 0
+OfPlainest Holds cause.Number = Holds (codes "0")
+OfPlainest Holds cause.Name = Holds (codes "a")
+OfPlainest Holds cause.Escape = Holds (codes "\"\"")
+OfPlainest Holds cause.Event = Holds (codes "wake")
+OfPlainest Holds cause.Reply = Holds (codes "done")
+OfPlainest Holds _ = ⊥
+
 -- some line of the format begins with these fields
 abbrev pub GoesOn : Bool → Fields → Type 0
 GoesOn old front = (more : Fields) × (entry : Entry) × (entry_of old (front ++ more) ≡ Ok entry)
 
--- no line goes on: a field is missing, or no line has this one behind those before
+-- this field could stand behind those
+abbrev pub CouldStand : Bool → Fields → List ℕ → Type 0
+CouldStand old front field = GoesOn old (front ++ field ∷ [])
+
+-- only fields of the kind that a cause names could stand there, and the plainest of the kind could
+abbrev pub OnlyOfKind : Bool → Fields → Cause → Type 0
+OnlyOfKind old front why = ((field : List ℕ) → CouldStand old front field → Stands old why field) × OfPlainest (CouldStand old front) why
+
+-- the cause fits a field that stands behind those: `Fields` where no other does
+abbrev pub Fits : Bool → Fields → Cause → Type 0
+Fits old front cause.Fields = (other : Cause) → OnlyOfKind old front other → ⊥
+Fits old front why = OnlyOfKind old front why
+
+-- no line goes on: a field is missing, which is `Fields` whatever could stand there; or this one could not stand behind
+-- those before, and the cause is the one that fits
 abbrev pub NoneGoesOn : Bool → Fields → Fields → Cause → Type 0
 NoneGoesOn old front [] why = why ≡ cause.Fields
-NoneGoesOn old front (field ∷ fields) why = GoesOn old (front ++ field ∷ []) → ⊥
+NoneGoesOn old front (field ∷ fields) why = (CouldStand old front field → ⊥) × Fits old front why
 
--- the fields of a refused line: some line goes on from those before, none from the next, and what could stand there
+-- the fields of a refused line: some line goes on from those before, none from the next
 pub record Refused (old : Bool) (fields : Fields) (why : Cause) : Type 0 where
   pub front : Fields
   pub rest : Fields
   pub fields_are : fields ≡ front ++ rest
   pub goes_on : GoesOn old front
   pub stops : NoneGoesOn old front rest why
-  pub could_stand : (field : List ℕ) → GoesOn old (front ++ field ∷ []) → Stands old why field
 
 -- a first line without a line end, or one that names no format
 abbrev pub NoFirstLine : List (List ℕ) → Cause → Type 0

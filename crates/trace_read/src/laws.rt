@@ -4,11 +4,12 @@ ghost use Rattle.machine_events.specs.declared.event.Entry.{Entry};
 ghost use Rattle.trace_text.specs.Fields.{entry_fields};
 ghost use Rattle.trace_text.specs.Trace.{line, unsplit};
 ghost use Rattle.trace_fields.specs.declared.refusal.Cause.{Cause};
+ghost use Rattle.trace_fields.specs.Reading.{Fields};
 ghost use Rattle.trace_fields.specs.Splitting.{split};
 ghost use Rattle.trace_entries.specs.Entries.{entry_in};
 ghost use Rattle.trace_read.specs.Fitting.{entry_fits, entry_bytes, entries_fit, entries_bytes};
 ghost use Rattle.trace_read.specs.Text.{text_of};
-ghost use Rattle.trace_read.specs.Refusing.{Refused};
+ghost use Rattle.trace_read.specs.Refusing.{Fits, Refused};
 
 /// Each entry that a trace can hold is read from its line.
 #[tactic(auto, using(crate::proofs::Entries::entry_again))]
@@ -39,8 +40,14 @@ pub fn one_trace()
     ensures { (old : Bool) (x y : List Entry) → entries_fit old x ≡ true → entries_bytes x ≡ true → entries_fit old y ≡ true → entries_bytes y ≡ true → text_of old x ≡ text_of old y → x ≡ y }
 {}
 
-/// A line is refused at the first of its fields at which no line goes on, and the cause says what could stand there.
+/// A line is refused at the first of its fields at which no line goes on, and the cause is the one that fits there.
 #[tactic(auto, using(crate::proofs::Refusals::refused_there))]
 pub fn refused_at_the_first_field()
     ensures { (old : Bool) (line : List ℕ) (why : Cause) → entry_in old line ≡ Err why → Refused old (split 32 line) why }
+{}
+
+/// One cause fits a field, so the cause that is told is the only one.
+#[tactic(auto, using(crate::proofs::Causes::one_fits))]
+pub fn one_cause_fits()
+    ensures { (old : Bool) (front : Fields) (x y : Cause) → Fits old front x → Fits old front y → x ≡ y }
 {}

@@ -5,7 +5,7 @@ mod laws;
 mod read;
 
 pub use laws::{
-    entry_is_read, one_entry, one_spelling, one_trace, read_entry_is_spelled,
+    entry_is_read, one_cause_fits, one_entry, one_spelling, one_trace, read_entry_is_spelled,
     refused_at_the_first_field,
 };
 pub use read::read_trace;

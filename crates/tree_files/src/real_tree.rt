@@ -110,6 +110,7 @@ impl<R: Files + AllocGlobal + Clone + Send + Drop> Grove for RealTree<R> {
     fn absorb(&mut self, child: RealTree<R>)
         ensures root { self.new.root ≡ self.old.root }
         ensures faults { self.new.faults ≡ raised self.old.faults child.faults }
+        ensures faults_grow { self.old.faults ≤ self.new.faults }
         ensures lists { self.new.lists ≡ raised self.old.lists child.lists }
     {
         self.faults = self.faults.saturating_add(child.faults);

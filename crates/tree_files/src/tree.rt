@@ -129,5 +129,6 @@ pub trait Grove: Tree + Send {
     fn absorb(&mut self, child: Self)
         ensures files_stay { Self.files self.new ≡ Self.files self.old }
         ensures faults { Self.faults self.new ≡ raised (Self.faults self.old) (Self.faults child) }
+        ensures faults_grow { Self.faults self.old ≤ Self.faults self.new }
         ensures lists { Self.lists self.new ≡ raised (Self.lists self.old) (Self.lists child) };
 }

@@ -108,7 +108,8 @@ pub fn fate_of<'a>(edits: &'a Seq<Edit>, path: &Texts) -> Seen<'a>
 
 /// What stands at a path, by what stands there in the tree inside.
 pub fn stamp_by(seen: Seen<'_>, stamp: Stamp) -> Stamp
-    ensures { (before : Option Node) → stamp ≡ stamp_of before → result ≡ stamp_of (node_by (fate_in seen.entry) before) }
+    ensures { (before : Option Node) → stamp ≡ stamp_of before
+        → result ≡ stamp_of (node_by (fate_in seen.entry) before) }
 {
     match seen {
         Seen::Kept => stamp,
@@ -157,7 +158,8 @@ pub fn is_no_dir(seen: Seen<'_>) -> bool
 /// The bytes that edits put at a path, and none where they put no file; None where what stands
 /// there is that of the tree inside.
 pub fn bytes_put<'a>(seen: Seen<'a>) -> Option<&'a [u8]>
-    ensures { MatchOption result (fate_in seen.entry ≡ fates.Kept) (λ bytes. (before : Option Node) → bytes_of (node_by (fate_in seen.entry) before) ≡ bytes.now) }
+    ensures { MatchOption result (fate_in seen.entry ≡ fates.Kept) (λ bytes. (before : Option Node)
+        → bytes_of (node_by (fate_in seen.entry) before) ≡ bytes.now) }
 {
     match seen {
         Seen::Kept => None,

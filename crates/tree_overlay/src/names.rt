@@ -47,7 +47,8 @@ fn parts_of(dir: &TreePath, name: &Text) -> Result<Texts, NoMemory>
 
 /// Adds a name, where it is wanted.
 fn add(names: &mut BTreeSet<Text>, name: &Text, wanted: bool) -> Result<(), NoMemory>
-    ensures { OnOk result ((other : List ℕ) → holds names.new other ≡ (holds names.old other || (wanted && pointwise nat_eq name.now other))) }
+    ensures { OnOk result ((other : List ℕ) → holds names.new other
+        ≡ (holds names.old other || (wanted && pointwise nat_eq name.now other))) }
 {
     if wanted {
         names.insert(name.copy()?)?;
@@ -62,7 +63,9 @@ fn add_old(
     dir: &TreePath,
     name: &Text,
 ) -> Result<(), NoMemory>
-    ensures { OnOk result ((other : List ℕ) → holds names.new other ≡ (holds names.old other || (is_seen (fates.fate_of edits.now (dir.now ++ other ∷ [])) && has_name (name.now ∷ []) other))) }
+    ensures { OnOk result ((other : List ℕ) → holds names.new other
+        ≡ (holds names.old other || (is_seen (fates.fate_of edits.now (dir.now ++ other ∷ [])) && has_name
+        (name.now ∷ []) other))) }
 {
     let parts = parts_of(dir, name)?;
     add(names, name, is_seen(fate_of(edits, &parts)))
@@ -75,7 +78,9 @@ fn add_seen(
     dir: &TreePath,
     inner: &Texts,
 ) -> Result<(), NoMemory>
-    ensures { OnOk result ((other : List ℕ) → holds names.new other ≡ (holds names.old other || (is_seen (fates.fate_of edits.now (dir.now ++ other ∷ [])) && has_name inner.now other))) }
+    ensures { OnOk result ((other : List ℕ) → holds names.new other
+        ≡ (holds names.old other || (is_seen (fates.fate_of edits.now
+        (dir.now ++ other ∷ [])) && has_name inner.now other))) }
 {
     for name in inner.as_slice() {
         add_old(names, edits, dir, name)?;
@@ -91,7 +96,9 @@ fn add_new(
     dir: &TreePath,
     edit: &Edit,
 ) -> Result<(), NoMemory>
-    ensures { OnOk result ((other : List ℕ) → holds names.new other ≡ (holds names.old other || (is_put (fates.fate_of edits.now (dir.now ++ other ∷ [])) && has_name (put_names dir.now (edit.now ∷ [])) other))) }
+    ensures { OnOk result ((other : List ℕ) → holds names.new other
+        ≡ (holds names.old other || (is_put (fates.fate_of edits.now (dir.now ++ other ∷ [])) && has_name
+        (put_names dir.now (edit.now ∷ [])) other))) }
 {
     match part_after(dir, path_of(edit)) {
         None => Ok(()),
@@ -104,7 +111,9 @@ fn add_new(
 
 /// Adds the names by which edits put something into the directory.
 fn add_put(names: &mut BTreeSet<Text>, edits: &Seq<Edit>, dir: &TreePath) -> Result<(), NoMemory>
-    ensures { OnOk result ((other : List ℕ) → holds names.new other ≡ (holds names.old other || (is_put (fates.fate_of edits.now (dir.now ++ other ∷ [])) && has_name (put_names dir.now edits.now) other))) }
+    ensures { OnOk result ((other : List ℕ) → holds names.new other
+        ≡ (holds names.old other || (is_put (fates.fate_of edits.now (dir.now ++ other ∷ [])) && has_name
+        (put_names dir.now edits.now) other))) }
 {
     for edit in edits.as_slice() {
         add_new(names, edits, dir, edit)?;

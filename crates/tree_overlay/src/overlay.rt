@@ -46,7 +46,8 @@ impl<T: Tree> Overlay<T> {
     /// Further edits, each of which has a path of at least one part. An `Err` changes nothing.
     pub fn edit(&mut self, edits: &[Edit]) -> Result<(), NoMemory>
         requires { IsBelowRoot edits.now }
-        ensures files { OnOk result (⟦<Overlay<T> as Tree>⟧.files self.new ≡ edited_told edits.now (⟦<Overlay<T> as Tree>⟧.files self.old)) }
+        ensures files { OnOk result (⟦<Overlay<T> as Tree>⟧.files self.new
+            ≡ edited_told edits.now (⟦<Overlay<T> as Tree>⟧.files self.old)) }
         ensures edits { OnOk result (self.new.edits ≡ self.old.edits ++ edits.now) }
         ensures err { OnErr result (self.new.edits ≡ self.old.edits) }
         ensures tree { self.new.tree ≡ self.old.tree }
@@ -68,16 +69,21 @@ impl<T: Tree> Overlay<T> {
 
     /// The names in a directory of the tree inside, and none where it has no directory there.
     fn names_inside(&mut self, dir: &TreePath) -> Result<Texts, TreeFault>
-        ensures told { IfSome (T.files self.old.tree) (λ f. IfOk result (λ names. (name : List ℕ) → has_name names name ≡ is_some (node_at f (dir.now ++ name ∷ [])))) }
+        ensures told { IfSome (T.files self.old.tree) (λ f. IfOk result (λ names. (name : List ℕ)
+            → has_name names name ≡ is_some (node_at f (dir.now ++ name ∷ [])))) }
         ensures failed { IsErrOf result TreeFault.Failed → Rose (T.faults self.old.tree) (T.faults self.new.tree) }
         ensures faults_stay { OnOk result (T.faults self.new.tree ≡ T.faults self.old.tree) }
         ensures is_tree { IfSome (T.files self.old.tree) IsTree }
         ensures files_stay { T.files self.new.tree ≡ T.files self.old.tree }
         ensures faults_grow { T.faults self.old.tree ≤ T.faults self.new.tree }
-        ensures listed { OnOk result (raised (T.lists self.new.tree) self.new.more ≡ raised (raised (T.lists self.old.tree) self.old.more) 1) }
-        ensures lists_grow { raised (T.lists self.old.tree) self.old.more ≤ raised (T.lists self.new.tree) self.new.more }
-        ensures lists_bound { raised (T.lists self.new.tree) self.new.more ≤ raised (T.lists self.old.tree) self.old.more + 1 }
-        ensures not_listed { IsErrOf result TreeFault.Failed → raised (T.lists self.new.tree) self.new.more ≡ raised (T.lists self.old.tree) self.old.more }
+        ensures listed { OnOk result (raised (T.lists self.new.tree) self.new.more
+            ≡ raised (raised (T.lists self.old.tree) self.old.more) 1) }
+        ensures lists_grow { raised (T.lists self.old.tree) self.old.more ≤ raised
+            (T.lists self.new.tree) self.new.more }
+        ensures lists_bound { raised (T.lists self.new.tree) self.new.more ≤ raised
+            (T.lists self.old.tree) self.old.more + 1 }
+        ensures not_listed { IsErrOf result TreeFault.Failed
+            → raised (T.lists self.new.tree) self.new.more ≡ raised (T.lists self.old.tree) self.old.more }
         ensures edits_stay { self.new.edits ≡ self.old.edits }
     {
         match self.tree.stamp(dir)? {
@@ -104,17 +110,23 @@ impl<T: Tree> Tree for Overlay<T> {
 
     fn list(&mut self, dir: &TreePath) -> Result<Texts, TreeFault>
         requires { ForSome (edited_told self.old.edits (T.files self.old.tree)) (λ f. IsDirAt f dir.now) }
-        ensures told { IfSome (edited_told self.old.edits (T.files self.old.tree)) (λ f. IfOk result (IsListing f dir.now)) }
+        ensures told { IfSome (edited_told self.old.edits (T.files self.old.tree))
+            (λ f. IfOk result (IsListing f dir.now)) }
         ensures wrong_kind { IsNoDir self.old.edits dir.now → IfOk result (λ names. names ≡ []) }
         ensures failed { IsErrOf result TreeFault.Failed → Rose (T.faults self.old.tree) (T.faults self.new.tree) }
         ensures faults_stay { OnOk result (T.faults self.new.tree ≡ T.faults self.old.tree) }
         ensures is_tree { IfSome (edited_told self.old.edits (T.files self.old.tree)) IsTree }
-        ensures files_stay { edited_told self.new.edits (T.files self.new.tree) ≡ edited_told self.old.edits (T.files self.old.tree) }
+        ensures files_stay { edited_told self.new.edits (T.files self.new.tree)
+            ≡ edited_told self.old.edits (T.files self.old.tree) }
         ensures faults_grow { T.faults self.old.tree ≤ T.faults self.new.tree }
-        ensures listed { OnOk result (raised (T.lists self.new.tree) self.new.more ≡ raised (raised (T.lists self.old.tree) self.old.more) 1) }
-        ensures lists_grow { raised (T.lists self.old.tree) self.old.more ≤ raised (T.lists self.new.tree) self.new.more }
-        ensures lists_bound { raised (T.lists self.new.tree) self.new.more ≤ raised (T.lists self.old.tree) self.old.more + 1 }
-        ensures not_listed { IsErrOf result TreeFault.Failed → raised (T.lists self.new.tree) self.new.more ≡ raised (T.lists self.old.tree) self.old.more }
+        ensures listed { OnOk result (raised (T.lists self.new.tree) self.new.more
+            ≡ raised (raised (T.lists self.old.tree) self.old.more) 1) }
+        ensures lists_grow { raised (T.lists self.old.tree) self.old.more ≤ raised
+            (T.lists self.new.tree) self.new.more }
+        ensures lists_bound { raised (T.lists self.new.tree) self.new.more ≤ raised
+            (T.lists self.old.tree) self.old.more + 1 }
+        ensures not_listed { IsErrOf result TreeFault.Failed
+            → raised (T.lists self.new.tree) self.new.more ≡ raised (T.lists self.old.tree) self.old.more }
     {
         let inner = self.names_inside(dir)?;
         if is_no_dir(fate_of(&self.edits, dir.parts())) {
@@ -125,15 +137,18 @@ impl<T: Tree> Tree for Overlay<T> {
 
     fn read(&mut self, file: &TreePath, at: u64, into: &mut [u8]) -> Result<usize, TreeFault>
         requires { ForSome (edited_told self.old.edits (T.files self.old.tree)) (λ f. IsFileAt f file.now) }
-        ensures told { IfSome (edited_told self.old.edits (T.files self.old.tree)) (λ f. IfOk result (IsRead (bytes_of (node_at f file.now)) at into.old into.new)) }
+        ensures told { IfSome (edited_told self.old.edits (T.files self.old.tree))
+            (λ f. IfOk result (IsRead (bytes_of (node_at f file.now)) at into.old into.new)) }
         ensures count { IfOk result (λ n. n ≤ length into.old) }
         ensures wrong_kind { IsNoFile self.old.edits file.now → IfOk result (λ n. n ≡ 0) }
         ensures failed { IsErrOf result TreeFault.Failed → Rose (T.faults self.old.tree) (T.faults self.new.tree) }
         ensures faults_stay { OnOk result (T.faults self.new.tree ≡ T.faults self.old.tree) }
         ensures is_tree { IfSome (edited_told self.old.edits (T.files self.old.tree)) IsTree }
-        ensures files_stay { edited_told self.new.edits (T.files self.new.tree) ≡ edited_told self.old.edits (T.files self.old.tree) }
+        ensures files_stay { edited_told self.new.edits (T.files self.new.tree)
+            ≡ edited_told self.old.edits (T.files self.old.tree) }
         ensures faults_grow { T.faults self.old.tree ≤ T.faults self.new.tree }
-        ensures lists_stay { raised (T.lists self.new.tree) self.new.more ≡ raised (T.lists self.old.tree) self.old.more }
+        ensures lists_stay { raised (T.lists self.new.tree) self.new.more
+            ≡ raised (T.lists self.old.tree) self.old.more }
     {
         match bytes_put(fate_of(&self.edits, file.parts())) {
             None => self.tree.read(file, at, into),

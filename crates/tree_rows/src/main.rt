@@ -1,11 +1,15 @@
 //! Trees of files: which file each name means, in which order bodies run, what is bound, and the error where there is none.
 #![tactic(auto)]
 
-use row_words::answer_rows;
+use row_words::{Row, answer_rows_by};
 use run_room::Runs;
+use std::alloc::Global;
 use std::process::ExitCode;
 
 fn main(rt: HostRuntime) -> ExitCode {
     let mut runs = Runs::new(rt.alloc());
-    answer_rows(rt, &mut runs)
+    answer_rows_by(
+        rt,
+        |alloc: Global, row: &mut Row<'_>| runs.answer(&rt, alloc, row),
+    )
 }

@@ -33,7 +33,8 @@ pub(crate) fn script_file(alloc: Global, script: u64) -> Result<Text, NoMemory>
 pub(crate) fn put(tree: &mut MemTree, file: &Text, text: &Text) -> Result<(), NoMemory>
     requires part { IsTrue (is_part file.now) }
     requires flat { IsFlat (mem_files tree.old.nodes) }
-    ensures files { OnOk result (mem_files tree.new.nodes ≡ placed (mem_files tree.old.nodes) (file.now ∷ []) (File text.now)) }
+    ensures files { OnOk result (mem_files tree.new.nodes ≡ placed (mem_files tree.old.nodes) (file.now ∷ [])
+        (File text.now)) }
     ensures flat { OnOk result (IsFlat (mem_files tree.new.nodes)) }
     ensures faults { tree.new.faults ≡ tree.old.faults }
     ensures lists { tree.new.lists ≡ tree.old.lists }

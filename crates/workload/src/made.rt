@@ -24,7 +24,8 @@ fn put_module(
     number: u32,
 ) -> Result<(), NoMemory>
     requires flat { IsFlat (mem_files tree.old.nodes) }
-    ensures files { OnOk result (mem_files tree.new.nodes ≡ with_file (mem_files tree.old.nodes) (module_name number) (module_text number draws.old.state)) }
+    ensures files { OnOk result (mem_files tree.new.nodes ≡ with_file (mem_files tree.old.nodes) (module_name number)
+        (module_text number draws.old.state)) }
     ensures flat { OnOk result (IsFlat (mem_files tree.new.nodes)) }
     ensures state { OnOk result (draws.new.state ≡ after (imports_in number) draws.old.state) }
     ensures faults { tree.new.faults ≡ tree.old.faults }
@@ -67,7 +68,8 @@ fn put_script(
     requires some { 1 ≤ modules }
     requires flat { IsFlat (mem_files tree.old.nodes) }
     ensures file { IfOk result (λ it. it ≡ file_of (script_name script)) }
-    ensures files { OnOk result (mem_files tree.new.nodes ≡ with_file (mem_files tree.old.nodes) (script_name script) (script_text modules draws.old.state)) }
+    ensures files { OnOk result (mem_files tree.new.nodes ≡ with_file (mem_files tree.old.nodes) (script_name script)
+        (script_text modules draws.old.state)) }
     ensures flat { OnOk result (IsFlat (mem_files tree.new.nodes)) }
     ensures state { OnOk result (draws.new.state ≡ after 4 draws.old.state) }
     ensures faults { tree.new.faults ≡ tree.old.faults }
@@ -90,7 +92,8 @@ fn put_scripts(
     requires some { 1 ≤ modules }
     requires flat { IsFlat (mem_files tree.old.nodes) }
     ensures names { IfOk result (λ names. names ≡ script_files scripts) }
-    ensures files { OnOk result (mem_files tree.new.nodes ≡ with_scripts (mem_files tree.old.nodes) modules scripts draws.old.state) }
+    ensures files { OnOk result (mem_files tree.new.nodes ≡ with_scripts
+        (mem_files tree.old.nodes) modules scripts draws.old.state) }
     ensures faults { tree.new.faults ≡ tree.old.faults }
     ensures lists { tree.new.lists ≡ tree.old.lists }
     ensures due { tree.new.due ≡ tree.old.due }

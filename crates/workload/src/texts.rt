@@ -45,7 +45,8 @@ fn imports_in(number: u64) -> u32
 
 fn push_module_imports(text: &mut Text, draws: &mut Draws, number: u64) -> Result<(), NoMemory>
     requires { number < 2 ^ 32 }
-    ensures text { OnOk result (text.new ≡ text.old ++ imports_of ((number + 1) / 2) (imports_in number) draws.old.state) }
+    ensures text { OnOk result (text.new ≡ text.old ++ imports_of ((number + 1) / 2)
+        (imports_in number) draws.old.state) }
     ensures state { OnOk result (draws.new.state ≡ after (imports_in number) draws.old.state) }
 {
     if number == 0 {

@@ -27,6 +27,7 @@ loop-worker-init g c =
       room = let a = c.requires.room.1 in let b = c.leave.ensures.room in omega (arith, a, b);
       table = subst (λ o. IsSomeAnd o (λ (pass : Told). pass.table ≡ shelf)) is there;
       files = c.leave.ensures.files;
+      grows = c.leave.ensures.faults_grow;
       gathered = gather-starts seen tally shelf c.args.workers.items left first c.args.tree.now c.leave.new.tree c.in-Some.pass c.leave.new.results.items c.last_of-first.ensures is c.leave.ensures.counts one;
     }
 
@@ -68,6 +69,7 @@ loop-worker-preserved g c =
       room = let a = inv.room in let b = leaves.room in omega (arith, a, b);
       table = c.gather.ensures.same.0 ∙ inv.table;
       files = leaves.files ∙ inv.files;
+      grows = let a = inv.grows in let b = leaves.faults_grow in omega (arith, a, b);
       gathered = λ base files from runs fuel d. gather-goes-on seen tally shelf c.args.workers.items left w c.args.tree.now c.loop-worker.tree c.leave-in-Some-pop.new.tree
           c.loop-worker.pass c.in-Some-leave.other c.gather.new.into results c.leave-in-Some-pop.new.results.items pre size is
           c.gather.ensures.same.0 c.gather.ensures.same.1 c.gather.ensures.numbers c.gather.ensures.into_calls c.gather.ensures.other_calls

@@ -16,6 +16,7 @@ invariant-loop-worker g l =
       room : length l.fn.workers.items ≤ vec_capacity l.results;
       table : l.pass.table ≡ shelf;
       files : g.T.Tree.files l.tree ≡ g.T.Tree.files l.fn.tree;
+      grows : g.T.Tree.faults l.fn.tree ≤ g.T.Tree.faults l.tree;
       gathered : (base : Base) (files : Option Files) (from : ℕ) (runs : Runs) (fuel : ℕ)
           → Descends (λ k w. RanAt shelf base files from runs fuel k (seen w)) (length l.fn.workers.items) l.fn.workers.items
           → Gathered shelf base files from runs fuel (tally l.fn.tree) (length l.results.items) l.pass (tally l.tree) l.results.items;

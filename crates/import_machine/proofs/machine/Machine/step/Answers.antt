@@ -13,11 +13,11 @@ pub invariant_of-self : goal.invariant_of-self
 invariant_of-self c =
     let old = c.self.inside.state in
     let allowed_now = subst (λ (s : State). IsTrue (allowed s c.args.thread c.args.event)) (sym c.self.view_is) c.requires in
-    sound_by c.step.result old c.step.new.machine (step old c.args.thread c.args.event).1 c.self.invariant (sound_step old c.self.invariant c.args.thread c.args.event allowed_now) c.step.ensures.ok c.step.ensures.err
+    (sound_by c.step_counted.result old c.step_counted.new.state (step old c.args.thread c.args.event).1 c.self.invariant.0 (sound_step old c.self.invariant.0 c.args.thread c.args.event allowed_now) c.step_counted.ensures.ok c.step_counted.ensures.err, c.step_counted.ensures.counted)
 
 pub returns-clause-fits : goal.returns-clause-fits
 returns-clause-fits c =
     let old = c.self.inside.state in
     let allowed_now = subst (λ (s : State). IsTrue (allowed s c.args.thread c.args.event)) (sym c.self.view_is) c.requires in
-    let fits = fits_step old c.self.invariant c.args.thread c.args.event allowed_now in
-    IfOk-weaker c.step.result _ _ (λ reply is. subst (Fits c.args.event) (sym is) fits) c.step.ensures.reply
+    let fits = fits_step old c.self.invariant.0 c.args.thread c.args.event allowed_now in
+    IfOk-weaker c.step_counted.result _ _ (λ reply is. subst (Fits c.args.event) (sym is) fits) c.step_counted.ensures.reply

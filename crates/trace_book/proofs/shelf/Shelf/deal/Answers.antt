@@ -1,5 +1,5 @@
 -- The i-th pass goes to the number from + i.
-use Rattle.std.proofs.Common.{◌≡◌, ◌∷◌, [], ℕ, suc, ◌+◌, ◌-◌, ◌<◌, ◌≤◌, rules, refl, sym, ap, ◌∙◌, arith}
+use Rattle.std.proofs.Common.{◌≡◌, ◌∷◌, [], suc, ◌+◌, ◌-◌, ◌<◌, rules, refl, sym, ap, ◌∙◌, arith}
 use Rattle.trace_book.specs.declared.view.Phase.TheVariants.{Idle}
 use Rattle.trace_book.specs.Views.{Within, view, numbers_from, kept_of}
 use Rattle.trace_book.specs.Told.{new_passes}

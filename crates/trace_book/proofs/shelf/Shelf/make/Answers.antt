@@ -1,7 +1,7 @@
 -- The turn is given back, with the history of the book.
-use Rattle.std.proofs.Common.{◌≡◌, ap, sym, subst, ◌∙◌, [], inl, inr, refl}
+use Rattle.std.proofs.Common.{ap, sym, subst, ◌∙◌, []}
 use Rattle.trace_book.specs.Views.{idle}
-use Rattle.trace_book.specs.Seats.{Busy, longer_by}
+use Rattle.trace_book.specs.Seats.{Busy}
 use Rattle.trace_book.specs.Plays.{Seated, history_out}
 use Rattle.trace_book.proofs.shelf.Shelf.make.Goals as goal
 

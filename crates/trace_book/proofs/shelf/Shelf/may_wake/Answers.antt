@@ -1,6 +1,5 @@
 -- The book is as it was.
-use Rattle.std.proofs.Common.{subst, sym}
-use Rattle.trace_book.proofs.Moves.{out_slot, book_is, put_same, allowed_in}
+use Rattle.trace_book.proofs.Moves.{out_slot, book_is, put_same}
 use Rattle.trace_book.proofs.shelf.Shelf.may_wake.Goals as goal
 
 pub exchange-requires : goal.exchange-requires

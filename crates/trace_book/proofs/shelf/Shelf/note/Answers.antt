@@ -1,7 +1,7 @@
 -- The book gained an entry, or is as it was.
 use Rattle.std.proofs.Common.{rules}
 use Rattle.trace_book.specs.Seats.{entry}
-use Rattle.trace_book.proofs.Moves.{out_slot, book_is, put_in, put_same, allowed_out, grown, written_out, notes_from, noted}
+use Rattle.trace_book.proofs.Moves.{out_slot, book_is, put_in, allowed_out, grown, written_out, notes_from, noted}
 use Rattle.trace_book.proofs.shelf.Shelf.note.Goals as goal
 
 pub exchange-requires : goal.exchange-requires

@@ -1,0 +1,4 @@
+pub mod Ends
+pub mod Quieting
+pub mod Never
+pub mod Texts

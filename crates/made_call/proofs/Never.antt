@@ -1,0 +1,41 @@
+-- Where no script ended by a failed call of the tree, the status is none of such a call.
+use Rattle.std.proofs.Common.{◌≡◌, ◌∙◌, sym, ℕ, zero, suc, ◌≤◌, List, Option, Some, None, arith}
+use Rattle.machine_events.specs.declared.event.Entry.{Entry}
+use Rattle.machine_events.specs.declared.event.Outcome.{Outcome}
+use Rattle.machine_events.specs.declared.event.Outcome.TheVariants as outcome
+use Rattle.thread_knowledge.specs.Own.{own}
+use Rattle.machine_book.specs.declared.outlet.Flow.{Flow}
+use Rattle.machine_book.specs.declared.outlet.Flow.TheVariants.{Open, Failed, Short}
+use Rattle.program_call.specs.Alone.{Means}
+use Rattle.program_call.specs.Counts.{read_at, reads_of}
+use Rattle.program_call.specs.Ends.{end_of, number_at, status_of}
+use Rattle.program_call.specs.Sinks.{Moment, status_by}
+use Rattle.made_call.specs.MadeRuns.{MadeGives}
+
+number_small : (end : Option Outcome) → read_at end ≡ 0 → number_at end ≤ 3
+number_small None h = omega arith
+number_small (Some outcome.Normal) h = omega arith
+number_small (Some (outcome.Raised error)) h = omega arith
+number_small (Some outcome.Fuel) h = omega arith
+number_small (Some outcome.Read) h = cc
+
+status_small : (scripts : ℕ) (history : List Entry) → reads_of scripts history ≡ 0 → status_of scripts history ≤ 3
+status_small zero history h = omega arith
+status_small (suc t) history h =
+    let before : status_of t history ≤ 3 = status_small t history (omega (arith, h)) in
+    let last : number_at (end_of (own t history)) ≤ 3 = number_small (end_of (own t history)) (omega (arith, h)) in
+    omega (arith, before, last)
+
+no_four : (good : ℕ) (out err : Flow) → good ≤ 3 → status_by good 5 out err ≡ 4 → ⊥
+no_four good Open Open h is = omega (arith, h, is)
+no_four good Open Failed h is = cc
+no_four good Open Short h is = cc
+no_four good Failed Open h is = cc
+no_four good Failed Failed h is = cc
+no_four good Failed Short h is = cc
+no_four good Short err h is = cc
+
+pub never_four : (means : Means) (seed modules scripts : ℕ) (old new : Moment) (history : Option (List Entry)) (status : ℕ) → MadeGives means seed modules scripts old new history status → status ≡ 4 → ⊥
+never_four means seed modules scripts old new None status run four = let no : ◌≡◌ {A = ℕ} 4 6 = sym four ∙ run.0 in cc
+never_four means seed modules scripts old new (Some history) status run four =
+    no_four (status_of scripts history) run.leaves.out_flow run.leaves.err_flow (status_small scripts history run.reads) (sym run.leaves.is ∙ four)

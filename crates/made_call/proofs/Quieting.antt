@@ -1,0 +1,145 @@
+-- From a run whose prints go nowhere to the whole call.
+use Rattle.std.proofs.Common.{◌≡◌, ◌⊎◌, ◌∙◌, refl, sym, ap, subst, ℕ, zero, suc, ◌+◌, ◌≤◌, List, [], ◌∷◌, false, Option, Some, None, inl, inr, IfSome, IfNone, length, length-append, arith}
+use Rattle.tree_files.specs.Files.{Files}
+use Rattle.tree_files.specs.Count.{raised, Rose}
+use Rattle.machine_events.specs.declared.event.Entry.{Entry}
+use Rattle.machine_book.specs.declared.outlet.Flow.{Flow}
+use Rattle.machine_book.specs.declared.outlet.Flow.TheVariants.{Open, Failed, Short}
+use Rattle.import_words.specs.declared.plan.RunPlan.{RunPlan}
+use Rattle.program_call.specs.Alone.{Means, whole as run_whole, part as run_part}
+use Rattle.program_call.specs.Prints.{out_text}
+use Rattle.program_call.specs.Counts.{reads_of}
+use Rattle.program_call.specs.Ends.{status_of}
+use Rattle.program_call.specs.Runs.{RunOver, Gives}
+use Rattle.program_call.specs.Sinks.{At, Moment, Gets, status_by}
+use Rattle.program_call.specs.Together.{AllAct, whole as acts_whole, part as acts_part}
+use Rattle.workload.specs.Generator.{made_files, script_name, file_of, script_files}
+use Rattle.made_tree.specs.Scripts.{text_at, script_texts}
+use Rattle.made_call.specs.MadeRuns.{made_plan, made_summary, MadeRun, MadeGives, Quiet, QuietGives, sinks, status_after, Summed}
+
+no_rise : Rose 0 0 → ⊥
+no_rise h = omega (arith, h)
+
+none_read : (n : ℕ) → raised 0 n ≤ 0 → n ≡ 0
+none_read n h = omega (arith, h)
+
+pub files_length : (n : ℕ) → length (script_files n) ≡ n
+files_length zero = refl
+files_length (suc n) =
+    let whole : length (script_files (suc n)) ≡ length (script_files n) + 1 = length-append (script_files n) (file_of (script_name n) ∷ []) in
+    let before : length (script_files n) ≡ n = files_length n in
+    omega arith
+
+texts_length : (seed modules n : ℕ) → length (script_texts seed modules n) ≡ n
+texts_length seed modules zero = refl
+texts_length seed modules (suc n) =
+    let whole : length (script_texts seed modules (suc n)) ≡ length (script_texts seed modules n) + 1 = length-append (script_texts seed modules n) (text_at seed modules n ∷ []) in
+    let before : length (script_texts seed modules n) ≡ n = texts_length seed modules n in
+    omega arith
+
+pub texts_count : (texts : List (List ℕ)) (seed modules scripts : ℕ) → texts ≡ script_texts seed modules scripts → length texts ≡ scripts
+texts_count texts seed modules scripts is = ap length is ∙ texts_length seed modules scripts
+
+-- a sink that keeps nothing
+abbrev nothing : At
+nothing = record { written = None; faults = 0 }
+
+-- and a tree that never fails
+abbrev quiet_at : ℕ → At → Moment
+quiet_at lists err = record { faults = 0; lists = lists; out = nothing; err = err }
+
+-- a sink that fails never is open, or memory was wanting
+by_flow : (out err : Flow) (text : List ℕ) (good status : ℕ) → Gets nothing text nothing out → status ≡ status_by good 5 out err → (status ≡ 6) ⊎ (status ≡ status_by good 5 Open err)
+by_flow Open err text good status gets is = inr is
+by_flow Failed err text good status gets is = absurd (no_rise gets.1)
+by_flow Short err text good status gets is = inl is
+
+quiet_made : (means : Means) (seed modules scripts lists_old lists_new : ℕ) (old new : At) (history : Option (List Entry)) (status : ℕ)
+    → Gives means (made_plan (script_files scripts)) (script_texts seed modules scripts) (Some (made_files seed modules scripts)) (quiet_at lists_old old) (quiet_at lists_new new) history status
+    → QuietGives means seed modules scripts old new history status
+quiet_made means seed modules scripts lists_old lists_new old new None status gives = (gives.0, ap (λ m. m.err) gives.1)
+quiet_made means seed modules scripts lists_old lists_new old new (Some history) status gives = record {
+  legal = gives.legal;
+  runs = gives.runs;
+  reads = subst (λ n. reads_of n history ≡ 0) (files_length scripts) (none_read (reads_of (length (script_files scripts)) history) gives.reads);
+  flow = gives.leaves.err_flow;
+  gets = gives.leaves.err_gets;
+  is = subst (λ n. (status ≡ 6) ⊎ (status ≡ status_by (status_of n history) 5 Open gives.leaves.err_flow)) (files_length scripts) (
+      by_flow gives.leaves.out_flow gives.leaves.err_flow (out_text false history) (status_of (length (script_files scripts)) history) status gives.leaves.out_gets gives.leaves.is);
+}
+
+-- what a run of made scripts leaves, with a sink that keeps nothing
+pub quiet : (means : Means) (seed modules scripts : ℕ) (plan : RunPlan) (texts : List (List ℕ)) (tree : Option Files) (lists_old lists_new : ℕ) (old new : At) (history : Option (List Entry)) (status : ℕ)
+    → plan ≡ made_plan (script_files scripts) → texts ≡ script_texts seed modules scripts → tree ≡ Some (made_files seed modules scripts)
+    → Gives means plan texts tree (quiet_at lists_old old) (quiet_at lists_new new) history status
+    → QuietGives means seed modules scripts old new history status
+quiet means seed modules scripts plan texts tree lists_old lists_new old new history status p t f gives =
+    quiet_made means seed modules scripts lists_old lists_new old new history status (
+    subst (λ it. Gives means (made_plan (script_files scripts)) (script_texts seed modules scripts) it (quiet_at lists_old old) (quiet_at lists_new new) history status) f (
+    subst (λ it. Gives means (made_plan (script_files scripts)) it tree (quiet_at lists_old old) (quiet_at lists_new new) history status) t (
+    subst (λ it. Gives means it texts tree (quiet_at lists_old old) (quiet_at lists_new new) history status) p gives)))
+
+acts_more : (means : Means) (files : Files) (t : ℕ) (texts : List (List ℕ)) (fuel : ℕ) (history : List Entry) (status later : ℕ) → (status ≡ 6 → later ≡ 6)
+    → AllAct means files t texts fuel 0 0 history status → AllAct means files t texts fuel 0 0 history later
+acts_more means files t [] fuel history status later more acts = acts
+acts_more means files t (text ∷ texts) fuel history status later more acts = (
+  elim acts.0 [
+    | acts_whole outcome follows ↦ acts_whole outcome follows
+    | acts_part six broken ↦ acts_part (more six) broken
+  ],
+  acts_more means files (suc t) texts fuel history status later more acts.1,
+)
+
+-- what scripts mean has to do with the status at want of memory alone
+over_more : (means : Means) (files : Files) (plan : RunPlan) (texts : List (List ℕ)) (history : List Entry) (status later : ℕ) → (status ≡ 6 → later ≡ 6)
+    → RunOver means files plan texts 0 0 history status → RunOver means files plan texts 0 0 history later
+over_more means files plan [] history status later more over = over
+over_more means files plan (text ∷ []) history status later more over = elim over [
+  | run_whole stop is cause ↦ run_whole stop is cause
+  | run_part stop rest six is cause ↦ run_part stop rest (more six) is cause
+]
+over_more means files plan (text ∷ next ∷ texts) history status later more over = acts_more means files 0 (text ∷ next ∷ texts) plan.fuel history status later more over
+
+both : (out err : Flow) (good status later : ℕ) → (status ≡ 6) ⊎ (status ≡ status_by good 5 Open err) → later ≡ status_after status out → (status ≡ 6 → out ≡ Short) → later ≡ status_by good 5 out err
+both Short err good status later is after short = after
+both Open err good status later (inl six) after short = let no : Open ≡ Short = short six in cc
+both Open err good status later (inr is) after short = after ∙ is
+both Failed err good status later (inl six) after short = let no : Failed ≡ Short = short six in cc
+both Failed Open good status later (inr is) after short = after
+both Failed Failed good status later (inr is) after short = after
+both Failed Short good status later (inr is) after short = let no : Failed ≡ Short = short is in cc
+
+-- the run, and then the line about it
+pub summed : (means : Means) (seed modules scripts : ℕ) (out_old out_new err_old err_new : At) (history : List Entry) (status later : ℕ) (out : Flow)
+    → Quiet means seed modules scripts err_old err_new history status → Gets out_old (made_summary modules scripts history) out_new out
+    → later ≡ status_after status out → (status ≡ 6 → out ≡ Short)
+    → MadeRun means seed modules scripts (sinks out_old err_old) (sinks out_new err_new) history later
+summed means seed modules scripts out_old out_new err_old err_new history status later out run gets after short = record {
+  legal = run.legal;
+  runs = over_more means (made_files seed modules scripts) (made_plan (script_files scripts)) (script_texts seed modules scripts) history status later (
+      λ six. after ∙ ap (status_after status) (short six)) run.runs;
+  reads = run.reads;
+  leaves = record {
+    out_flow = out;
+    err_flow = run.flow;
+    out_gets = gets;
+    err_gets = run.gets;
+    is = both out run.flow (status_of scripts history) status later run.is after short;
+  };
+}
+
+-- the whole call: nothing but the want of memory, or the run and the line about it
+pub made : (means : Means) (seed modules scripts : ℕ) (out_old out_new err_old err_new : At) (before after : Option (List Entry)) (status later : ℕ)
+    → QuietGives means seed modules scripts err_old err_new before status → after ≡ before
+    → IfSome before (λ history. Summed modules scripts out_old out_new history status later)
+    → IfNone before ((later ≡ status) × (out_new ≡ out_old))
+    → MadeGives means seed modules scripts (sinks out_old err_old) (sinks out_new err_new) after later
+made means seed modules scripts out_old out_new err_old err_new before after status later run same told unbegun =
+    subst (λ it. MadeGives means seed modules scripts (sinks out_old err_old) (sinks out_new err_new) it later) (sym same) (by_history before run told unbegun) where
+      by_history : (history : Option (List Entry)) → QuietGives means seed modules scripts err_old err_new history status
+          → IfSome history (λ it. Summed modules scripts out_old out_new it status later)
+          → IfNone history ((later ≡ status) × (out_new ≡ out_old))
+          → MadeGives means seed modules scripts (sinks out_old err_old) (sinks out_new err_new) history later
+      by_history None run told unbegun = (unbegun.0 ∙ run.0, ap (λ out. sinks out err_new) unbegun.1 ∙ ap (sinks out_old) run.1)
+      by_history (Some history) run told unbegun =
+          summed means seed modules scripts out_old out_new err_old err_new history status later told.0 run told.1 told.2 told.3

@@ -1,0 +1,103 @@
+//! The call.
+ghost use Rattle.std.specs.Prelude.{◌≡◌, ◌≤◌, None, IfSome, IfNone};
+ghost use Rattle.program_call.specs.Sinks.{at};
+ghost use Rattle.made_call.specs.MadeRuns.{QuietGives, MadeGives, sinks, Summed};
+
+use crate::no_out::NoOut;
+use crate::ready::{Ready, make_ready};
+use crate::summing::{SHORT, sum_up};
+use made_tree::MadeTree;
+use program_call::{Left, Scripts, run_scripts};
+use round_run::Gate;
+use std::alloc::Global;
+use std::sync::Wait;
+use std::thread::Threads;
+use tree_files::Sink;
+
+fn unbegun() -> Left
+    ensures { result ≡ record { status = 6; history = None } }
+{
+    Left {
+        status: SHORT,
+        history: None,
+    }
+}
+
+/// Runs the scripts of a made workload, what they print going nowhere.
+fn run_quiet<S: Scripts + Send, R: Threads + Wait + Sync, K: Sink, G: Gate + Sync>(
+    rt: &R,
+    alloc: Global,
+    seed: u64,
+    modules: u32,
+    scripts: u32,
+    err: &mut K,
+    gate: &G,
+) -> Left
+    requires modules { 1 ≤ modules }
+    requires scripts { (1 ≤ scripts) × (scripts ≤ 16) }
+    ensures run { QuietGives S.means seed modules scripts
+        (at K.written K.faults err.old) (at K.written K.faults err.new) result.history result.status }
+    ensures err_faults { K.faults err.old ≤ K.faults err.new }
+{
+    let Ok(it) = make_ready(alloc, seed, modules, scripts) else {
+        return unbegun();
+    };
+    let Ready {
+        mut tree,
+        plan,
+        texts,
+    } = it;
+    let mut out = NoOut;
+    run_scripts::<S, R, MadeTree, NoOut, K, G>(
+        rt, alloc, &plan, texts, &mut tree, &mut out, err, gate,
+    )
+}
+
+/// Writes the line about a run that has a history.
+fn with_line<K: Sink>(alloc: Global, out: &mut K, modules: u32, scripts: u32, ran: Left) -> Left
+    ensures history { result.history ≡ ran.history }
+    ensures told { IfSome ran.history (λ history. Summed modules scripts
+        (at K.written K.faults out.old) (at K.written K.faults out.new) history ran.status result.status) }
+    ensures unbegun { IfNone ran.history ((result.status ≡ ran.status)
+        × (at K.written K.faults out.new ≡ at K.written K.faults out.old)) }
+    ensures faults_grow { K.faults out.old ≤ K.faults out.new }
+{
+    let Left { status, history } = ran;
+    match history {
+        Some(history) => Left {
+            status: sum_up(alloc, out, modules, scripts, history.as_slice(), status),
+            history: Some(history),
+        },
+        None => Left {
+            status,
+            history: None,
+        },
+    }
+}
+
+/// Makes the workload of a seed, with so many modules and scripts, and runs its scripts, what they
+/// print going nowhere. The one line about the run goes to `out`, and a line for each end that is not
+/// normal to `err`, in the order of the scripts.
+pub fn call_made<S: Scripts + Send, R: Threads + Wait + Sync, K: Sink, G: Gate + Sync>(
+    rt: &R,
+    alloc: Global,
+    seed: u64,
+    modules: u32,
+    scripts: u32,
+    out: &mut K,
+    err: &mut K,
+    gate: &G,
+) -> Left
+    requires modules { 1 ≤ modules }
+    requires scripts { (1 ≤ scripts) × (scripts ≤ 16) }
+    ensures run { MadeGives S.means seed modules scripts
+        (sinks (at K.written K.faults out.old) (at K.written K.faults err.old))
+        (sinks (at K.written K.faults out.new) (at K.written K.faults err.new))
+        result.history result.status }
+    ensures no_file_fault { result.status ≡ 4 → ⊥ }
+    ensures out_faults { K.faults out.old ≤ K.faults out.new }
+    ensures err_faults { K.faults err.old ≤ K.faults err.new }
+{
+    let ran = run_quiet::<S, R, K, G>(rt, alloc, seed, modules, scripts, err, gate);
+    with_line(alloc, out, modules, scripts, ran)
+}

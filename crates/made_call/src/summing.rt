@@ -1,0 +1,49 @@
+//! The line about a run.
+ghost use Rattle.std.specs.Prelude.{◌≡◌, ◌≤◌};
+ghost use Rattle.program_call.specs.Sinks.{at};
+ghost use Rattle.made_call.specs.MadeRuns.{status_after, Summed};
+
+use crate::worst::worst_in;
+use machine_book::Flow;
+use machine_events::Entry;
+use program_call::say_line;
+use run_summary::write_summary;
+use std::alloc::Global;
+use tree_files::Sink;
+
+/// The status for want of memory.
+pub(crate) const SHORT: u8 = 6;
+
+/// The status where a sink failed.
+const SINK_FAILED: u8 = 5;
+
+/// The status of a run, by what became of the line about it.
+fn status_after(status: u8, flow: Flow) -> u8
+    ensures { result ≡ status_after status flow }
+{
+    match flow {
+        Flow::Open => status,
+        Flow::Failed => SINK_FAILED,
+        Flow::Short => SHORT,
+    }
+}
+
+/// Writes the line about a run, unless memory was wanting in it, and gives the status.
+pub(crate) fn sum_up<K: Sink>(
+    alloc: Global,
+    out: &mut K,
+    modules: u32,
+    scripts: u32,
+    history: &[Entry],
+    status: u8,
+) -> u8
+    ensures told { Summed modules scripts (at K.written K.faults out.old)
+        (at K.written K.faults out.new) history.now status result }
+    ensures faults_grow { K.faults out.old ≤ K.faults out.new }
+{
+    if status == SHORT {
+        return SHORT;
+    }
+    let line = write_summary(alloc, modules, scripts, history, worst_in(history, scripts));
+    status_after(status, say_line(out, line))
+}

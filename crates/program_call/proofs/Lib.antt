@@ -1,0 +1,9 @@
+pub mod Endings
+pub mod Finishing
+pub mod Leaving
+pub mod Counting
+pub mod Threads
+pub mod Lone
+pub mod Opening
+pub mod Plans
+pub mod Answering

@@ -1,0 +1,10 @@
+pub mod Prints
+pub mod Ends
+pub mod Sinks
+pub mod Scripts
+pub mod Counts
+pub mod Alone
+pub mod Results
+pub mod Together
+pub mod Runs
+pub mod Answers

@@ -1,0 +1,40 @@
+-- What came of scripts, as the lines about their ends and the number of the worst.
+use Rattle.std.specs.Prelude.{ℕ, suc, max, List, [], ◌∷◌, ◌++◌, Result, Ok, Err, IfOk}
+use Rattle.base_types.specs.declared.no_memory.NoMemory.{NoMemory}
+use Rattle.machine_events.specs.declared.event.Entry.{Entry}
+use Rattle.thread_knowledge.specs.Own.{own}
+use Rattle.script_end.specs.declared.end.Ending.{Ending}
+use Rattle.script_end.specs.Ending.{Ended, outcome}
+use Rattle.program_call.specs.Ends.{line_of, number_of}
+
+-- how a script ended, or that memory was wanting
+abbrev pub Came : Type 0
+Came = Result Ending NoMemory
+
+abbrev pub line_by : List ℕ → Came → List ℕ
+line_by script (Ok ending) = line_of script (outcome ending)
+line_by script (Err e) = []
+
+abbrev pub number_by : Came → ℕ
+number_by (Ok ending) = number_of (outcome ending)
+number_by (Err e) = 0
+
+abbrev pub lines_by : List (List ℕ) → List Came → List ℕ
+lines_by [] results = []
+lines_by (script ∷ scripts) [] = []
+lines_by (script ∷ scripts) (result ∷ results) = line_by script result ++ lines_by scripts results
+
+abbrev pub worst_by : List Came → ℕ
+worst_by [] = 0
+worst_by (result ∷ results) = max (number_by result) (worst_by results)
+
+-- each script has an end
+abbrev pub AreWhole : List Came → Type 0
+AreWhole [] = Unit {0}
+AreWhole (Ok ending ∷ results) = AreWhole results
+AreWhole (Err e ∷ results) = ⊥
+
+-- the ends stand in the history, of which the first is that of script t
+abbrev pub AllEnded : ℕ → List Came → List Entry → Type 0
+AllEnded t [] history = Unit {0}
+AllEnded t (result ∷ results) history = IfOk result (λ ending. Ended (own t history) (outcome ending)) × AllEnded (suc t) results history

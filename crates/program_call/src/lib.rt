@@ -1,0 +1,27 @@
+//! A call of the program, whatever its scripts mean: from the words of its command line to what is
+//! written, and to a status.
+#![tactic(auto)]
+
+mod alone;
+mod answer;
+mod begin;
+mod finish;
+mod laws;
+mod line;
+mod open;
+mod outlet;
+mod report;
+mod run;
+mod scripts;
+mod together;
+
+pub use alone::run_alone;
+pub use answer::{call, plan_for};
+pub use finish::say_line;
+pub use laws::scripts_have_a_history;
+pub use open::{Opened, Unopened, open_all};
+pub use outlet::Out;
+pub use report::{Left, Report, with_plan, without_run};
+pub use run::run_scripts;
+pub use scripts::Scripts;
+pub use together::run_together;

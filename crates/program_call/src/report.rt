@@ -1,0 +1,68 @@
+//! How a call ended.
+ghost use Rattle.std.specs.Prelude.{◌≡◌, Some, None};
+
+use base_types::Seq;
+use import_words::Plan;
+use machine_events::Entry;
+
+/// How a call of the program ended.
+#[derive(Drop)]
+pub struct Report {
+    /// The exit status: 0 where all went well, 1 where an error left a script, 2 where the words or a
+    /// script were refused, 3 where a budget was spent, 4 where a file could not be read, 5 where a
+    /// sink failed, 6 for want of memory.
+    pub status: u8,
+    /// What the words asked for, where they were accepted.
+    pub plan: Option<Plan>,
+    /// The history of the run, where there was one.
+    pub history: Option<Seq<Entry>>,
+}
+
+/// The status of a run and its history, where there was memory to begin one.
+#[derive(Drop)]
+pub struct Left {
+    pub status: u8,
+    pub history: Option<Seq<Entry>>,
+}
+
+/// A run with a history.
+pub fn of_run(status: u8, history: Seq<Entry>) -> Left
+    ensures { result ≡ record { status = status; history = Some history } }
+{
+    Left {
+        status,
+        history: Some(history),
+    }
+}
+
+/// A run for whose history there was no memory.
+pub fn unbegun() -> Left
+    ensures { result ≡ record { status = 6; history = None } }
+{
+    Left {
+        status: 6,
+        history: None,
+    }
+}
+
+/// The report of a run.
+pub fn with_plan(ran: Left, plan: Option<Plan>) -> Report
+    ensures { result ≡ record { status = ran.status; plan = plan; history = ran.history } }
+{
+    Report {
+        status: ran.status,
+        plan,
+        history: ran.history,
+    }
+}
+
+/// A call without a run.
+pub fn without_run(status: u8, plan: Option<Plan>) -> Report
+    ensures { result ≡ record { status = status; plan = plan; history = None } }
+{
+    Report {
+        status,
+        plan,
+        history: None,
+    }
+}

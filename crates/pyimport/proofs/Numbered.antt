@@ -1,0 +1,116 @@
+-- A plan of a made workload has at least one module, and 1 to 16 scripts.
+use Rattle.std.proofs.Common.{◌≡◌, ◌≤◌, ℕ, Bool, true, false, ◌&&◌, List, [], ◌∷◌, Option, Some, None, refl, sym, subst}
+use Rattle.std.specs.Prelude.{nat_le, if◌then◌else◌}
+use Rattle.std.specs.List.{list_any}
+use Rattle.std.specs.Option.{option_map, option_and_then}
+use Rattle.std.proofs.lemmas.Bool.{leb-true, and_parts}
+use Rattle.command_words.specs.Words.{Word, is_refused, options, no_settings}
+use Rattle.command_words.specs.declared.found.Settings.{Settings}
+use Rattle.command_words.specs.declared.found.Front.{Front}
+use Rattle.command_words.specs.declared.command.Command.{Command}
+use Rattle.command_words.specs.declared.command.Command.TheVariants as command
+use Rattle.import_words.specs.Plans.{plan_of, plan_by, command_of, run_plan, check_plan, module_plan, report_plan, gen_of, gen_with, number_of, within, digits_of, only_word, run_of, run_with, path_of}
+use Rattle.import_words.specs.declared.plan.Plan.{Plan}
+use Rattle.import_words.specs.declared.plan.Plan.TheVariants as plans
+use Rattle.pyimport.specs.Answers.{numbers_of}
+use Rattle.pyimport.specs.declared.made.Numbers.{Numbers}
+
+abbrev pub Fits : Option Plan → Type 0
+Fits (Some (plans.Gen seed modules scripts)) = (1 ≤ modules) × ((1 ≤ scripts) × (scripts ≤ 16))
+Fits plan = Unit {0}
+
+mapped : {A : Type 0} (make : A → Plan) → ((a : A) → Fits (Some (make a))) → (o : Option A) → Fits (option_map make o)
+mapped make fits None = tt
+mapped make fits (Some a) = fits a
+
+if_not : (b : Bool) (o : Option Plan) → Fits o → Fits (if b then None else o)
+if_not true o fits = tt
+if_not false o fits = fits
+
+if_so : (b : Bool) (o : Option Plan) → Fits o → Fits (if b then o else None)
+if_so true o fits = fits
+if_so false o fits = tt
+
+behind : (made : Settings → List Word → Option Plan) → ((s : Settings) (rest : List Word) → Fits (made s rest)) → (o : Option Front) → Fits (option_and_then (λ it. made it.settings it.rest) o)
+behind made fits None = tt
+behind made fits (Some it) = fits it.settings it.rest
+
+-- a number that was read between two bounds
+abbrev IsWithin : ℕ → ℕ → Option ℕ → Type 0
+IsWithin low high None = Unit {0}
+IsWithin low high (Some n) = (low ≤ n) × (n ≤ high)
+
+within_is : (low high n : ℕ) → IsWithin low high (within low high n)
+within_is low high n = at (nat_le low n && nat_le n high) refl
+  where
+    at : (b : Bool) → (nat_le low n && nat_le n high) ≡ b → IsWithin low high (if b then Some n else None)
+    at true is = let both = and_parts _ _ is in (leb-true low n both.0, leb-true n high both.1)
+    at false is = tt
+
+number_is : (most low high : ℕ) (word : Word) → IsWithin low high (number_of most low high word)
+number_is most low high word = at (digits_of most word)
+  where
+    at : (o : Option ℕ) → IsWithin low high (option_and_then (within low high) o)
+    at None = tt
+    at (Some n) = within_is low high n
+
+with_fits : (seed modules scripts : Option ℕ) → IsWithin 1 10000 modules → IsWithin 1 16 scripts → Fits (gen_with seed modules scripts)
+with_fits (Some seed) (Some modules) (Some scripts) m s = (m.0, s)
+with_fits None modules scripts m s = tt
+with_fits (Some seed) None scripts m s = tt
+with_fits (Some seed) (Some modules) None m s = tt
+
+gen_fits : (words : List Word) → Fits (gen_of words)
+gen_fits [] = tt
+gen_fits (seed ∷ []) = tt
+gen_fits (seed ∷ modules ∷ []) = tt
+gen_fits (seed ∷ modules ∷ scripts ∷ []) =
+    with_fits (digits_of 18 seed) (number_of 5 1 10000 modules) (number_of 5 1 16 scripts) (number_is 5 1 10000 modules) (number_is 5 1 16 scripts)
+gen_fits (seed ∷ modules ∷ scripts ∷ word ∷ words) = tt
+
+run_fits : (s : Settings) (words : List Word) → Fits (run_plan s words)
+run_fits s [] = mapped plans.Run (λ run. tt) _
+run_fits s (script ∷ scripts) = mapped plans.Run (λ run. tt) _
+
+check_fits : (s : Settings) (words : List Word) → Fits (check_plan s words)
+check_fits s [] = tt
+check_fits s (trace_file ∷ words) = if_not _ _ (mapped (λ run. plans.Check run trace_file) (λ run. tt) (run_of s words))
+
+module_fits : (s : Settings) (names : List Word) → Fits (module_plan s names)
+module_fits s names = if_so _ _ (mapped plans.Module (λ run. tt) (run_with s [] names))
+
+report_fits : (s : Settings) (words : List Word) → Fits (report_plan s words)
+report_fits s [] = tt
+report_fits s (dir ∷ []) = if_so _ _ (mapped (λ path. plans.Report path dir) (λ path. tt) (path_of s.path dir))
+report_fits s (dir ∷ word ∷ words) = tt
+
+command_fits : (it : Option Command) (words : List Word) → Fits (plan_by it words)
+command_fits None words = tt
+command_fits (Some command.Run) words = behind run_plan run_fits (options no_settings words)
+command_fits (Some command.Gen) words = gen_fits words
+command_fits (Some command.Check) words = behind check_plan check_fits (options no_settings words)
+command_fits (Some command.Convert) words = mapped plans.Convert (λ file. tt) (only_word words)
+command_fits (Some command.Module) words = behind module_plan module_fits (options no_settings words)
+command_fits (Some command.Report) words = behind report_plan report_fits (options no_settings words)
+command_fits (Some command.Bundle) words = mapped plans.Bundle (λ dir. tt) (only_word words)
+
+pub plan_fits : (words : List Word) → Fits (plan_of words)
+plan_fits [] = tt
+plan_fits (word ∷ words) = if_not (list_any is_refused (word ∷ words)) (plan_by (command_of word) words) (command_fits (command_of word) words)
+
+-- of what was read
+fits_by : (plan : Option Plan) → Fits plan → (it : Numbers) → numbers_of plan ≡ Some it → (1 ≤ it.modules) × ((1 ≤ it.scripts) × (it.scripts ≤ 16))
+fits_by None fits it is = absurd (cc is)
+fits_by (Some (plans.Run run)) fits it is = absurd (cc is)
+fits_by (Some (plans.Gen seed modules scripts)) fits it is =
+    let same : record { seed = seed; modules = modules; scripts = scripts } ≡ it = cc is in
+    subst (λ (x : Numbers). (1 ≤ x.modules) × ((1 ≤ x.scripts) × (x.scripts ≤ 16))) same fits
+fits_by (Some (plans.Check run file)) fits it is = absurd (cc is)
+fits_by (Some (plans.Convert file)) fits it is = absurd (cc is)
+fits_by (Some (plans.Module run)) fits it is = absurd (cc is)
+fits_by (Some (plans.Report path dir)) fits it is = absurd (cc is)
+fits_by (Some (plans.Bundle dir)) fits it is = absurd (cc is)
+
+pub fits_of : (words : List Word) (plan : Option Plan) → plan ≡ plan_of words → (it : Numbers) → numbers_of plan ≡ Some it
+    → (1 ≤ it.modules) × ((1 ≤ it.scripts) × (it.scripts ≤ 16))
+fits_of words plan is it found = fits_by plan (subst Fits (sym is) (plan_fits words)) it found

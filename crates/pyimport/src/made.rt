@@ -1,0 +1,79 @@
+//! The call that runs a made workload.
+ghost use Rattle.std.specs.Prelude.{◌≡◌, ◌≤◌, Some};
+ghost use Rattle.import_words.specs.declared.plan.Plan.TheVariants as plans;
+ghost use Rattle.made_call.specs.MadeRuns.{MadeGives, sinks};
+ghost use Rattle.program_call.specs.Sinks.{at};
+ghost use Rattle.py_meaning.specs.Meaning.{meaning};
+ghost use Rattle.py_sources.specs.Sources.{sources};
+ghost use Rattle.pyimport.specs.Answers.{numbers_of};
+
+use crate::script::Script;
+use import_words::Plan;
+use made_call::call_made;
+use program_call::{Report, with_plan};
+use round_run::Gate;
+use std::alloc::Global;
+use std::sync::Wait;
+use std::thread::Threads;
+use tree_files::Sink;
+
+/// The numbers of a made workload.
+#[derive(Clone, Copy, Drop)]
+pub struct Numbers {
+    pub seed: u64,
+    pub modules: u32,
+    pub scripts: u32,
+}
+
+/// The numbers of a made workload, where the plan asks for one.
+pub fn numbers_of(plan: &Option<Plan>) -> Option<Numbers>
+    ensures { result ≡ numbers_of plan.now }
+{
+    match plan {
+        Some(
+            Plan::Gen {
+                seed,
+                modules,
+                scripts,
+            },
+        ) => Some(Numbers {
+            seed: *seed,
+            modules: *modules,
+            scripts: *scripts,
+        }),
+        _ => None,
+    }
+}
+
+/// Runs a made workload.
+pub fn run_made<R: Threads + Wait + Sync, K: Sink, G: Gate + Sync>(
+    rt: &R,
+    alloc: Global,
+    it: Numbers,
+    out: &mut K,
+    err: &mut K,
+    gate: &G,
+) -> Report
+    requires modules { 1 ≤ it.modules }
+    requires scripts { (1 ≤ it.scripts) × (it.scripts ≤ 16) }
+    ensures run { MadeGives (meaning sources) it.seed it.modules it.scripts
+        (sinks (at K.written K.faults out.old) (at K.written K.faults err.old))
+        (sinks (at K.written K.faults out.new) (at K.written K.faults err.new))
+        result.history result.status }
+    ensures plan { result.plan ≡ Some (plans.Gen it.seed it.modules it.scripts) }
+    ensures out_faults { K.faults out.old ≤ K.faults out.new }
+    ensures err_faults { K.faults err.old ≤ K.faults err.new }
+{
+    let Numbers {
+        seed,
+        modules,
+        scripts,
+    } = it;
+    let ran = call_made::<Script, R, K, G>(rt, alloc, seed, modules, scripts, out, err, gate);
+    let plan = Plan::Gen {
+        seed,
+        modules,
+        scripts,
+    };
+    with_plan(ran, Some(plan))
+}

@@ -1,0 +1,112 @@
+//! The calls of the program.
+ghost use Rattle.std.specs.Prelude.{◌≡◌, ◌≤◌, None, length, map};
+ghost use Rattle.std.specs.String.{string_bytes};
+ghost use Rattle.program_call.specs.Runs.{Gives};
+ghost use Rattle.program_call.specs.Sinks.{at, moment};
+ghost use Rattle.py_meaning.specs.Meaning.{meaning};
+ghost use Rattle.py_sources.specs.Sources.{sources};
+ghost use Rattle.pyimport.specs.Answers.{Answers};
+
+use crate::made::{numbers_of, run_made};
+use crate::script::Script;
+use base_types::Seq;
+use import_words::RunPlan;
+use program_call::{Report, call, plan_for, run_alone, run_together, with_plan, without_run};
+use round_run::Gate;
+use std::alloc::Global;
+use std::sync::Wait;
+use std::thread::Threads;
+use tree_files::{Grove, Sink, Tree};
+
+/// Runs one script over a tree. What it prints goes to `out` as it is printed, and a line where its
+/// end is not normal to `err`. It always returns. The report has no plan: that is the caller's.
+pub fn solo<T: Tree, K: Sink>(
+    alloc: Global,
+    plan: &RunPlan,
+    texts: Seq<Seq<u8>>,
+    tree: &mut T,
+    out: &mut K,
+    err: &mut K,
+) -> Report
+    requires script { length plan.now.scripts ≡ 1 }
+    requires text { length texts ≡ 1 }
+    ensures run { Gives (meaning sources) plan.now texts (T.files tree.old)
+        (moment T.faults T.lists K.written K.faults K.written K.faults tree.old out.old err.old)
+        (moment T.faults T.lists K.written K.faults K.written K.faults tree.new out.new err.new)
+        result.history result.status }
+    ensures plan { result.plan ≡ None }
+    ensures files { T.files tree.new ≡ T.files tree.old }
+    ensures faults_grow { T.faults tree.old ≤ T.faults tree.new }
+    ensures out_faults { K.faults out.old ≤ K.faults out.new }
+    ensures err_faults { K.faults err.old ≤ K.faults err.new }
+{
+    let ran = run_alone::<Script, T, K, K>(alloc, plan, texts, tree, out, err);
+    with_plan(ran, None)
+}
+
+/// Runs 2 to 16 scripts over a tree, each in a thread of its own over a fork of it, which passes the
+/// gate before each event. What they print goes to `out` as it is printed, and a line for each end
+/// that is not normal to `err`, in the order of the scripts. The report has no plan.
+pub fn run_all<R: Threads + Wait + Sync, T: Grove, K: Sink + Send, G: Gate + Sync>(
+    rt: &R,
+    alloc: Global,
+    plan: &RunPlan,
+    texts: Seq<Seq<u8>>,
+    tree: &mut T,
+    out: &mut K,
+    err: &mut K,
+    gate: &G,
+) -> Report
+    requires some { 2 ≤ length plan.now.scripts }
+    requires few { length plan.now.scripts ≤ 16 }
+    requires texts { length texts ≡ length plan.now.scripts }
+    ensures run { Gives (meaning sources) plan.now texts (T.files tree.old)
+        (moment T.faults T.lists K.written K.faults K.written K.faults tree.old out.old err.old)
+        (moment T.faults T.lists K.written K.faults K.written K.faults tree.new out.new err.new)
+        result.history result.status }
+    ensures plan { result.plan ≡ None }
+    ensures files { T.files tree.new ≡ T.files tree.old }
+    ensures faults_grow { T.faults tree.old ≤ T.faults tree.new }
+    ensures out_faults { K.faults out.old ≤ K.faults out.new }
+    ensures err_faults { K.faults err.old ≤ K.faults err.new }
+{
+    let ran = run_together::<Script, R, T, K, K, G>(rt, alloc, plan, texts, tree, out, err, gate);
+    with_plan(ran, None)
+}
+
+/// Runs what the words of the command line ask for, over a tree, and writes what is to be written to
+/// the two sinks.
+///
+/// What is built so far is `run` for 1 to 16 scripts, with a search path, a budget and a trace as the
+/// words tell, and `gen`; all other words are refused with the usage line. One script runs as in
+/// `solo`, several as in `run_all`. A made workload leaves the tree alone.
+pub fn pyimport<R: Threads + Wait + Sync, T: Grove, K: Sink + Send, G: Gate + Sync>(
+    rt: &R,
+    alloc: Global,
+    words: &[String],
+    tree: &mut T,
+    out: &mut K,
+    err: &mut K,
+    gate: &G,
+) -> Report
+    ensures answers { Answers (map string_bytes words.now) (T.files tree.old)
+        (moment T.faults T.lists K.written K.faults K.written K.faults tree.old out.old err.old)
+        (moment T.faults T.lists K.written K.faults K.written K.faults tree.new out.new err.new)
+        result.status result.plan result.history }
+    ensures files { T.files tree.new ≡ T.files tree.old }
+    ensures faults_grow { T.faults tree.old ≤ T.faults tree.new }
+    ensures lists { result.history ≡ None → T.lists tree.new ≡ T.lists tree.old }
+    ensures out_faults { K.faults out.old ≤ K.faults out.new }
+    ensures err_faults { K.faults err.old ≤ K.faults err.new }
+{
+    match plan_for(alloc, words) {
+        Ok(plan) => match numbers_of(&plan) {
+            Some(it) => {
+                drop(plan);
+                run_made(rt, alloc, it, out, err, gate)
+            }
+            None => call::<Script, R, T, K, G>(rt, alloc, words, plan, tree, out, err, gate),
+        },
+        Err(_) => without_run(6, None),
+    }
+}

@@ -1,0 +1,44 @@
+//! A script, as what a thread runs.
+ghost use Rattle.py_meaning.specs.Meaning.{meaning};
+ghost use Rattle.py_safety.proofs.Meaning.{meaning_safe};
+ghost use Rattle.py_sources.specs.Sources.{sources};
+
+use base_types::{NoMemory, Seq};
+use machine_book::Desk;
+use program_call::Scripts;
+use py_run::run_script;
+use round_run::Program;
+use script_end::Ending;
+use std::alloc::Global;
+use tree_files::Tree;
+
+/// A script of this text.
+#[derive(Drop)]
+pub struct Script {
+    text: Seq<u8>,
+}
+
+impl Program for Script {
+    ghost run = { λ script t. meaning sources t script.text };
+
+    fn run<D: Desk, T: Tree>(
+        &self,
+        alloc: Global,
+        desk: &mut D,
+        tree: &mut T,
+        script: u32,
+        fuel: u64,
+    ) -> Result<Ending, NoMemory> {
+        run_script(alloc, desk, tree, script, self.text.as_slice(), fuel)
+    }
+}
+
+impl Scripts for Script {
+    ghost means = { meaning sources };
+
+    fn of_text(text: Seq<u8>) -> Script {
+        Script { text }
+    }
+
+    ghost safe = { meaning_safe sources };
+}

@@ -1,0 +1,12 @@
+//! Scripts that run in threads at once, held by gates, and a shelf that is stopped: what no contract says and no row of a
+//! table can show.
+#![tactic(auto)]
+
+#[cfg(test)]
+mod gates;
+#[cfg(test)]
+mod sinks;
+#[cfg(test)]
+mod stopped;
+#[cfg(test)]
+mod tests;
