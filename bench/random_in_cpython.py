@@ -14,7 +14,9 @@ Exit status 1 where a seed differs.
 What this language has by rules of its own is left out, or taken out of the texts: modules are told by their names, since
 a module that is loaded again keeps the file that it is told with; whether a module is initialising, which a reload within
 its first load changes in CPython; hints at similar names; and the text that CPython has for a submodule that is loading.
-Only a module that imports nothing gets `None` as its entry.
+Only a module that imports nothing gets `None` as its entry. What is not left out is a package whose body fails while what
+it imported stays: CPython looks it up once more behind a submodule of that, and runs its body again. Of the seeds 0 to
+9,999 this tells in 3498 and 9333; `tree_rows` has a row for each.
 """
 import argparse
 import pathlib

@@ -137,7 +137,8 @@ impl Eq for TreePath {
 impl PartialOrd for TreePath {
     ghost partial_cmp = { λ p q. Some (path_cmp p q) };
 
-    ghost laws = { partial_order_from_agreeing_total path_cmp (lists_total nat_list_cmp_total) (λ p q. refl) (lists_ties (slice_cmp nat_cmp) texts_ties) };
+    ghost laws = { partial_order_from_agreeing_total path_cmp (lists_total nat_list_cmp_total) (λ p q. refl)
+        (lists_ties (slice_cmp nat_cmp) texts_ties) };
 
     fn partial_cmp(&self, other: &TreePath) -> Option<Ordering> {
         Some(self.cmp(other))

@@ -84,7 +84,12 @@ impl Importer {
     /// The import of a name, before its first look into the cache; whether the name is the parent of
     /// one that is imported, and whether its module is loaded at its first use only.
     pub fn start(name: Dotted, is_parent: bool, is_lazy: bool) -> Importer
-        ensures { result ≡ record { name = name; turns = pieces.most; is_lazy = is_lazy; stage = stages.Begins is_parent } }
+        ensures { result ≡ record {
+          name = name;
+          turns = pieces.most;
+          is_lazy = is_lazy;
+          stage = stages.Begins is_parent;
+        } }
     {
         Importer {
             name,

@@ -25,7 +25,8 @@ use spec_core::{Spec, SpecKind};
 
 /// The file of the spec is to be read. A text that is no tree path names no file.
 fn read_file(p: &mut Importer, spec: Spec, file: Option<TreePath>) -> Result<Want, NoMemory>
-    ensures goes { IfOk result (Goes (λ inside. reads_file (within p.old inside) (again p.old inside) p.old.name spec file) p.new) }
+    ensures goes { IfOk result (Goes (λ inside. reads_file (within p.old inside)
+        (again p.old inside) p.old.name spec file) p.new) }
 {
     match file {
         Some(file) => {
@@ -38,7 +39,8 @@ fn read_file(p: &mut Importer, spec: Spec, file: Option<TreePath>) -> Result<Wan
 
 /// A spec was found.
 fn load(p: &mut Importer, found: Spec) -> Result<Want, NoMemory>
-    ensures goes { IfOk result (Goes (λ inside. loads (within p.old inside) (again p.old inside) p.old.name found found.kind) p.new) }
+    ensures goes { IfOk result (Goes (λ inside. loads (within p.old inside)
+        (again p.old inside) p.old.name found found.kind) p.new) }
 {
     let file = match &found.kind {
         SpecKind::Source { file } => path_of(file)?,
@@ -58,7 +60,8 @@ fn add_namespace(
     path: Items,
     portions: Texts,
 ) -> Result<Want, NoMemory>
-    ensures goes { IfOk result (Goes (λ inside. adds_namespace (again p.old inside) p.old.name epoch path portions) p.new) }
+    ensures goes { IfOk result (Goes (λ inside. adds_namespace
+        (again p.old inside) p.old.name epoch path portions) p.new) }
 {
     let name = p.name.copy()?;
     let text = Seq::new(name.alloc());
@@ -92,7 +95,8 @@ pub(crate) fn discover(
 
 /// The module of a file is made.
 fn add(p: &mut Importer, spec: Spec, text: Seq<u8>) -> Result<Want, NoMemory>
-    ensures goes { IfOk result (Goes (λ inside. adds (within p.old inside) (again p.old inside) p.old.name spec text) p.new) }
+    ensures goes { IfOk result (Goes (λ inside. adds (within p.old inside)
+        (again p.old inside) p.old.name spec text) p.new) }
 {
     let stage = Stage::Added(text.copy()?);
     Ok(wait_for(p, stage, Want::Call(Event::Add { spec, text })))
@@ -108,7 +112,8 @@ fn add_lazy(p: &mut Importer, spec: Spec, text: Seq<u8>) -> Want
 
 /// The module of a file is made, whose body runs now, or at its first use.
 fn make(p: &mut Importer, spec: Spec, text: Seq<u8>) -> Result<Want, NoMemory>
-    ensures goes { IfOk result (Goes (λ inside. makes (within p.old inside) (again p.old inside) p.old.name spec text) p.new) }
+    ensures goes { IfOk result (Goes (λ inside. makes (within p.old inside)
+        (again p.old inside) p.old.name spec text) p.new) }
 {
     if p.is_lazy {
         return Ok(add_lazy(p, spec, text));
@@ -118,7 +123,8 @@ fn make(p: &mut Importer, spec: Spec, text: Seq<u8>) -> Result<Want, NoMemory>
 
 /// The text of a file was read, if it is not too long for a source.
 fn has_text(p: &mut Importer, spec: Spec, text: Option<Seq<u8>>) -> Result<Want, NoMemory>
-    ensures goes { IfOk result (Goes (λ inside. has_text (within p.old inside) (again p.old inside) p.old.name spec text) p.new) }
+    ensures goes { IfOk result (Goes (λ inside. has_text (within p.old inside)
+        (again p.old inside) p.old.name spec text) p.new) }
 {
     match text {
         Some(text) => make(p, spec, text),

@@ -22,7 +22,8 @@ use spec_core::Dotted;
 
 /// The entry of the parent is read.
 fn read_entry(p: &mut Importer, epoch: u64, parent: Dotted) -> Result<Want, NoMemory>
-    ensures goes { IfOk result (Goes (λ inside. reads_path (within p.old inside) (found_on p.old epoch inside) p.old.name (Some parent)) p.new) }
+    ensures goes { IfOk result (Goes (λ inside. reads_path (within p.old inside)
+        (found_on p.old epoch inside) p.old.name (Some parent)) p.new) }
 {
     let entry = Want::Call(Event::TabGet(parent.copy()?));
     Ok(wait_for(p, Stage::ParentEntry { epoch, parent }, entry))
@@ -30,7 +31,8 @@ fn read_entry(p: &mut Importer, epoch: u64, parent: Dotted) -> Result<Want, NoMe
 
 /// The search path is read.
 fn read_search_path(p: &mut Importer, epoch: u64) -> Want
-    ensures goes { Goes (λ inside. reads_path (within p.old inside) (found_on p.old epoch inside) p.old.name None) p.new result }
+    ensures goes { Goes (λ inside. reads_path (within p.old inside)
+        (found_on p.old epoch inside) p.old.name None) p.new result }
 {
     wait_for(p, Stage::SearchPath(epoch), Want::Call(Event::PathGet))
 }
@@ -38,7 +40,8 @@ fn read_search_path(p: &mut Importer, epoch: u64) -> Want
 /// With the lock the path is read: for a name without a dot the search path, for any other that of the module
 /// which the cache has for its parent.
 pub(crate) fn locate(p: &mut Importer, epoch: u64) -> Result<Want, NoMemory>
-    ensures goes { IfOk result (Goes (λ inside. has_lock (within p.old inside) (again p.old inside) p.old.name epoch) p.new) }
+    ensures goes { IfOk result (Goes (λ inside. has_lock (within p.old inside)
+        (again p.old inside) p.old.name epoch) p.new) }
 {
     match parent_of(&p.name)? {
         Some(parent) => read_entry(p, epoch, parent),
@@ -68,7 +71,8 @@ pub(crate) fn on_search_path(p: &mut Importer, epoch: u64, reply: Reply) -> Resu
 
 /// The path of the module that stands in the parent's entry is wanted.
 fn read_path(p: &mut Importer, epoch: u64, parent: Dotted, module: ModRef) -> Want
-    ensures goes { Goes (λ inside. on_parent (within p.old inside) (found_on p.old epoch inside) p.old.name parent (slots.Module «module»)) p.new result }
+    ensures goes { Goes (λ inside. on_parent (within p.old inside) (found_on p.old epoch inside) p.old.name parent
+        (slots.Module «module»)) p.new result }
 {
     let path = Want::Path {
         module,
@@ -79,7 +83,8 @@ fn read_path(p: &mut Importer, epoch: u64, parent: Dotted, module: ModRef) -> Wa
 
 /// What stands in the parent's entry.
 fn on_parent(p: &mut Importer, epoch: u64, parent: Dotted, slot: Slot) -> Result<Want, NoMemory>
-    ensures goes { IfOk result (Goes (λ inside. on_parent (within p.old inside) (found_on p.old epoch inside) p.old.name parent slot) p.new) }
+    ensures goes { IfOk result (Goes (λ inside. on_parent (within p.old inside)
+        (found_on p.old epoch inside) p.old.name parent slot) p.new) }
 {
     match slot {
         Slot::Absent => give_back_lost(p, parent),
@@ -105,7 +110,8 @@ pub(crate) fn on_entry(
 
 /// The parent is a package where it has a path.
 fn on_path(p: &mut Importer, epoch: u64, parent: Dotted, path: Value) -> Result<Want, NoMemory>
-    ensures goes { IfOk result (Goes (does_at p.old (stages.ParentPath epoch parent) (ins.Ended (flows.Went path))) p.new) }
+    ensures goes { IfOk result (Goes (does_at p.old (stages.ParentPath epoch parent)
+        (ins.Ended (flows.Went path))) p.new) }
 {
     match path {
         Value::List(items) => find(p, epoch, items),

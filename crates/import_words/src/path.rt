@@ -46,7 +46,8 @@ pub(crate) fn path_of(list: &Option<Text>, entry: &Text) -> Result<Option<Texts>
 
 /// What stands before the last slash, and what stands after it.
 fn around_last_slash(script: &str) -> Option<(&str, &str)>
-    ensures { MatchOption result (All (λ b. (b == 47) ≡ false) script.now) (λ p. (script.now ≡ p.0.now ++ 47 ∷ p.1.now) × All (λ b. (b == 47) ≡ false) p.1.now) }
+    ensures { MatchOption result (All (λ b. (b == 47) ≡ false) script.now)
+        (λ p. (script.now ≡ p.0.now ++ 47 ∷ p.1.now) × All (λ b. (b == 47) ≡ false) p.1.now) }
 {
     script.rsplit_once('/')
 }

@@ -125,7 +125,8 @@ fn can_end(machine: &State, thread: u32) -> bool
 }
 
 fn can_set(machine: &State, mid: u32, value: &Value) -> bool
-    ensures { result ≡ (has_object machine.now mid && not (is_ns_path value.now) && names_modules machine.now.table value.now) }
+    ensures { result ≡ (has_object machine.now mid && not (is_ns_path value.now)
+        && names_modules machine.now.table value.now) }
 {
     has_object(machine, mid) && !is_ns_path(value) && names_modules(&machine.table, value)
 }
@@ -145,13 +146,16 @@ fn can_add_lazy(machine: &State, counts: &NameMap<u64>, thread: u32, spec: &Spec
 }
 
 fn can_keep(machine: &State, mid: u32, state: &NsState) -> bool
-    ensures { result ≡ (has_ns (slice_get machine.now.table.objects mid) && list_all (λ b. b) (map (names_modules machine.now.table) state.now.parent_path)) }
+    ensures { result ≡ (has_ns (slice_get machine.now.table.objects mid)
+        && list_all (λ b. b) (map (names_modules machine.now.table) state.now.parent_path)) }
 {
     has_ns(machine, mid) && all_name_modules(&machine.table, &state.parent_path)
 }
 
 fn can_reload(machine: &State, thread: u32, mid: u32, spec: &Spec, text: &Seq<u8>) -> bool
-    ensures { result ≡ (is_reloading machine.now thread mid None && has_name (slice_get machine.now.table.objects mid) spec.now.name && has_text spec.now.kind text.now) }
+    ensures { result ≡ (is_reloading machine.now thread mid None
+        && has_name (slice_get machine.now.table.objects mid) spec.now.name
+        && has_text spec.now.kind text.now) }
 {
     is_reloading(machine, thread, mid, None)
         && has_name(machine, mid, &spec.name)

@@ -36,8 +36,10 @@ fn bind(
     entry: &Slot,
     parent: &Dotted,
 ) -> Result<Reply, NoMemory>
-    ensures reply { IfOk result (λ reply. reply ≡ (bind_under machine.old name.now entry.now (maps.get machine.old.table.cache parent.now)).0) }
-    ensures ok { OnOk result (machine.new ≡ (bind_under machine.old name.now entry.now (maps.get machine.old.table.cache parent.now)).1) }
+    ensures reply { IfOk result (λ reply. reply ≡ (bind_under machine.old name.now entry.now
+        (maps.get machine.old.table.cache parent.now)).0) }
+    ensures ok { OnOk result (machine.new ≡ (bind_under machine.old name.now entry.now
+        (maps.get machine.old.table.cache parent.now)).1) }
     ensures err { OnErr result (machine.new ≡ machine.old) }
 {
     let kept = entry.copy()?;
@@ -95,8 +97,10 @@ fn end_good(
 }
 
 fn good_entry(machine: &mut State, kind: LoadKind, name: &Dotted) -> Result<Reply, NoMemory>
-    ensures reply { IfOk result (λ reply. reply ≡ (good_entry machine.old kind name.now (maps.get machine.old.table.cache name.now)).0) }
-    ensures ok { OnOk result (machine.new ≡ (good_entry machine.old kind name.now (maps.get machine.old.table.cache name.now)).1) }
+    ensures reply { IfOk result (λ reply. reply ≡ (good_entry machine.old kind name.now
+        (maps.get machine.old.table.cache name.now)).0) }
+    ensures ok { OnOk result (machine.new ≡ (good_entry machine.old kind name.now
+        (maps.get machine.old.table.cache name.now)).1) }
     ensures err { OnErr result (machine.new ≡ machine.old) }
 {
     let entry = entry_copy(machine, name)?;

@@ -14,7 +14,8 @@ use spec_core::Dotted;
 
 /// The numbers of the next load and the next object.
 pub fn add_reply(machine: &State) -> Result<Reply, NoMemory>
-    ensures { IfOk result (λ reply. reply ≡ replies.Load (length machine.now.table.loads) (length machine.now.table.objects)) }
+    ensures { IfOk result (λ reply. reply ≡ replies.Load (length machine.now.table.loads)
+        (length machine.now.table.objects)) }
 {
     let Ok(load) = u32::try_from(machine.table.loads()) else {
         return Err(NoMemory);
@@ -39,7 +40,8 @@ fn bind_reply(machine: &State, name: &Dotted, entry: Slot) -> Result<Reply, NoMe
 }
 
 fn good_reply(machine: &State, kind: LoadKind, name: &Dotted) -> Result<Reply, NoMemory>
-    ensures { IfOk result (λ reply. reply ≡ (good_entry machine.now kind name.now (maps.get machine.now.table.cache name.now)).0) }
+    ensures { IfOk result (λ reply. reply ≡ (good_entry machine.now kind name.now
+        (maps.get machine.now.table.cache name.now)).0) }
 {
     let entry = entry_copy(machine, name)?;
     match kind {

@@ -80,7 +80,8 @@ fn take(locks: &mut Locks, thread: u32, name: &Dotted) -> Result<Took, NoMemory>
 /// Takes the lock, which is answered so, or waits for it, or answers that this would close a cycle.
 pub fn take_or(locks: &mut Locks, thread: u32, name: Dotted, mine: Reply) -> Result<Reply, NoMemory>
     requires waits { maps.get locks.old.waits thread ≡ None }
-    ensures reply { IfOk result (λ reply. reply ≡ (if is_free locks.old thread name then mine else wait_reply locks.old thread name Deadlock)) }
+    ensures reply { IfOk result
+        (λ reply. reply ≡ (if is_free locks.old thread name then mine else wait_reply locks.old thread name Deadlock)) }
     ensures ok { OnOk result (locks.new ≡ after_take locks.old thread name) }
     ensures err { OnErr result (locks.new ≡ locks.old) }
 {

@@ -1,8 +1,7 @@
 -- PathGet, PathAdd, DirGet, DirSet, Invalidate, NsGet and NsSet: what is kept for the search.
-use Rattle.std.specs.Prelude.{ℕ, ℤ, codes, Bool, List, ◌++◌, Option, Some, None, length, slice_get, nat_lt, nat_eq, ◌+◌, if◌then◌else◌}
-use Rattle.std.specs.List.{list_any}
-use Rattle.std.specs.Cmp.Lexicographic.{pointwise}
+use Rattle.std.specs.Prelude.{ℕ, ℤ, codes, List, ◌++◌, Option, Some, None, length, slice_get, nat_lt, ◌+◌, if◌then◌else◌}
 use Rattle.std.specs.FinMap.{get, insert, empty}
+use Rattle.kept_listing.specs.Names.{has_part}
 use Rattle.base_types.specs.declared.path.Listing.{Listing}
 use Rattle.py_value.specs.declared.value.NsState.{NsState}
 use Rattle.py_value.specs.declared.value.Value.{Value}
@@ -21,9 +20,6 @@ path_add s at v = (
   (if nat_lt (length s.table.path) 4096 then replies.Done else replies.Full),
   record s { table = path_added s.table at v },
 )
-
-abbrev pub has_part : List (List ℕ) → List ℕ → Bool
-has_part names part = list_any (λ name. pointwise nat_eq name part) names
 
 -- the time of the listing, whether the part is in it, and whether the part with `.py` is
 abbrev pub listing_reply : List ℕ → Option Listing → Reply

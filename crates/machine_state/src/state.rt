@@ -1,5 +1,6 @@
 //! The state.
-use base_types::{Listing, Seq};
+use base_types::Seq;
+use kept_listing::KeptListing;
 use module_lock::Locks;
 use module_table::Table;
 use spec_core::PathMap;
@@ -10,6 +11,6 @@ use spec_core::PathMap;
 pub struct State {
     pub table: Table,
     pub locks: Locks,
-    pub listings: PathMap<Listing>,
+    pub listings: PathMap<KeptListing>,
     pub rounds: Seq<u32>,
 }

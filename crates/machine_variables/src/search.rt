@@ -1,9 +1,10 @@
 //! PathGet, PathAdd, DirGet, DirSet, Invalidate, NsGet and NsSet.
 ghost use Rattle.std.specs.Prelude.{◌≡◌, ◌<◌, false, IfOk, OnOk, OnErr, ℤ, Option};
-ghost use Rattle.machine_state.specs.Search.{path_get, path_add, has_part, dir_get, dir_set, invalidate, ns_get, ns_set};
+ghost use Rattle.machine_state.specs.Search.{path_get, path_add, dir_get, dir_set, invalidate, ns_get, ns_set};
 ghost use Rattle.py_value.specs.declared.value.Value.{Value};
 
-use base_types::{Exact, Listing, NoMemory, Text, Texts, TreePath};
+use base_types::{Exact, Listing, NoMemory, Text, TreePath};
+use kept_listing::KeptListing;
 use machine_events::Reply;
 use machine_state::State;
 use py_value::{NsState, Value};
@@ -38,11 +39,7 @@ pub fn dir_get(machine: &State, dir: &TreePath, part: &Text) -> Result<Reply, No
     };
     let mut file = part.copy()?;
     file.push_str(".py")?;
-    Ok(Reply::Listing(
-        listing.time,
-        has_part(&listing.names, part),
-        has_part(&listing.names, &file),
-    ))
+    Ok(Reply::Listing(listing.time(), listing.has(part), listing.has(&file)))
 }
 
 /// DirSet: a listing is kept. An `Err` changes nothing.
@@ -51,7 +48,7 @@ pub fn dir_set(machine: &mut State, dir: TreePath, listing: Listing) -> Result<R
     ensures ok { OnOk result (machine.new ≡ (dir_set machine.old dir listing).1) }
     ensures err { OnErr result (machine.new ≡ machine.old) }
 {
-    machine.listings.insert(dir, listing)?;
+    machine.listings.insert(dir, KeptListing::new(listing))?;
     Ok(Reply::Done)
 }
 
@@ -89,17 +86,6 @@ pub fn ns_set(machine: &mut State, mid: u32, state: NsState) -> Reply
 {
     machine.table.set_ns(mid, state);
     Reply::Done
-}
-
-fn has_part(names: &Texts, part: &Text) -> bool
-    ensures { result ≡ has_part names.now part.now }
-{
-    for name in names.as_slice() {
-        if *name == *part {
-            return true;
-        }
-    }
-    false
 }
 
 /// What PathAdd would be answered.

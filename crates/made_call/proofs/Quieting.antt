@@ -6,16 +6,18 @@ use Rattle.machine_events.specs.declared.event.Entry.{Entry}
 use Rattle.machine_book.specs.declared.outlet.Flow.{Flow}
 use Rattle.machine_book.specs.declared.outlet.Flow.TheVariants.{Open, Failed, Short}
 use Rattle.import_words.specs.declared.plan.RunPlan.{RunPlan}
-use Rattle.program_call.specs.Alone.{Means, whole as run_whole, part as run_part}
+use Rattle.program_call.specs.Alone.{Means, setting, whole as run_whole, part as run_part}
 use Rattle.program_call.specs.Prints.{out_text}
 use Rattle.program_call.specs.Counts.{reads_of}
 use Rattle.program_call.specs.Ends.{status_of}
-use Rattle.program_call.specs.Runs.{RunOver, Gives}
+use Rattle.program_call.specs.Runs.{finished, RunOver, Gives}
 use Rattle.program_call.specs.Sinks.{At, Moment, Gets, status_by}
+use Rattle.program_call.specs.Statuses.{sink_fault, want_of_memory}
+use Rattle.program_call.specs.declared.report.Left.{Left}
 use Rattle.program_call.specs.Together.{AllAct, whole as acts_whole, part as acts_part}
 use Rattle.workload.specs.Generator.{made_files, script_name, file_of, script_files}
 use Rattle.made_tree.specs.Scripts.{text_at, script_texts}
-use Rattle.made_call.specs.MadeRuns.{made_plan, made_summary, MadeRun, MadeGives, Quiet, QuietGives, sinks, status_after, Summed}
+use Rattle.made_call.specs.MadeRuns.{workload_of, made_plan, made_summary, MadeRun, MadeGives, Quiet, QuietGives, sinks, status_after, Summed}
 
 no_rise : Rose 0 0 → ⊥
 no_rise h = omega (arith, h)
@@ -45,79 +47,79 @@ abbrev nothing : At
 nothing = record { written = None; faults = 0 }
 
 -- and a tree that never fails
-abbrev quiet_at : ℕ → At → Moment
-quiet_at lists err = record { faults = 0; lists = lists; out = nothing; err = err }
+abbrev quiet_at : Option Files → ℕ → At → Moment
+quiet_at files lists err = record { files = files; faults = 0; lists = lists; out = nothing; err = err }
 
 -- a sink that fails never is open, or memory was wanting
-by_flow : (out err : Flow) (text : List ℕ) (good status : ℕ) → Gets nothing text nothing out → status ≡ status_by good 5 out err → (status ≡ 6) ⊎ (status ≡ status_by good 5 Open err)
+by_flow : (out err : Flow) (text : List ℕ) (good status : ℕ) → Gets nothing text nothing out → status ≡ status_by good sink_fault out err → (status ≡ want_of_memory) ⊎ (status ≡ status_by good sink_fault Open err)
 by_flow Open err text good status gets is = inr is
 by_flow Failed err text good status gets is = absurd (no_rise gets.1)
 by_flow Short err text good status gets is = inl is
 
-quiet_made : (means : Means) (seed modules scripts lists_old lists_new : ℕ) (old new : At) (history : Option (List Entry)) (status : ℕ)
-    → Gives means (made_plan (script_files scripts)) (script_texts seed modules scripts) (Some (made_files seed modules scripts)) (quiet_at lists_old old) (quiet_at lists_new new) history status
-    → QuietGives means seed modules scripts old new history status
-quiet_made means seed modules scripts lists_old lists_new old new None status gives = (gives.0, ap (λ m. m.err) gives.1)
-quiet_made means seed modules scripts lists_old lists_new old new (Some history) status gives = record {
+quiet_made : (means : Means) (seed modules scripts : ℕ) (after : Option Files) (lists_old lists_new : ℕ) (old new : At) (history : Option (List Entry)) (status : ℕ)
+    → Gives means (made_plan (script_files scripts)) (script_texts seed modules scripts) (quiet_at (Some (made_files seed modules scripts)) lists_old old) (quiet_at after lists_new new) (record { status = status; history = history })
+    → QuietGives means (workload_of seed modules scripts) old new (record { status = status; history = history })
+quiet_made means seed modules scripts after lists_old lists_new old new None status gives = (gives.0, ap (λ m. m.err) gives.1)
+quiet_made means seed modules scripts after lists_old lists_new old new (Some history) status gives = record {
   legal = gives.legal;
   runs = gives.runs;
   reads = subst (λ n. reads_of n history ≡ 0) (files_length scripts) (none_read (reads_of (length (script_files scripts)) history) gives.reads);
   flow = gives.leaves.err_flow;
   gets = gives.leaves.err_gets;
-  is = subst (λ n. (status ≡ 6) ⊎ (status ≡ status_by (status_of n history) 5 Open gives.leaves.err_flow)) (files_length scripts) (
+  is = subst (λ n. (status ≡ want_of_memory) ⊎ (status ≡ status_by (status_of n history) sink_fault Open gives.leaves.err_flow)) (files_length scripts) (
       by_flow gives.leaves.out_flow gives.leaves.err_flow (out_text false history) (status_of (length (script_files scripts)) history) status gives.leaves.out_gets gives.leaves.is);
 }
 
 -- what a run of made scripts leaves, with a sink that keeps nothing
-pub quiet : (means : Means) (seed modules scripts : ℕ) (plan : RunPlan) (texts : List (List ℕ)) (tree : Option Files) (lists_old lists_new : ℕ) (old new : At) (history : Option (List Entry)) (status : ℕ)
+pub quiet : (means : Means) (seed modules scripts : ℕ) (plan : RunPlan) (texts : List (List ℕ)) (tree after : Option Files) (lists_old lists_new : ℕ) (old new : At) (left : Left)
     → plan ≡ made_plan (script_files scripts) → texts ≡ script_texts seed modules scripts → tree ≡ Some (made_files seed modules scripts)
-    → Gives means plan texts tree (quiet_at lists_old old) (quiet_at lists_new new) history status
-    → QuietGives means seed modules scripts old new history status
-quiet means seed modules scripts plan texts tree lists_old lists_new old new history status p t f gives =
-    quiet_made means seed modules scripts lists_old lists_new old new history status (
-    subst (λ it. Gives means (made_plan (script_files scripts)) (script_texts seed modules scripts) it (quiet_at lists_old old) (quiet_at lists_new new) history status) f (
-    subst (λ it. Gives means (made_plan (script_files scripts)) it tree (quiet_at lists_old old) (quiet_at lists_new new) history status) t (
-    subst (λ it. Gives means it texts tree (quiet_at lists_old old) (quiet_at lists_new new) history status) p gives)))
+    → Gives means plan texts (quiet_at tree lists_old old) (quiet_at after lists_new new) left
+    → QuietGives means (workload_of seed modules scripts) old new left
+quiet means seed modules scripts plan texts tree after lists_old lists_new old new left p t f gives =
+    quiet_made means seed modules scripts after lists_old lists_new old new left.history left.status (
+    subst (λ it. Gives means (made_plan (script_files scripts)) (script_texts seed modules scripts) (quiet_at it lists_old old) (quiet_at after lists_new new) left) f (
+    subst (λ it. Gives means (made_plan (script_files scripts)) it (quiet_at tree lists_old old) (quiet_at after lists_new new) left) t (
+    subst (λ it. Gives means it texts (quiet_at tree lists_old old) (quiet_at after lists_new new) left) p gives)))
 
-acts_more : (means : Means) (files : Files) (t : ℕ) (texts : List (List ℕ)) (fuel : ℕ) (history : List Entry) (status later : ℕ) → (status ≡ 6 → later ≡ 6)
-    → AllAct means files t texts fuel 0 0 history status → AllAct means files t texts fuel 0 0 history later
+acts_more : (means : Means) (files : Files) (t : ℕ) (texts : List (List ℕ)) (fuel : ℕ) (history : List Entry) (status later : ℕ) → (status ≡ want_of_memory → later ≡ want_of_memory)
+    → AllAct means (setting files fuel 0 0 status) t texts history → AllAct means (setting files fuel 0 0 later) t texts history
 acts_more means files t [] fuel history status later more acts = acts
 acts_more means files t (text ∷ texts) fuel history status later more acts = (
   elim acts.0 [
     | acts_whole outcome follows ↦ acts_whole outcome follows
-    | acts_part six broken ↦ acts_part (more six) broken
+    | acts_part wanting broken ↦ acts_part (more wanting) broken
   ],
   acts_more means files (suc t) texts fuel history status later more acts.1,
 )
 
 -- what scripts mean has to do with the status at want of memory alone
-over_more : (means : Means) (files : Files) (plan : RunPlan) (texts : List (List ℕ)) (history : List Entry) (status later : ℕ) → (status ≡ 6 → later ≡ 6)
-    → RunOver means files plan texts 0 0 history status → RunOver means files plan texts 0 0 history later
+over_more : (means : Means) (files : Files) (plan : RunPlan) (texts : List (List ℕ)) (history : List Entry) (status later : ℕ) → (status ≡ want_of_memory → later ≡ want_of_memory)
+    → RunOver means (setting files plan.fuel 0 0 status) plan texts history → RunOver means (setting files plan.fuel 0 0 later) plan texts history
 over_more means files plan [] history status later more over = over
 over_more means files plan (text ∷ []) history status later more over = elim over [
   | run_whole stop is cause ↦ run_whole stop is cause
-  | run_part stop rest six is cause ↦ run_part stop rest (more six) is cause
+  | run_part stop rest wanting is cause ↦ run_part stop rest (more wanting) is cause
 ]
 over_more means files plan (text ∷ next ∷ texts) history status later more over = acts_more means files 0 (text ∷ next ∷ texts) plan.fuel history status later more over
 
-both : (out err : Flow) (good status later : ℕ) → (status ≡ 6) ⊎ (status ≡ status_by good 5 Open err) → later ≡ status_after status out → (status ≡ 6 → out ≡ Short) → later ≡ status_by good 5 out err
+both : (out err : Flow) (good status later : ℕ) → (status ≡ want_of_memory) ⊎ (status ≡ status_by good sink_fault Open err) → later ≡ status_after status out → (status ≡ want_of_memory → out ≡ Short) → later ≡ status_by good sink_fault out err
 both Short err good status later is after short = after
-both Open err good status later (inl six) after short = let no : Open ≡ Short = short six in cc
+both Open err good status later (inl wanting) after short = let no : Open ≡ Short = short wanting in cc
 both Open err good status later (inr is) after short = after ∙ is
-both Failed err good status later (inl six) after short = let no : Failed ≡ Short = short six in cc
+both Failed err good status later (inl wanting) after short = let no : Failed ≡ Short = short wanting in cc
 both Failed Open good status later (inr is) after short = after
 both Failed Failed good status later (inr is) after short = after
 both Failed Short good status later (inr is) after short = let no : Failed ≡ Short = short is in cc
 
 -- the run, and then the line about it
 pub summed : (means : Means) (seed modules scripts : ℕ) (out_old out_new err_old err_new : At) (history : List Entry) (status later : ℕ) (out : Flow)
-    → Quiet means seed modules scripts err_old err_new history status → Gets out_old (made_summary modules scripts history) out_new out
-    → later ≡ status_after status out → (status ≡ 6 → out ≡ Short)
-    → MadeRun means seed modules scripts (sinks out_old err_old) (sinks out_new err_new) history later
+    → Quiet means (workload_of seed modules scripts) err_old err_new (finished history status) → Gets out_old (made_summary modules scripts history) out_new out
+    → later ≡ status_after status out → (status ≡ want_of_memory → out ≡ Short)
+    → MadeRun means (workload_of seed modules scripts) (sinks out_old err_old) (sinks out_new err_new) (finished history later)
 summed means seed modules scripts out_old out_new err_old err_new history status later out run gets after short = record {
   legal = run.legal;
   runs = over_more means (made_files seed modules scripts) (made_plan (script_files scripts)) (script_texts seed modules scripts) history status later (
-      λ six. after ∙ ap (status_after status) (short six)) run.runs;
+      λ wanting. after ∙ ap (status_after status) (short wanting)) run.runs;
   reads = run.reads;
   leaves = record {
     out_flow = out;
@@ -129,17 +131,17 @@ summed means seed modules scripts out_old out_new err_old err_new history status
 }
 
 -- the whole call: nothing but the want of memory, or the run and the line about it
-pub made : (means : Means) (seed modules scripts : ℕ) (out_old out_new err_old err_new : At) (before after : Option (List Entry)) (status later : ℕ)
-    → QuietGives means seed modules scripts err_old err_new before status → after ≡ before
-    → IfSome before (λ history. Summed modules scripts out_old out_new history status later)
-    → IfNone before ((later ≡ status) × (out_new ≡ out_old))
-    → MadeGives means seed modules scripts (sinks out_old err_old) (sinks out_new err_new) after later
-made means seed modules scripts out_old out_new err_old err_new before after status later run same told unbegun =
-    subst (λ it. MadeGives means seed modules scripts (sinks out_old err_old) (sinks out_new err_new) it later) (sym same) (by_history before run told unbegun) where
-      by_history : (history : Option (List Entry)) → QuietGives means seed modules scripts err_old err_new history status
-          → IfSome history (λ it. Summed modules scripts out_old out_new it status later)
-          → IfNone history ((later ≡ status) × (out_new ≡ out_old))
-          → MadeGives means seed modules scripts (sinks out_old err_old) (sinks out_new err_new) history later
+pub made : (means : Means) (seed modules scripts : ℕ) (out_old out_new err_old err_new : At) (before after : Left)
+    → QuietGives means (workload_of seed modules scripts) err_old err_new before → after.history ≡ before.history
+    → IfSome before.history (λ history. Summed modules scripts out_old out_new (finished history before.status) after.status)
+    → IfNone before.history ((after.status ≡ before.status) × (out_new ≡ out_old))
+    → MadeGives means (workload_of seed modules scripts) (sinks out_old err_old) (sinks out_new err_new) after
+made means seed modules scripts out_old out_new err_old err_new before after run same told unbegun =
+    subst (λ it. MadeGives means (workload_of seed modules scripts) (sinks out_old err_old) (sinks out_new err_new) (record { status = after.status; history = it })) (sym same) (by_history before.history run told unbegun) where
+      by_history : (history : Option (List Entry)) → QuietGives means (workload_of seed modules scripts) err_old err_new (record { status = before.status; history = history })
+          → IfSome history (λ it. Summed modules scripts out_old out_new (finished it before.status) after.status)
+          → IfNone history ((after.status ≡ before.status) × (out_new ≡ out_old))
+          → MadeGives means (workload_of seed modules scripts) (sinks out_old err_old) (sinks out_new err_new) (record { status = after.status; history = history })
       by_history None run told unbegun = (unbegun.0 ∙ run.0, ap (λ out. sinks out err_new) unbegun.1 ∙ ap (sinks out_old) run.1)
       by_history (Some history) run told unbegun =
-          summed means seed modules scripts out_old out_new err_old err_new history status later told.0 run told.1 told.2 told.3
+          summed means seed modules scripts out_old out_new err_old err_new history before.status after.status told.0 run told.1 told.2 told.3

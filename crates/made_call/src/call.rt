@@ -1,13 +1,15 @@
 //! The call.
 ghost use Rattle.std.specs.Prelude.{◌≡◌, ◌≤◌, None, IfSome, IfNone};
+ghost use Rattle.program_call.specs.Runs.{finished};
 ghost use Rattle.program_call.specs.Sinks.{at};
-ghost use Rattle.made_call.specs.MadeRuns.{QuietGives, MadeGives, sinks, Summed};
+ghost use Rattle.program_call.specs.Statuses.{tree_fault, want_of_memory};
+ghost use Rattle.made_call.specs.MadeRuns.{QuietGives, MadeGives, sinks, Summed, workload_of};
 
 use crate::no_out::NoOut;
 use crate::ready::{Ready, make_ready};
-use crate::summing::{SHORT, sum_up};
+use crate::summing::sum_up;
 use made_tree::MadeTree;
-use program_call::{Left, Scripts, run_scripts};
+use program_call::{Left, Scripts, WANT_OF_MEMORY, run_scripts};
 use round_run::Gate;
 use std::alloc::Global;
 use std::sync::Wait;
@@ -15,10 +17,10 @@ use std::thread::Threads;
 use tree_files::Sink;
 
 fn unbegun() -> Left
-    ensures { result ≡ record { status = 6; history = None } }
+    ensures { result ≡ record { status = want_of_memory; history = None } }
 {
     Left {
-        status: SHORT,
+        status: WANT_OF_MEMORY,
         history: None,
     }
 }
@@ -35,8 +37,8 @@ fn run_quiet<S: Scripts + Send, R: Threads + Wait + Sync, K: Sink, G: Gate + Syn
 ) -> Left
     requires modules { 1 ≤ modules }
     requires scripts { (1 ≤ scripts) × (scripts ≤ 16) }
-    ensures run { QuietGives S.means seed modules scripts
-        (at K.written K.faults err.old) (at K.written K.faults err.new) result.history result.status }
+    ensures run { QuietGives S.means (workload_of seed modules scripts)
+        (at K.written K.faults err.old) (at K.written K.faults err.new) result }
     ensures err_faults { K.faults err.old ≤ K.faults err.new }
 {
     let Ok(it) = make_ready(alloc, seed, modules, scripts) else {
@@ -57,7 +59,7 @@ fn run_quiet<S: Scripts + Send, R: Threads + Wait + Sync, K: Sink, G: Gate + Syn
 fn with_line<K: Sink>(alloc: Global, out: &mut K, modules: u32, scripts: u32, ran: Left) -> Left
     ensures history { result.history ≡ ran.history }
     ensures told { IfSome ran.history (λ history. Summed modules scripts
-        (at K.written K.faults out.old) (at K.written K.faults out.new) history ran.status result.status) }
+        (at K.written K.faults out.old) (at K.written K.faults out.new) (finished history ran.status) result.status) }
     ensures unbegun { IfNone ran.history ((result.status ≡ ran.status)
         × (at K.written K.faults out.new ≡ at K.written K.faults out.old)) }
     ensures faults_grow { K.faults out.old ≤ K.faults out.new }
@@ -90,11 +92,10 @@ pub fn call_made<S: Scripts + Send, R: Threads + Wait + Sync, K: Sink, G: Gate +
 ) -> Left
     requires modules { 1 ≤ modules }
     requires scripts { (1 ≤ scripts) × (scripts ≤ 16) }
-    ensures run { MadeGives S.means seed modules scripts
+    ensures run { MadeGives S.means (workload_of seed modules scripts)
         (sinks (at K.written K.faults out.old) (at K.written K.faults err.old))
-        (sinks (at K.written K.faults out.new) (at K.written K.faults err.new))
-        result.history result.status }
-    ensures no_file_fault { result.status ≡ 4 → ⊥ }
+        (sinks (at K.written K.faults out.new) (at K.written K.faults err.new)) result }
+    ensures no_file_fault { result.status ≡ tree_fault → ⊥ }
     ensures out_faults { K.faults out.old ≤ K.faults out.new }
     ensures err_faults { K.faults err.old ≤ K.faults err.new }
 {

@@ -1,21 +1,16 @@
 //! The line about a run.
 ghost use Rattle.std.specs.Prelude.{◌≡◌, ◌≤◌};
+ghost use Rattle.program_call.specs.Runs.{finished};
 ghost use Rattle.program_call.specs.Sinks.{at};
 ghost use Rattle.made_call.specs.MadeRuns.{status_after, Summed};
 
 use crate::worst::worst_in;
 use machine_book::Flow;
 use machine_events::Entry;
-use program_call::say_line;
+use program_call::{SINK_FAULT, WANT_OF_MEMORY, say_line};
 use run_summary::write_summary;
 use std::alloc::Global;
 use tree_files::Sink;
-
-/// The status for want of memory.
-pub(crate) const SHORT: u8 = 6;
-
-/// The status where a sink failed.
-const SINK_FAILED: u8 = 5;
 
 /// The status of a run, by what became of the line about it.
 fn status_after(status: u8, flow: Flow) -> u8
@@ -23,8 +18,8 @@ fn status_after(status: u8, flow: Flow) -> u8
 {
     match flow {
         Flow::Open => status,
-        Flow::Failed => SINK_FAILED,
-        Flow::Short => SHORT,
+        Flow::Failed => SINK_FAULT,
+        Flow::Short => WANT_OF_MEMORY,
     }
 }
 
@@ -38,11 +33,11 @@ pub(crate) fn sum_up<K: Sink>(
     status: u8,
 ) -> u8
     ensures told { Summed modules scripts (at K.written K.faults out.old)
-        (at K.written K.faults out.new) history.now status result }
+        (at K.written K.faults out.new) (finished history.now status) result }
     ensures faults_grow { K.faults out.old ≤ K.faults out.new }
 {
-    if status == SHORT {
-        return SHORT;
+    if status == WANT_OF_MEMORY {
+        return WANT_OF_MEMORY;
     }
     let line = write_summary(alloc, modules, scripts, history, worst_in(history, scripts));
     status_after(status, say_line(out, line))

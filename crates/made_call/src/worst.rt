@@ -6,15 +6,16 @@ ghost use Rattle.program_call.specs.Ends.{end_in, end_of, number_of, number_at, 
 ghost use Rattle.made_call.specs.Worst.{number_behind};
 
 use machine_events::{Entry, Event, Outcome};
+use program_call::{ERROR_END, NORMAL_END, SPENT_BUDGET, TREE_FAULT};
 
 fn number_of(outcome: &Outcome) -> u8
     ensures number { result ≡ number_of outcome.now }
 {
     match outcome {
-        Outcome::Normal => 0,
-        Outcome::Raised(_) => 1,
-        Outcome::Fuel => 3,
-        Outcome::Read => 4,
+        Outcome::Normal => NORMAL_END,
+        Outcome::Raised(_) => ERROR_END,
+        Outcome::Fuel => SPENT_BUDGET,
+        Outcome::Read => TREE_FAULT,
     }
 }
 
@@ -45,7 +46,7 @@ fn number_behind(number: u8, entry: &Entry, script: u32) -> u8
 fn number_at(history: &[Entry], script: u32) -> u8
     ensures { result ≡ number_at (end_of (own script history.now)) }
 {
-    let mut number = 0;
+    let mut number = NORMAL_END;
     for entry in history {
         number = number_behind(number, entry, script);
     }
@@ -56,7 +57,7 @@ fn number_at(history: &[Entry], script: u32) -> u8
 pub(crate) fn worst_in(history: &[Entry], scripts: u32) -> u8
     ensures { result ≡ status_of scripts history.now }
 {
-    let mut worst = 0;
+    let mut worst = NORMAL_END;
     for script in 0..scripts {
         worst = number_at(history, script).max(worst);
     }

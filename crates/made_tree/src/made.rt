@@ -23,7 +23,8 @@ pub fn make_scripts(
     scripts: u32,
 ) -> Result<MadeScripts, NoMemory>
     requires { 1 ≤ modules }
-    ensures files { IfOk result (λ made. ⟦<MadeTree as Tree>⟧.files made.tree ≡ Some (made_files seed modules scripts)) }
+    ensures files { IfOk result (λ made. ⟦<MadeTree as Tree>⟧.files made.tree
+        ≡ Some (made_files seed modules scripts)) }
     ensures lists { IfOk result (λ made. ⟦<MadeTree as Tree>⟧.lists made.tree ≡ 0) }
     ensures scripts { IfOk result (λ made. made.scripts ≡ script_files scripts) }
 {

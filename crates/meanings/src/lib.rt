@@ -11,10 +11,12 @@ ghost use Rattle.meanings.specs.Follows.{BudgetLaw};
 
 /// A smaller budget makes the events of a greater one, up to the first payment that it cannot make.
 pub fn budget_law()
-    ensures { (files : Files) (t : ℕ) (run : Run) (k fuel : ℕ) (replies : List Reply) → k ≤ fuel → BudgetLaw files t run k fuel replies }
+    ensures { (files : Files) (t : ℕ) (run : Run) (k fuel : ℕ) (replies : List Reply) → k ≤ fuel
+        → BudgetLaw files t run k fuel replies }
 {}
 
 /// What a tree lists of a directory is the answer that its files tell.
 pub fn listing_is_told()
-    ensures { (files : Files) (dir : Path) (names : List (List ℕ)) → IsListing files dir names → IsTold (Some files) (NamesOf dir) names }
+    ensures { (files : Files) (dir : Path) (names : List (List ℕ)) → IsListing files dir names
+        → IsTold (Some files) (NamesOf dir) names }
 {}

@@ -51,7 +51,8 @@ fn leads_back<L: Ledger>(
     lock: Option<Lock>,
     steps: &mut Steps<L>,
 ) -> bool
-    ensures answer { result ≡ leads_to (record { locks = locks.now; waits = waits.now }) thread (map.len waits.now) (option_map (λ lock. lock.owner) lock) }
+    ensures answer { result ≡ leads_to (record { locks = locks.now; waits = waits.now }) thread (map.len waits.now)
+        (option_map (λ lock. lock.owner) lock) }
     ensures cost { steps.new ≤ steps.old + map.len waits.now }
 {
     let mut at = lock;
@@ -122,7 +123,8 @@ fn queue_first(
 ) -> Result<(), NoMemory>
     requires { map.get waits.old thread ≡ None }
     ensures waits { OnOk result (waits.new ≡ map.insert waits.old thread name) }
-    ensures queues { OnOk result (queues.new ≡ map.insert queues.old name (waiters_in (map.entries (map.insert waits.old thread name)) name)) }
+    ensures queues { OnOk result (queues.new ≡ map.insert queues.old name
+        (waiters_in (map.entries (map.insert waits.old thread name)) name)) }
     ensures same_waits { OnErr result (waits.new ≡ waits.old) }
     ensures same_queues { OnErr result (queues.new ≡ queues.old) }
 {
@@ -147,7 +149,9 @@ fn queue_again(
 ) -> Result<(), NoMemory>
     requires { map.get waits.old thread ≡ Some prior }
     ensures waits { OnOk result (waits.new ≡ map.insert waits.old thread name) }
-    ensures queues { OnOk result (queues.new ≡ tidied (shortened (map.insert queues.old name (waiters_in (map.entries (map.insert waits.old thread name)) name)) prior thread) prior) }
+    ensures queues { OnOk result (queues.new ≡ tidied (shortened
+        (map.insert queues.old name (waiters_in (map.entries (map.insert waits.old thread name)) name))
+        prior thread) prior) }
     ensures same_waits { OnErr result (waits.new ≡ waits.old) }
     ensures same_queues { OnErr result (queues.new ≡ queues.old) }
 {

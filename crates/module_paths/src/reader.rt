@@ -71,7 +71,11 @@ impl PathReader {
 
     /// The path of a namespace, whose `__path__` was read, by the number and the name of its module.
     pub fn replacing(mid: u32, name: Text) -> PathReader
-        ensures { result ≡ record { «module» = record { mid = mid; name = name; place = places.Namespace }; turns = pieces.most; stage = stages.Replaces } }
+        ensures { result ≡ record {
+          «module» = record { mid = mid; name = name; place = places.Namespace };
+          turns = pieces.most;
+          stage = stages.Replaces;
+        } }
     {
         let place = Place::Namespace;
         PathReader {

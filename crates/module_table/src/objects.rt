@@ -118,7 +118,8 @@ impl Objects {
     /// Takes a variable of a module away, and gives its value.
     pub fn remove_var(&mut self, at: u32, name: &Text) -> Option<Value>
         ensures before { result ≡ option_and_then (λ object. var_of object.vars name.now) (slice_get self.old at) }
-        ensures after { self.new ≡ changed (λ object. record object { vars = without_var object.vars name.now }) self.old at }
+        ensures after { self.new
+            ≡ changed (λ object. record object { vars = without_var object.vars name.now }) self.old at }
     {
         if (at as usize) < self.items.len() {
             self.items[at as usize].vars.remove(name)
@@ -129,7 +130,8 @@ impl Objects {
 
     /// Sets a variable of a module. An `Err` changes nothing.
     pub fn set_var(&mut self, at: u32, name: Text, value: Value) -> Result<(), NoMemory>
-        ensures ok { OnOk result (self.new ≡ changed (λ object. record object { vars = with_var object.vars name value }) self.old at) }
+        ensures ok { OnOk result
+            (self.new ≡ changed (λ object. record object { vars = with_var object.vars name value }) self.old at) }
         ensures err { OnErr result (self.new ≡ self.old) }
     {
         if (at as usize) < self.items.len() {

@@ -38,7 +38,8 @@ impl Table {
 
     /// The value of a module's variable.
     pub fn get(&self, mid: u32, name: &Text) -> Option<&Value>
-        ensures { option_copied result ≡ option_and_then (λ object. var_of object.vars name.now) (slice_get self.now.objects mid) }
+        ensures { option_copied result ≡ option_and_then (λ object. var_of object.vars name.now)
+            (slice_get self.now.objects mid) }
     {
         match self.objects.get(mid) {
             None => None,
@@ -49,7 +50,8 @@ impl Table {
     /// The names of a module's variables in order.
     pub fn names(&self, mid: u32) -> Result<Texts, NoMemory>
         requires { mid < length self.now.objects }
-        ensures { IfOk result (λ names. option_map (λ object. map (λ p. p.0) object.vars) (slice_get self.now.objects mid) ≡ Some names) }
+        ensures { IfOk result (λ names. option_map (λ object. map (λ p. p.0) object.vars)
+            (slice_get self.now.objects mid) ≡ Some names) }
     {
         self.objects.at(mid).vars.names()
     }

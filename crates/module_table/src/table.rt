@@ -208,7 +208,8 @@ impl Table {
 
     /// Takes a variable away, and gives its value. The others keep their places.
     pub fn del(&mut self, mid: u32, name: &Text) -> Option<Value>
-        ensures before { result ≡ option_and_then (λ object. var_of object.vars name.now) (slice_get self.old.objects mid) }
+        ensures before { result ≡ option_and_then (λ object. var_of object.vars name.now)
+            (slice_get self.old.objects mid) }
         ensures after { self.new ≡ with_deleted self.old mid name.now }
     {
         self.objects.remove_var(mid, name)
@@ -254,7 +255,8 @@ impl Table {
 
     /// A reload of the name begins. An `Err` changes nothing.
     pub fn reload_enter(&mut self, name: &Dotted, thread: u32, mid: u32) -> Result<(), NoMemory>
-        ensures ok { OnOk result (self.new ≡ with_reload self.old name.now (record { thread = thread; mid = mid; load = None })) }
+        ensures ok { OnOk result (self.new ≡ with_reload self.old name.now
+            (record { thread = thread; mid = mid; load = None })) }
         ensures err { OnErr result (self.new ≡ self.old) }
     {
         let reload = Reload {

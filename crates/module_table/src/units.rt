@@ -73,7 +73,8 @@ pub struct Restart {
 impl Table {
     /// What the module is to have when a reload starts it again under the spec.
     pub fn restart_of(&self, mid: u32, spec: &Spec) -> Result<Restart, NoMemory>
-        ensures { IfOk result (λ it. changed (restarted_with it.vars it.ns) self.now.objects mid ≡ changed (restarted_object spec.now) self.now.objects mid) }
+        ensures { IfOk result (λ it. changed (restarted_with it.vars it.ns) self.now.objects mid
+            ≡ changed (restarted_object spec.now) self.now.objects mid) }
     {
         let alloc = self.alloc();
         let vars = match self.object(mid) {
@@ -103,7 +104,9 @@ impl Table {
 
     /// The module starts again, and the reload of the name has this load. It takes no memory.
     pub fn restart(&mut self, mid: u32, restart: Restart, name: &Dotted, load: u32)
-        ensures { self.new ≡ record (with_reload_load self.old name.now load) { objects = changed (restarted_with restart.vars restart.ns) self.old.objects mid } }
+        ensures { self.new ≡ record (with_reload_load self.old name.now load) {
+          objects = changed (restarted_with restart.vars restart.ns) self.old.objects mid;
+        } }
     {
         let Restart { vars, ns } = restart;
         self.open_reload(name, load);
@@ -123,7 +126,8 @@ impl Table {
     }
 
     fn main_vars_of(&self, mid: u32, spec: &Spec) -> Result<Vars, NoMemory>
-        ensures { IfOk result (λ it. changed (λ object. record object { vars = it }) self.now.objects mid ≡ changed (λ object. record object { vars = main_vars spec.now object.vars }) self.now.objects mid) }
+        ensures { IfOk result (λ it. changed (λ object. record object { vars = it }) self.now.objects mid
+            ≡ changed (λ object. record object { vars = main_vars spec.now object.vars }) self.now.objects mid) }
     {
         let alloc = self.alloc();
         match self.object(mid) {

@@ -58,7 +58,8 @@ pub fn load_text<T: Tree>(
     requires { ForSome (T.files tree.old) (λ f. IsFileAt f file.now) }
     ensures loaded { IfSome (T.files tree.old) (λ f. IfOk result (λ text. text ≡ bytes_of (node_at f file.now))) }
     ensures fits { IfOk result (λ text. length text ≤ 1048576) }
-    ensures too_long { IfSome (T.files tree.old) (λ f. IsErrOf result LoadFault.TooLong → 1048576 < length (bytes_of (node_at f file.now))) }
+    ensures too_long { IfSome (T.files tree.old) (λ f. IsErrOf result LoadFault.TooLong
+        → 1048576 < length (bytes_of (node_at f file.now))) }
     ensures failed { HasFailed result → Rose (T.faults tree.old) (T.faults tree.new) }
     ensures too_long_faults { IsErrOf result LoadFault.TooLong → T.faults tree.new ≡ T.faults tree.old }
     ensures faults_stay { OnOk result (T.faults tree.new ≡ T.faults tree.old) }

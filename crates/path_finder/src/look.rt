@@ -173,7 +173,8 @@ impl Look {
 
     /// The payment for an entry.
     fn pay(&mut self, path: Option<TreePath>) -> LookWant
-        ensures goes { step.enters self.old.sought.name path self.old.portions (behind self.old) ≡ wants result (means self.new) }
+        ensures goes { step.enters self.old.sought.name path self.old.portions (behind self.old)
+            ≡ wants result (means self.new) }
         ensures awaits { awaits self.new.stage ≡ want_kind result }
         ensures suits { (f : Files) → Suits self.new.stage f }
         ensures quiet { is_quiet result }
@@ -193,7 +194,9 @@ impl Look {
 
     /// An entry is looked at: only a directory is searched.
     fn stamp<T: Tree>(&mut self, tree: &mut T, dir: TreePath) -> Result<LookWant, TreeFault>
-        ensures goes { IfOk result (λ want. Reads (T.files tree.old) (Stamps dir (step.stamped self.old.sought.name dir self.old.portions (behind self.old))) (wants want (means self.new))) }
+        ensures goes { IfOk result (λ want. Reads (T.files tree.old)
+            (Stamps dir (step.stamped self.old.sought.name dir self.old.portions (behind self.old)))
+            (wants want (means self.new))) }
         ensures awaits { IfOk result (λ want. awaits self.new.stage ≡ want_kind want) }
         ensures suits { OnOk result (ForSome (T.files tree.old) (λ f. Suits self.new.stage f)) }
         ensures quiet { IfOk result is_quiet }
@@ -219,7 +222,8 @@ impl Look {
 
     /// A kept listing is used where it has the directory's time.
     fn replied(&mut self, dir: TreePath, time: u64, reply: Option<Probe>) -> LookWant
-        ensures goes { step.replied self.old.sought.name dir time self.old.portions (behind self.old) reply ≡ wants result (means self.new) }
+        ensures goes { step.replied self.old.sought.name dir time self.old.portions (behind self.old) reply
+            ≡ wants result (means self.new) }
         ensures awaits { awaits self.new.stage ≡ want_kind result }
         ensures suits { (f : Files) → IsDirAt f dir → Suits self.new.stage f }
         ensures quiet { is_quiet result }
@@ -239,7 +243,8 @@ impl Look {
 
     /// The directory is to be listed.
     fn relist(&mut self, dir: TreePath, time: u64) -> LookWant
-        ensures goes { step.lists self.old.sought.name dir time self.old.portions (behind self.old) ≡ wants result (means self.new) }
+        ensures goes { step.lists self.old.sought.name dir time self.old.portions (behind self.old)
+            ≡ wants result (means self.new) }
         ensures awaits { awaits self.new.stage ≡ want_kind result }
         ensures suits { (f : Files) → IsDirAt f dir → Suits self.new.stage f }
         ensures quiet { is_quiet result }
@@ -257,7 +262,9 @@ impl Look {
         time: u64,
     ) -> Result<LookWant, TreeFault>
         requires { ForSome (T.files tree.old) (λ f. IsDirAt f dir) }
-        ensures goes { IfOk result (λ want. Reads (T.files tree.old) (Lists dir (step.keeps self.old.sought.name dir time self.old.portions (behind self.old))) (wants want (means self.new))) }
+        ensures goes { IfOk result (λ want. Reads (T.files tree.old)
+            (Lists dir (step.keeps self.old.sought.name dir time self.old.portions (behind self.old)))
+            (wants want (means self.new))) }
         ensures awaits { IfOk result (λ want. awaits self.new.stage ≡ want_kind want) }
         ensures suits { OnOk result ((f : Files) → Suits self.new.stage f) }
         ensures counts { CountsLists result (T.lists tree.old) (T.lists tree.new) }
@@ -281,7 +288,8 @@ impl Look {
 
     /// The listing is kept, and the names are to be probed.
     fn kept(&mut self, dir: TreePath, bare: bool, file: bool) -> LookWant
-        ensures goes { step.probes self.old.sought.name dir bare file self.old.portions (behind self.old) ≡ wants result (means self.new) }
+        ensures goes { step.probes self.old.sought.name dir bare file self.old.portions (behind self.old)
+            ≡ wants result (means self.new) }
         ensures awaits { awaits self.new.stage ≡ want_kind result }
         ensures suits { (f : Files) → Suits self.new.stage f }
         ensures quiet { is_quiet result }
@@ -307,7 +315,8 @@ impl Look {
 
     /// The entry does not decide. Its portion is kept, if it has one.
     fn pass(&mut self, dir: &TreePath, portion: bool) -> Result<LookWant, NoMemory>
-        ensures goes { IfOk result (λ want. step.passes self.old.sought.name dir.now portion self.old.portions (behind self.old) ≡ wants want (means self.new)) }
+        ensures goes { IfOk result (λ want. step.passes self.old.sought.name dir.now portion self.old.portions
+            (behind self.old) ≡ wants want (means self.new)) }
         ensures awaits { IfOk result (λ want. awaits self.new.stage ≡ want_kind want) }
         ensures suits { OnOk result ((f : Files) → Suits self.new.stage f) }
         ensures quiet { IfOk result is_quiet }
@@ -323,7 +332,8 @@ impl Look {
 
     /// A portion is kept.
     fn pass_portion(&mut self, dir: &TreePath) -> Result<LookWant, NoMemory>
-        ensures goes { IfOk result (λ want. step.passes self.old.sought.name dir.now true self.old.portions (behind self.old) ≡ wants want (means self.new)) }
+        ensures goes { IfOk result (λ want. step.passes self.old.sought.name dir.now true self.old.portions
+            (behind self.old) ≡ wants want (means self.new)) }
         ensures awaits { IfOk result (λ want. awaits self.new.stage ≡ want_kind want) }
         ensures suits { OnOk result ((f : Files) → Suits self.new.stage f) }
         ensures quiet { IfOk result is_quiet }
@@ -337,7 +347,8 @@ impl Look {
 
     /// The search is over: the directory has a regular package.
     fn decide_package(&mut self, dir: &TreePath) -> Result<LookWant, NoMemory>
-        ensures goes { IfOk result (λ want. step.ends_with self.old.sought.name (package_in dir.now (tail_of self.old.sought.name)) ≡ wants want (means self.new)) }
+        ensures goes { IfOk result (λ want. step.ends_with self.old.sought.name
+            (package_in dir.now (tail_of self.old.sought.name)) ≡ wants want (means self.new)) }
         ensures awaits { IfOk result (λ want. awaits self.new.stage ≡ want_kind want) }
         ensures suits { OnOk result ((f : Files) → Suits self.new.stage f) }
         ensures quiet { IfOk result is_quiet }
@@ -350,7 +361,8 @@ impl Look {
 
     /// The search is over: the directory has a module.
     fn decide_module(&mut self, dir: &TreePath) -> Result<LookWant, NoMemory>
-        ensures goes { IfOk result (λ want. step.ends_with self.old.sought.name (module_in dir.now (tail_of self.old.sought.name)) ≡ wants want (means self.new)) }
+        ensures goes { IfOk result (λ want. step.ends_with self.old.sought.name
+            (module_in dir.now (tail_of self.old.sought.name)) ≡ wants want (means self.new)) }
         ensures awaits { IfOk result (λ want. awaits self.new.stage ≡ want_kind want) }
         ensures suits { OnOk result ((f : Files) → Suits self.new.stage f) }
         ensures quiet { IfOk result is_quiet }
@@ -363,7 +375,8 @@ impl Look {
 
     /// The search goes on by what the directory has.
     fn settle(&mut self, dir: &TreePath, has: Has) -> Result<LookWant, NoMemory>
-        ensures goes { IfOk result (λ want. settled self.old.sought.name dir.now self.old.portions (behind self.old) has ≡ wants want (means self.new)) }
+        ensures goes { IfOk result (λ want. settled self.old.sought.name dir.now self.old.portions
+            (behind self.old) has ≡ wants want (means self.new)) }
         ensures awaits { IfOk result (λ want. awaits self.new.stage ≡ want_kind want) }
         ensures suits { OnOk result ((f : Files) → Suits self.new.stage f) }
         ensures quiet { IfOk result is_quiet }
@@ -385,7 +398,9 @@ impl Look {
         bare: bool,
         file: bool,
     ) -> Result<LookWant, TreeFault>
-        ensures goes { IfOk result (λ want. Reads (T.files tree.old) (step.tries self.old.sought.name dir.now bare file self.old.portions (behind self.old)) (wants want (means self.new))) }
+        ensures goes { IfOk result (λ want. Reads (T.files tree.old)
+            (step.tries self.old.sought.name dir.now bare file self.old.portions (behind self.old))
+            (wants want (means self.new))) }
         ensures awaits { IfOk result (λ want. awaits self.new.stage ≡ want_kind want) }
         ensures suits { OnOk result ((f : Files) → Suits self.new.stage f) }
         ensures quiet { IfOk result is_quiet }
@@ -409,7 +424,9 @@ impl Look {
         bare: bool,
         file: bool,
     ) -> Result<LookWant, TreeFault>
-        ensures goes { IfOk result (λ want. Reads (T.files tree.old) (step.tries self.old.sought.name dir bare file self.old.portions (behind self.old)) (wants want (means self.new))) }
+        ensures goes { IfOk result (λ want. Reads (T.files tree.old)
+            (step.tries self.old.sought.name dir bare file self.old.portions (behind self.old))
+            (wants want (means self.new))) }
         ensures awaits { IfOk result (λ want. awaits self.new.stage ≡ want_kind want) }
         ensures suits { OnOk result ((f : Files) → Suits self.new.stage f) }
         ensures quiet { IfOk result is_quiet }
@@ -433,7 +450,8 @@ impl Look {
     ) -> Result<LookWant, TreeFault>
         requires over { self.old.stage ≡ Stage.Over }
         requires suits { ForSome (T.files tree.old) (λ f. Suits stage f) }
-        ensures goes { IfOk result (λ want. Reads (T.files tree.old) (does self.old stage reply) (wants want (means self.new))) }
+        ensures goes { IfOk result (λ want. Reads (T.files tree.old) (does self.old stage reply)
+            (wants want (means self.new))) }
         ensures awaits { IfOk result (λ want. awaits self.new.stage ≡ want_kind want) }
         ensures suits { OnOk result (ForSome (T.files tree.old) (λ f. Suits self.new.stage f)) }
         ensures counts { CountsLists result (T.lists tree.old) (T.lists tree.new) }
@@ -472,8 +490,11 @@ impl Look {
     pub fn next<T: Tree>(&mut self, tree: &mut T, input: LookIn) -> Result<LookWant, TreeFault>
         requires fits { awaits self.old.stage ≡ input_kind input }
         requires suits { ForSome (T.files tree.old) (λ f. Suits self.old.stage f) }
-        ensures goes { IfOk result (λ want. Reads (T.files tree.old) (means self.old input) (wants want (means self.new))) }
-        ensures finds { ForSome (T.files tree.old) (λ f. IfOk result (λ want. (replies : List (Option Probe)) → Came f self.old replies → Finds f self.new (replies ++ reply_in input) want)) }
+        ensures goes { IfOk result (λ want. Reads (T.files tree.old) (means self.old input)
+            (wants want (means self.new))) }
+        ensures finds { ForSome (T.files tree.old) (λ f. IfOk result
+            (λ want. (replies : List (Option Probe)) → Came f self.old replies
+            → Finds f self.new (replies ++ reply_in input) want)) }
         ensures awaits { IfOk result (λ want. awaits self.new.stage ≡ want_kind want) }
         ensures suits { OnOk result (ForSome (T.files tree.old) (λ f. Suits self.new.stage f)) }
         ensures counts { CountsLists result (T.lists tree.old) (T.lists tree.new) }

@@ -70,7 +70,9 @@ fn module_probed<T: Tree>(
     portion: bool,
     file: bool,
 ) -> Result<Has, TreeFault>
-    ensures reads { IfOk result (λ has. (portions : List (List ℕ)) (go : Onward) (search : Search) → Reads (T.files tree.old) (settled sought.now.name dir.now portions go has) search → Reads (T.files tree.old) (step.tries_module sought.now.name dir.now portion file portions go) search) }
+    ensures reads { IfOk result (λ has. (portions : List (List ℕ)) (go : Onward) (search : Search)
+        → Reads (T.files tree.old) (settled sought.now.name dir.now portions go has) search
+        → Reads (T.files tree.old) (step.tries_module sought.now.name dir.now portion file portions go) search) }
     ensures failed { IsErrOf result TreeFault.Failed → Rose (T.faults tree.old) (T.faults tree.new) }
     ensures faults_stay { OnOk result (T.faults tree.new ≡ T.faults tree.old) }
     ensures files_stay { T.files tree.new ≡ T.files tree.old }
@@ -94,7 +96,9 @@ fn package_probed<T: Tree>(
     dir: &TreePath,
     file: bool,
 ) -> Result<Has, TreeFault>
-    ensures reads { IfOk result (λ has. (portions : List (List ℕ)) (go : Onward) (search : Search) → Reads (T.files tree.old) (settled sought.now.name dir.now portions go has) search → Reads (T.files tree.old) (step.folder_tried sought.now.name dir.now file portions go true) search) }
+    ensures reads { IfOk result (λ has. (portions : List (List ℕ)) (go : Onward) (search : Search)
+        → Reads (T.files tree.old) (settled sought.now.name dir.now portions go has) search
+        → Reads (T.files tree.old) (step.folder_tried sought.now.name dir.now file portions go true) search) }
     ensures failed { IsErrOf result TreeFault.Failed → Rose (T.faults tree.old) (T.faults tree.new) }
     ensures faults_stay { OnOk result (T.faults tree.new ≡ T.faults tree.old) }
     ensures files_stay { T.files tree.new ≡ T.files tree.old }
@@ -117,7 +121,9 @@ pub fn probed<T: Tree>(
     bare: bool,
     file: bool,
 ) -> Result<Has, TreeFault>
-    ensures reads { IfOk result (λ has. (portions : List (List ℕ)) (go : Onward) (search : Search) → Reads (T.files tree.old) (settled sought.now.name dir.now portions go has) search → Reads (T.files tree.old) (step.tries sought.now.name dir.now bare file portions go) search) }
+    ensures reads { IfOk result (λ has. (portions : List (List ℕ)) (go : Onward) (search : Search)
+        → Reads (T.files tree.old) (settled sought.now.name dir.now portions go has) search
+        → Reads (T.files tree.old) (step.tries sought.now.name dir.now bare file portions go) search) }
     ensures failed { IsErrOf result TreeFault.Failed → Rose (T.faults tree.old) (T.faults tree.new) }
     ensures faults_stay { OnOk result (T.faults tree.new ≡ T.faults tree.old) }
     ensures files_stay { T.files tree.new ≡ T.files tree.old }

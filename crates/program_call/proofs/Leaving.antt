@@ -8,6 +8,7 @@ use Rattle.machine_book.specs.declared.outlet.Flow.{Flow}
 use Rattle.machine_book.specs.declared.outlet.Flow.TheVariants.{Open, Failed, Short}
 use Rattle.machine_book.proofs.Keeping.{appends_then, part_then, part_still}
 use Rattle.machine_book.specs.Outgo.{Outgo, Kept, Flows, FlowsFrom, Appends, AppendsPart, text_of}
+use Rattle.program_call.specs.Statuses.{sink_fault}
 use Rattle.program_call.specs.Prints.{piece, opening_text, out_text}
 use Rattle.program_call.specs.Ends.{err_text, status_of}
 use Rattle.program_call.specs.Sinks.{At, outgo_at, Gets, Moment, Leaves, status_by}
@@ -64,12 +65,12 @@ part_by bytes old new h = record { part = take h.0 bytes; rest = drop h.0 bytes;
 -- what both sinks have got of a run, and its status
 pub leaves_of : (old new : Moment) (s b : Outgo) (trace : Bool) (names scripts : List (List ℕ)) (h : List Entry) (status : ℕ) (flow : Flow) → s.trace ≡ trace → Gets old.out (opening_text trace) (outgo_at s) s.flow → Kept piece s b h
     → new.out.written ≡ b.written → new.out.faults ≡ b.faults → flow ≡ b.flow → names ≡ scripts
-    → (err_flow : Flow) × Gets old.err (err_text names h) new.err err_flow × (status ≡ status_by (status_of (length names) h) 5 flow err_flow)
-    → Leaves (status_of (length scripts) h) 5 (out_text trace h) (err_text scripts h) old new status
+    → (err_flow : Flow) × Gets old.err (err_text names h) new.err err_flow × (status ≡ status_by (status_of (length names) h) sink_fault flow err_flow)
+    → Leaves (status_by (status_of (length scripts) h) sink_fault) (out_text trace h) (err_text scripts h) old new status
 leaves_of old new s b trace names scripts h status flow t first kept w f l same said = record {
   out_flow = flow;
   err_flow = said.0;
   out_gets = gets_back old.out s b trace h new.out.written new.out.faults flow t first kept w f l;
   err_gets = subst (λ (ns : List (List ℕ)). Gets old.err (err_text ns h) new.err said.0) same said.1;
-  is = said.2 ∙ ap (λ (ns : List (List ℕ)). status_by (status_of (length ns) h) 5 flow said.0) same;
+  is = said.2 ∙ ap (λ (ns : List (List ℕ)). status_by (status_of (length ns) h) sink_fault flow said.0) same;
 }

@@ -20,13 +20,14 @@ use Rattle.meanings.proofs.Stand.{part, stands_start}
 use Rattle.script_end.specs.Ending.{Broken, in_run, at_read, outcome}
 use Rattle.round_run.specs.Ran.{Counts, Runs, AllRan, MayBegin, RoundRan}
 use Rattle.import_words.specs.declared.plan.RunPlan.{RunPlan}
+use Rattle.program_call.specs.Statuses.{sink_fault, want_of_memory}
 use Rattle.program_call.specs.Prints.{out_text}
 use Rattle.program_call.specs.Ends.{err_text, status_of}
-use Rattle.program_call.specs.Sinks.{Moment, Leaves}
+use Rattle.program_call.specs.Sinks.{Moment, Leaves, status_by}
 use Rattle.program_call.specs.Counts.{reads_of}
-use Rattle.program_call.specs.Alone.{Means, opening_of}
+use Rattle.program_call.specs.Alone.{Means, setting, opening_of}
 use Rattle.program_call.specs.Results.{Came, AreWhole, AllEnded}
-use Rattle.program_call.specs.Runs.{RunOver, RunBy, HasRun}
+use Rattle.program_call.specs.Runs.{RunOver, HasRun, finished}
 use Rattle.program_call.specs.Together.{Mean, Acts, AllAct, RanTogether}
 use Rattle.program_call.proofs.Counting.{tree_counts, faults_in, faults_rise, reads_by, lists_by, reads_none}
 
@@ -63,20 +64,20 @@ broken_up old new n up (at_read k fits rose given) = at_read k fits (up rose) gi
 
 module _ (files : Files) (means : Means) (fuel old new status : ℕ) (h : List Entry) where
   act_of : (t : ℕ) (run run' : Run) (came : Came) (results : List Came) (n total : ℕ) → run ≡ run' → n ≤ total → raised old total ≤ new → IfOk came (λ it. Follows files t run fuel (own t h) (outcome it))
-      → OnErr came (Broken files t run fuel (own t h) 0 n) → (status ≡ 6) ⊎ AreWhole (came ∷ results) → Acts files t run' fuel old new (own t h) status
-  act_of t run run' (Ok it) results n total same some rise follows broken w = subst (λ (x : Run). Acts files t x fuel old new (own t h) status) same (Acts.whole (outcome it) follows)
+      → OnErr came (Broken files t run fuel (own t h) 0 n) → (status ≡ want_of_memory) ⊎ AreWhole (came ∷ results) → Acts (setting files fuel old new status) t run' (own t h)
+  act_of t run run' (Ok it) results n total same some rise follows broken w = subst (λ (x : Run). Acts (setting files fuel old new status) t x (own t h)) same (Acts.whole (outcome it) follows)
   act_of t run run' (Err e) results n total same some rise follows broken (inl six) =
-      subst (λ (x : Run). Acts files t x fuel old new (own t h) status) same (Acts.part six (broken_up old new n (rose_up old new n total some rise) broken))
+      subst (λ (x : Run). Acts (setting files fuel old new status) t x (own t h)) same (Acts.part six (broken_up old new n (rose_up old new n total some rise) broken))
   act_of t run run' (Err e) results n total same some rise follows broken (inr w) = absurd w
 
-  whole_rest : (came : Came) (results : List Came) → (status ≡ 6) ⊎ AreWhole (came ∷ results) → (status ≡ 6) ⊎ AreWhole results
+  whole_rest : (came : Came) (results : List Came) → (status ≡ want_of_memory) ⊎ AreWhole (came ∷ results) → (status ≡ want_of_memory) ⊎ AreWhole results
   whole_rest came results (inl six) = inl six
   whole_rest (Ok it) results (inr w) = inr w
   whole_rest (Err e) results (inr w) = absurd w
 
   module _ {P : Type 0} (run : P → ℕ → Run) (total : ℕ) (rise : raised old total ≤ new) where
     acts_from : (t : ℕ) (texts : List (List ℕ)) (programs : List P) (counts : List Counts) (results : List Came) → Mean run means texts programs → faults_in counts ≤ total
-        → AllRan (Some files) t (map run programs) fuel h counts results → (status ≡ 6) ⊎ AreWhole results → AllAct means files t texts fuel old new h status
+        → AllRan (Some files) t (map run programs) fuel h counts results → (status ≡ want_of_memory) ⊎ AreWhole results → AllAct means (setting files fuel old new status) t texts h
     acts_from t [] programs counts results mean some all w = tt
     acts_from t (text ∷ texts) [] counts results mean some all w = absurd mean
     acts_from t (text ∷ texts) (p ∷ programs) [] results mean some all w = absurd all
@@ -87,26 +88,26 @@ module _ (files : Files) (means : Means) (fuel old new status : ℕ) (h : List E
     )
 
 -- of two scripts or more
-over_by : (means : Means) (files : Files) (plan : RunPlan) (texts : List (List ℕ)) (old new status : ℕ) (h : List Entry) → 2 ≤ length texts → AllAct means files 0 texts plan.fuel old new h status → RunOver means files plan texts old new h status
+over_by : (means : Means) (files : Files) (plan : RunPlan) (texts : List (List ℕ)) (old new status : ℕ) (h : List Entry) → 2 ≤ length texts → AllAct means (setting files plan.fuel old new status) 0 texts h → RunOver means (setting files plan.fuel old new status) plan texts h
 over_by means files plan [] old new status h two acts = acts
 over_by means files plan (text ∷ []) old new status h two acts = absurd (omega (arith, two))
 over_by means files plan (text ∷ other ∷ texts) old new status h two acts = acts
 
 pub over_ran : (means : Means) (tree : Option Files) (files : Files) → tree ≡ Some files → (plan : RunPlan) (texts : List (List ℕ)) → 2 ≤ length texts → (old new : Counts) (status : ℕ) (h : List Entry) {P : Type 0} (run : P → ℕ → Run) (programs : List P) (results : List Came)
-    → Mean run means texts programs → RanTogether tree (map run programs) plan.fuel old new h results → (status ≡ 6) ⊎ AreWhole results → RunOver means files plan texts old.faults new.faults h status
+    → Mean run means texts programs → RanTogether tree (map run programs) plan.fuel old new h results → (status ≡ want_of_memory) ⊎ AreWhole results → RunOver means (setting files plan.fuel old.faults new.faults status) plan texts h
 over_ran means tree files told plan texts two old new status h run programs results mean ran w =
     let rise : raised old.faults (faults_in ran.counts) ≤ new.faults = subst (λ (c : Counts). raised old.faults (faults_in ran.counts) ≤ c.faults) (sym ran.absorbs) (faults_rise old ran.counts) in
     let all = subst (λ (x : Option Files). AllRan x 0 (map run programs) plan.fuel h ran.counts results) told ran.threads in
     over_by means files plan texts old.faults new.faults status h two (acts_from files means plan.fuel old.faults new.faults status h run (faults_in ran.counts) rise 0 texts programs ran.counts results mean (omega arith) all w)
 
 -- no script has begun
-module _ (files : Files) (means : Means) (fuel old new status : ℕ) (six : status ≡ 6) where
-  none_from : (t : ℕ) (texts : List (List ℕ)) → AllAct means files t texts fuel old new [] status
+module _ (files : Files) (means : Means) (fuel old new status : ℕ) (six : status ≡ want_of_memory) where
+  none_from : (t : ℕ) (texts : List (List ℕ)) → AllAct means (setting files fuel old new status) t texts []
   none_from t [] = tt
   none_from t (text ∷ texts) =
       (Acts.part six (in_run (part files t (record { budget = fuel; rest = means t text; stands = stands_start (means t text) fuel }))), none_from (suc t) texts)
 
-pub over_none : (means : Means) (files : Files) (plan : RunPlan) (texts : List (List ℕ)) (old new status : ℕ) → 2 ≤ length texts → status ≡ 6 → RunOver means files plan texts old new [] status
+pub over_none : (means : Means) (files : Files) (plan : RunPlan) (texts : List (List ℕ)) (old new status : ℕ) → 2 ≤ length texts → status ≡ want_of_memory → RunOver means (setting files plan.fuel old new status) plan texts []
 over_none means files plan texts old new status two six = over_by means files plan texts old new status [] two (none_from files means plan.fuel old new status six 0 texts)
 
 -- as many results as programs, and each has its End in the history
@@ -145,42 +146,42 @@ module _ {O : Type 0} (book : BoundTo O) (size : ℕ) (empty : book.history ≡ 
   may_all = may_from 0 size (omega arith)
 
 -- all that a run of several scripts leaves
-module _ (means : Means) (plan : RunPlan) (texts : List (List ℕ)) (tree : Option Files) (old new : Moment) (h : List Entry) (status : ℕ)
+module _ (means : Means) (plan : RunPlan) (texts : List (List ℕ)) (old new : Moment) (h : List Entry) (status : ℕ)
     (two : 2 ≤ length texts) (as_many : length texts ≡ length plan.scripts) (legal : IsLegal (opening_of plan texts) h)
-    (leaves : Leaves (status_of (length plan.scripts) h) 5 (out_text plan.trace h) (err_text plan.scripts h) old new status) where
-  ran_by : {P : Type 0} (run : P → ℕ → Run) (programs : List P) (results : List Came) → Mean run means texts programs → RanTogether tree (map run programs) plan.fuel (tree_counts old) (tree_counts new) h results → (status ≡ 6) ⊎ AreWhole results
-      → HasRun means plan texts tree old new h status
+    (leaves : Leaves (status_by (status_of (length plan.scripts) h) sink_fault) (out_text plan.trace h) (err_text plan.scripts h) old new status) where
+  ran_by : {P : Type 0} (run : P → ℕ → Run) (programs : List P) (results : List Came) → Mean run means texts programs → RanTogether old.files (map run programs) plan.fuel (tree_counts old) (tree_counts new) h results → (status ≡ want_of_memory) ⊎ AreWhole results
+      → HasRun means plan texts old new (finished h status)
   ran_by run programs results mean ran w =
-      let many : length results ≡ length plan.scripts = many_ran tree plan.fuel h 0 (map run programs) ran.counts results ran.threads ∙ (length-map programs run ∙ (many_mean run means texts programs mean ∙ as_many)) in
+      let many : length results ≡ length plan.scripts = many_ran old.files plan.fuel h 0 (map run programs) ran.counts results ran.threads ∙ (length-map programs run ∙ (many_mean run means texts programs mean ∙ as_many)) in
       record {
         legal = legal;
-        runs = by_told tree (λ files told. over_ran means tree files told plan texts two (tree_counts old) (tree_counts new) status h run programs results mean ran w);
-        reads = reads_by tree plan.fuel h (map run programs) ran.counts results (tree_counts old) (tree_counts new) ran.threads ran.absorbs (length plan.scripts) many;
-        lists = lists_by tree plan.fuel h (map run programs) ran.counts results (tree_counts old) (tree_counts new) ran.threads ran.absorbs (length plan.scripts) many;
+        runs = by_told old.files (λ files told. over_ran means old.files files told plan texts two (tree_counts old) (tree_counts new) status h run programs results mean ran w);
+        reads = reads_by old.files plan.fuel h (map run programs) ran.counts results (tree_counts old) (tree_counts new) ran.threads ran.absorbs (length plan.scripts) many;
+        lists = lists_by old.files plan.fuel h (map run programs) ran.counts results (tree_counts old) (tree_counts new) ran.threads ran.absorbs (length plan.scripts) many;
         leaves = leaves;
       }
     where
-      by_told : (tree : Option Files) → ((files : Files) → tree ≡ Some files → RunOver means files plan texts old.faults new.faults h status) → RunBy means tree plan texts old.faults new.faults h status
+      by_told : (tree : Option Files) → ((files : Files) → tree ≡ Some files → RunOver means (setting files plan.fuel old.faults new.faults status) plan texts h) → IfSome tree (λ files. RunOver means (setting files plan.fuel old.faults new.faults status) plan texts h)
       by_told None f = tt
       by_told (Some files) f = f files refl
 
-  none_by : h ≡ [] → new.faults ≡ old.faults → new.lists ≡ old.lists → status ≡ 6 → HasRun means plan texts tree old new h status
+  none_by : h ≡ [] → new.faults ≡ old.faults → new.lists ≡ old.lists → status ≡ want_of_memory → HasRun means plan texts old new (finished h status)
   none_by empty faults lists six = record {
     legal = legal;
-    runs = by_told tree;
+    runs = by_told old.files;
     reads = let none : reads_of (length plan.scripts) h ≡ 0 = ap (reads_of (length plan.scripts)) empty ∙ reads_none (length plan.scripts) in omega (arith, none, faults);
     lists = λ ended. omega (arith, lists);
     leaves = leaves;
   }
     where
-      by_told : (tree : Option Files) → RunBy means tree plan texts old.faults new.faults h status
+      by_told : (tree : Option Files) → IfSome tree (λ files. RunOver means (setting files plan.fuel old.faults new.faults status) plan texts h)
       by_told None = tt
-      by_told (Some files) = subst (λ (x : List Entry). RunOver means files plan texts old.faults new.faults x status) (sym empty) (over_none means files plan texts old.faults new.faults status two six)
+      by_told (Some files) = subst (λ (x : List Entry). RunOver means (setting files plan.fuel old.faults new.faults status) plan texts x) (sym empty) (over_none means files plan texts old.faults new.faults status two six)
 
   -- whether they began or not
   pub has_run : {P V : Type 0} (run : P → ℕ → Run) (programs : List P) (items : V → List Came) (results : Option V) → Mean run means texts programs
-      → IfSome results (λ v. RanTogether tree (map run programs) plan.fuel (tree_counts old) (tree_counts new) h (items v)) → IfNone results ((h ≡ []) × (new.faults ≡ old.faults) × (new.lists ≡ old.lists))
-      → (status ≡ 6) ⊎ IsSomeAnd results (λ v. AreWhole (items v)) → HasRun means plan texts tree old new h status
+      → IfSome results (λ v. RanTogether old.files (map run programs) plan.fuel (tree_counts old) (tree_counts new) h (items v)) → IfNone results ((h ≡ []) × (new.faults ≡ old.faults) × (new.lists ≡ old.lists))
+      → (status ≡ want_of_memory) ⊎ IsSomeAnd results (λ v. AreWhole (items v)) → HasRun means plan texts old new (finished h status)
   has_run run programs items None mean ran none (inl six) = none_by none.0 none.1 none.2 six
   has_run run programs items None mean ran none (inr whole) = absurd whole
   has_run run programs items (Some v) mean ran none w = ran_by run programs (items v) mean ran w

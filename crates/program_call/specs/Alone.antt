@@ -9,6 +9,7 @@ use Rattle.meanings.specs.Runs.{Run}
 use Rattle.solo_history.specs.Made.{Turn}
 use Rattle.solo_history.specs.Solo.{IsSolo}
 use Rattle.import_words.specs.declared.plan.RunPlan.{RunPlan}
+use Rattle.program_call.specs.Statuses.{want_of_memory}
 
 -- what texts mean, each as the script of a number
 abbrev pub Means : Type 0
@@ -27,13 +28,27 @@ HasCause (Some k) old new = Rose old new
 abbrev pub turn_of : Files → Run → Option ℕ → Turn
 turn_of files run stop = record { files = files; run = run; stop = stop }
 
+-- what scripts of a call run under: their files and the fuel of each, the tree's count of faults before and after, and
+-- the status of the call
+pub record Setting : Type 0 where
+  pub files : Files
+  pub fuel : ℕ
+  pub old_faults : ℕ
+  pub new_faults : ℕ
+  pub status : ℕ
+
+abbrev pub setting : Files → ℕ → ℕ → ℕ → ℕ → Setting
+setting files fuel old new status =
+    record { files = files; fuel = fuel; old_faults = old; new_faults = new; status = status }
+
 -- the history of one script over these files: the one that it has alone, with a stop only where a call of the tree failed;
--- where memory was wanted, at status 6, a beginning of such a one
-pub data IsRun (files : Files) (opened : State) (run : Run) (fuel : ℕ) (old new : ℕ) (history : List Entry) (status : ℕ) : Type 0 where
-  whole : (stop : Option ℕ) → IsSolo opened (turn_of files run stop ∷ []) fuel history → HasCause stop old new
-      → IsRun files opened run fuel old new history status
-  part : (stop : Option ℕ) (rest : List Entry) → status ≡ 6 → IsSolo opened (turn_of files run stop ∷ []) fuel (history ++ rest)
-      → HasCause stop old new → IsRun files opened run fuel old new history status
+-- at want of memory a beginning of such a one
+pub data IsRun (under : Setting) (opened : State) (run : Run) (history : List Entry) : Type 0 where
+  whole : (stop : Option ℕ) → IsSolo opened (turn_of under.files run stop ∷ []) under.fuel history
+      → HasCause stop under.old_faults under.new_faults → IsRun under opened run history
+  part : (stop : Option ℕ) (rest : List Entry) → under.status ≡ want_of_memory
+      → IsSolo opened (turn_of under.files run stop ∷ []) under.fuel (history ++ rest)
+      → HasCause stop under.old_faults under.new_faults → IsRun under opened run history
 
 -- the turns of scripts, of which the first has the number t, by their files and texts, where no call of the tree fails
 abbrev pub turns_of : Means → ℕ → List (Files × List ℕ) → List Turn

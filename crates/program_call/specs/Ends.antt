@@ -9,6 +9,7 @@ use Rattle.machine_events.specs.declared.event.Entry.{Entry}
 use Rattle.machine_events.specs.declared.event.Outcome.{Outcome}
 use Rattle.machine_events.specs.declared.event.Outcome.TheVariants as o
 use Rattle.thread_knowledge.specs.Own.{own}
+use Rattle.program_call.specs.Statuses.{normal_end, error_end, spent_budget, tree_fault}
 
 abbrev pub end_in : Event → Option Outcome
 end_in (e.End outcome k) = Some outcome
@@ -44,17 +45,18 @@ lines_from t (script ∷ scripts) history = line_at script (end_of (own t histor
 abbrev pub err_text : List (List ℕ) → List Entry → List ℕ
 err_text scripts history = lines_from 0 scripts history
 
+-- the status of a call whose one script ended so
 abbrev pub number_of : Outcome → ℕ
-number_of o.Normal = 0
-number_of (o.Raised error) = 1
-number_of o.Fuel = 3
-number_of o.Read = 4
+number_of o.Normal = normal_end
+number_of (o.Raised error) = error_end
+number_of o.Fuel = spent_budget
+number_of o.Read = tree_fault
 
 abbrev pub number_at : Option Outcome → ℕ
-number_at None = 0
+number_at None = normal_end
 number_at (Some outcome) = number_of outcome
 
--- the greatest number over the ends of so many scripts
+-- the greatest status over the ends of so many scripts
 abbrev pub status_of : ℕ → List Entry → ℕ
-status_of zero history = 0
+status_of zero history = normal_end
 status_of (suc t) history = max (status_of t history) (number_at (end_of (own t history)))

@@ -1,3 +1,4 @@
+pub mod Statuses
 pub mod Prints
 pub mod Ends
 pub mod Sinks

@@ -5,6 +5,7 @@ use Rattle.machine_events.specs.declared.event.Entry.{Entry}
 use Rattle.thread_knowledge.specs.Own.{own}
 use Rattle.script_end.specs.declared.end.Ending.{Ending}
 use Rattle.script_end.specs.Ending.{Ended, outcome}
+use Rattle.program_call.specs.Statuses.{normal_end}
 use Rattle.program_call.specs.Ends.{line_of, number_of}
 
 -- how a script ended, or that memory was wanting
@@ -17,7 +18,7 @@ line_by script (Err e) = []
 
 abbrev pub number_by : Came → ℕ
 number_by (Ok ending) = number_of (outcome ending)
-number_by (Err e) = 0
+number_by (Err e) = normal_end
 
 abbrev pub lines_by : List (List ℕ) → List Came → List ℕ
 lines_by [] results = []
@@ -25,7 +26,7 @@ lines_by (script ∷ scripts) [] = []
 lines_by (script ∷ scripts) (result ∷ results) = line_by script result ++ lines_by scripts results
 
 abbrev pub worst_by : List Came → ℕ
-worst_by [] = 0
+worst_by [] = normal_end
 worst_by (result ∷ results) = max (number_by result) (worst_by results)
 
 -- each script has an end

@@ -11,7 +11,8 @@ use Rattle.meanings.specs.Runs.{Run}
 use Rattle.meanings.specs.Follows.{Follows}
 use Rattle.script_end.specs.Ending.{Broken}
 use Rattle.round_run.specs.Ran.{Counts, Runs, AllRan, absorbed}
-use Rattle.program_call.specs.Alone.{Means}
+use Rattle.program_call.specs.Statuses.{want_of_memory}
+use Rattle.program_call.specs.Alone.{Means, Setting}
 use Rattle.program_call.specs.Results.{Came}
 
 -- the programs mean, as threads of any number, what these texts mean
@@ -24,14 +25,15 @@ pub record RanTogether (tree : Option Files) (runs : Runs) (fuel : ℕ) (old new
   pub threads : AllRan tree 0 runs fuel history counts results
   pub absorbs : new ≡ fold absorbed old counts
 
--- the pairs of script t in a history: they are those of its meaning on their replies, up to its End; where memory was wanted,
--- at status 6, a part of those
-pub data Acts (files : Files) (t : ℕ) (run : Run) (fuel : ℕ) (old new : ℕ) (mine : List (Event × Reply)) (status : ℕ) : Type 0 where
-  whole : (outcome : Outcome) → Follows files t run fuel mine outcome → Acts files t run fuel old new mine status
-  part : status ≡ 6 → Broken files t run fuel mine old new → Acts files t run fuel old new mine status
+-- the pairs of script t in a history: they are those of its meaning on their replies, up to its End; at want of memory a
+-- part of those
+pub data Acts (under : Setting) (t : ℕ) (run : Run) (mine : List (Event × Reply)) : Type 0 where
+  whole : (outcome : Outcome) → Follows under.files t run under.fuel mine outcome → Acts under t run mine
+  part : under.status ≡ want_of_memory → Broken under.files t run under.fuel mine under.old_faults under.new_faults
+      → Acts under t run mine
 
 -- so for scripts of these texts, of which the first has the number t
-abbrev pub AllAct : Means → Files → ℕ → List (List ℕ) → ℕ → ℕ → ℕ → List Entry → ℕ → Type 0
-AllAct means files t [] fuel old new history status = Unit {0}
-AllAct means files t (text ∷ texts) fuel old new history status =
-    Acts files t (means t text) fuel old new (own t history) status × AllAct means files (suc t) texts fuel old new history status
+abbrev pub AllAct : Means → Setting → ℕ → List (List ℕ) → List Entry → Type 0
+AllAct means under t [] history = Unit {0}
+AllAct means under t (text ∷ texts) history =
+    Acts under t (means t text) (own t history) × AllAct means under (suc t) texts history

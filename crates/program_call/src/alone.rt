@@ -6,7 +6,7 @@ ghost use Rattle.machine_book.specs.Outgo.{Kept};
 ghost use Rattle.thread_knowledge.specs.Own.{own};
 ghost use Rattle.round_run.specs.Ran.{Ran, counted};
 ghost use Rattle.program_call.specs.Runs.{Gives};
-ghost use Rattle.program_call.specs.Sinks.{at, moment};
+ghost use Rattle.program_call.specs.Sinks.{at, moment, Passes};
 
 use crate::begin::{Begun, begin};
 use crate::finish::{Came, finish};
@@ -78,14 +78,13 @@ pub fn run_alone<S: Scripts, T: Tree, O: Sink, K: Sink>(
 ) -> Left
     requires script { length plan.now.scripts ≡ 1 }
     requires text { length texts ≡ 1 }
-    ensures run { Gives S.means plan.now texts (T.files tree.old)
-        (moment T.faults T.lists O.written O.faults K.written K.faults tree.old out.old err.old)
-        (moment T.faults T.lists O.written O.faults K.written K.faults tree.new out.new err.new)
-        result.history result.status }
-    ensures files { T.files tree.new ≡ T.files tree.old }
-    ensures faults_grow { T.faults tree.old ≤ T.faults tree.new }
-    ensures out_faults { O.faults out.old ≤ O.faults out.new }
-    ensures err_faults { K.faults err.old ≤ K.faults err.new }
+    ensures run { Gives S.means plan.now texts
+        (moment T.files T.faults T.lists tree.old (at O.written O.faults out.old) (at K.written K.faults err.old))
+        (moment T.files T.faults T.lists tree.new (at O.written O.faults out.new) (at K.written K.faults err.new))
+        result }
+    ensures passes { Passes
+        (moment T.files T.faults T.lists tree.old (at O.written O.faults out.old) (at K.written K.faults err.old))
+        (moment T.files T.faults T.lists tree.new (at O.written O.faults out.new) (at K.written K.faults err.new)) }
 {
     let Ok(it) = begin::<S>(alloc, plan, texts) else {
         return unbegun();

@@ -7,7 +7,8 @@ ghost use Rattle.import_words.specs.Words.{Word};
 ghost use Rattle.import_words.specs.Usage.{usage_of};
 ghost use Rattle.program_call.specs.Answers.{Answers, is_built, run_if, built};
 ghost use Rattle.program_call.specs.Scripts.{AreFew, EachOpens};
-ghost use Rattle.program_call.specs.Sinks.{at, moment, IsSince, Leaves, Moment};
+ghost use Rattle.program_call.specs.Sinks.{at, moment, IsSince, Leaves, Moment, Passes, status_by};
+ghost use Rattle.program_call.specs.Statuses.{refusal, tree_fault, sink_fault};
 
 use crate::finish::{say_line, status_by};
 use crate::line::joined;
@@ -15,6 +16,7 @@ use crate::open::{Unopened, open_all};
 use crate::report::{Report, with_plan, without_run};
 use crate::run::run_scripts;
 use crate::scripts::Scripts;
+use crate::status::{REFUSAL, SINK_FAULT, TREE_FAULT, WANT_OF_MEMORY};
 use base_types::{NoMemory, Seq};
 use import_words::{Plan, RunPlan, WordsError, read_words, usage_line};
 use machine_book::Flow;
@@ -41,7 +43,7 @@ fn tell<K: Sink>(
 ) -> Report
     ensures leaves { (text : List ℕ) (old new : Moment) → IfOk line (λ it. it.items ≡ text) → new.out ≡ old.out
         → old.err ≡ at K.written K.faults err.old → new.err ≡ at K.written K.faults err.new
-        → Leaves good bad [] text old new result.status }
+        → Leaves (status_by good bad) [] text old new result.status }
     ensures plan { result.plan ≡ plan }
     ensures history { result.history ≡ None }
     ensures faults_grow { K.faults err.old ≤ K.faults err.new }
@@ -64,15 +66,15 @@ fn play<S: Scripts + Send, R: Threads + Wait + Sync, T: Grove, K: Sink + Send, G
     requires few { AreFew run.scripts }
     requires texts { EachOpens (T.files tree.old) run.scripts texts }
     ensures answers { (words : List Word) (first : Moment) → built (plan_of words) ≡ Some run
-        → IsSince first (moment T.faults T.lists K.written K.faults K.written K.faults tree.old out.old err.old)
-        → Answers S.means words (T.files tree.old) first
-        (moment T.faults T.lists K.written K.faults K.written K.faults tree.new out.new err.new)
-        result.status result.plan result.history }
-    ensures files { T.files tree.new ≡ T.files tree.old }
-    ensures faults_grow { T.faults tree.old ≤ T.faults tree.new }
+        → IsSince first
+        (moment T.files T.faults T.lists tree.old (at K.written K.faults out.old) (at K.written K.faults err.old))
+        → Answers S.means words first
+        (moment T.files T.faults T.lists tree.new (at K.written K.faults out.new) (at K.written K.faults err.new))
+        result }
+    ensures passes { Passes
+        (moment T.files T.faults T.lists tree.old (at K.written K.faults out.old) (at K.written K.faults err.old))
+        (moment T.files T.faults T.lists tree.new (at K.written K.faults out.new) (at K.written K.faults err.new)) }
     ensures lists { result.history ≡ None → T.lists tree.new ≡ T.lists tree.old }
-    ensures out_faults { K.faults out.old ≤ K.faults out.new }
-    ensures err_faults { K.faults err.old ≤ K.faults err.new }
 {
     let ran = run_scripts::<S, R, T, K, K, G>(rt, alloc, &run, texts, tree, out, err, gate);
     with_plan(ran, Some(Plan::Run(run)))
@@ -82,13 +84,13 @@ fn play<S: Scripts + Send, R: Threads + Wait + Sync, T: Grove, K: Sink + Send, G
 fn unread<K: Sink>(alloc: Global, run: RunPlan, err: &mut K) -> Report
     ensures leaves { (old new : Moment) → new.out ≡ old.out
         → old.err ≡ at K.written K.faults err.old → new.err ≡ at K.written K.faults err.new
-        → Leaves 4 5 [] (codes "pyimport: file fault" ++ 10 ∷ []) old new result.status }
+        → Leaves (status_by tree_fault sink_fault) [] (codes "pyimport: file fault" ++ 10 ∷ []) old new result.status }
     ensures plan { result.plan ≡ Some (plans.Run run) }
     ensures history { result.history ≡ None }
     ensures faults_grow { K.faults err.old ≤ K.faults err.new }
 {
     let line = joined(alloc, "pyimport: file fault", "", "");
-    tell(err, line, Some(Plan::Run(run)), 4, 5)
+    tell(err, line, Some(Plan::Run(run)), TREE_FAULT, SINK_FAULT)
 }
 
 /// Opens the scripts of a plan, and runs them.
@@ -103,21 +105,22 @@ fn run_plan<S: Scripts + Send, R: Threads + Wait + Sync, T: Grove, K: Sink + Sen
 ) -> Report
     requires few { AreFew run.scripts }
     ensures answers { (words : List Word) → built (plan_of words) ≡ Some run
-        → Answers S.means words (T.files tree.old)
-        (moment T.faults T.lists K.written K.faults K.written K.faults tree.old out.old err.old)
-        (moment T.faults T.lists K.written K.faults K.written K.faults tree.new out.new err.new)
-        result.status result.plan result.history }
-    ensures files { T.files tree.new ≡ T.files tree.old }
-    ensures faults_grow { T.faults tree.old ≤ T.faults tree.new }
+        → Answers S.means words
+        (moment T.files T.faults T.lists tree.old (at K.written K.faults out.old) (at K.written K.faults err.old))
+        (moment T.files T.faults T.lists tree.new (at K.written K.faults out.new) (at K.written K.faults err.new))
+        result }
+    ensures passes { Passes
+        (moment T.files T.faults T.lists tree.old (at K.written K.faults out.old) (at K.written K.faults err.old))
+        (moment T.files T.faults T.lists tree.new (at K.written K.faults out.new) (at K.written K.faults err.new)) }
     ensures lists { result.history ≡ None → T.lists tree.new ≡ T.lists tree.old }
-    ensures out_faults { K.faults out.old ≤ K.faults out.new }
-    ensures err_faults { K.faults err.old ≤ K.faults err.new }
 {
     match open_all(alloc, tree, run.scripts.as_slice()) {
         Ok(texts) => play::<S, R, T, K, G>(rt, alloc, run, texts, tree, out, err, gate),
-        Err(Unopened::Refused(line)) => tell(err, Ok(line), Some(Plan::Run(run)), 2, 2),
+        Err(Unopened::Refused(line)) => {
+            tell(err, Ok(line), Some(Plan::Run(run)), REFUSAL, REFUSAL)
+        }
         Err(Unopened::Unread) => unread(alloc, run, err),
-        Err(Unopened::NoMemory) => without_run(6, Some(Plan::Run(run))),
+        Err(Unopened::NoMemory) => without_run(WANT_OF_MEMORY, Some(Plan::Run(run))),
     }
 }
 
@@ -125,12 +128,19 @@ fn run_plan<S: Scripts + Send, R: Threads + Wait + Sync, T: Grove, K: Sink + Sen
 fn refused<K: Sink>(alloc: Global, words: &[String], err: &mut K) -> Report
     ensures leaves { (old new : Moment) → new.out ≡ old.out
         → old.err ≡ at K.written K.faults err.old → new.err ≡ at K.written K.faults err.new
-        → Leaves 2 2 [] (usage_of (map string_bytes words.now) ++ 10 ∷ []) old new result.status }
+        → Leaves (status_by refusal refusal) [] (usage_of (map string_bytes words.now) ++ 10 ∷ [])
+        old new result.status }
     ensures plan { result.plan ≡ None }
     ensures history { result.history ≡ None }
     ensures faults_grow { K.faults err.old ≤ K.faults err.new }
 {
-    tell(err, joined(alloc, usage_line(words), "", ""), None, 2, 2)
+    tell(
+        err,
+        joined(alloc, usage_line(words), "", ""),
+        None,
+        REFUSAL,
+        REFUSAL,
+    )
 }
 
 fn built_run(run: RunPlan) -> Option<RunPlan>
@@ -183,15 +193,14 @@ pub fn call<S: Scripts + Send, R: Threads + Wait + Sync, T: Grove, K: Sink + Sen
     gate: &G,
 ) -> Report
     requires plan { plan ≡ plan_of (map string_bytes words.now) }
-    ensures answers { Answers S.means (map string_bytes words.now) (T.files tree.old)
-        (moment T.faults T.lists K.written K.faults K.written K.faults tree.old out.old err.old)
-        (moment T.faults T.lists K.written K.faults K.written K.faults tree.new out.new err.new)
-        result.status result.plan result.history }
-    ensures files { T.files tree.new ≡ T.files tree.old }
-    ensures faults_grow { T.faults tree.old ≤ T.faults tree.new }
+    ensures answers { Answers S.means (map string_bytes words.now)
+        (moment T.files T.faults T.lists tree.old (at K.written K.faults out.old) (at K.written K.faults err.old))
+        (moment T.files T.faults T.lists tree.new (at K.written K.faults out.new) (at K.written K.faults err.new))
+        result }
+    ensures passes { Passes
+        (moment T.files T.faults T.lists tree.old (at K.written K.faults out.old) (at K.written K.faults err.old))
+        (moment T.files T.faults T.lists tree.new (at K.written K.faults out.new) (at K.written K.faults err.new)) }
     ensures lists { result.history ≡ None → T.lists tree.new ≡ T.lists tree.old }
-    ensures out_faults { K.faults out.old ≤ K.faults out.new }
-    ensures err_faults { K.faults err.old ≤ K.faults err.new }
 {
     match built(plan) {
         Some(run) => run_plan::<S, R, T, K, G>(rt, alloc, run, tree, out, err, gate),

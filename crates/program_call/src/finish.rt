@@ -5,9 +5,11 @@ ghost use Rattle.machine_book.specs.declared.outlet.Flow.{Flow};
 ghost use Rattle.program_call.specs.Ends.{err_text, status_of};
 ghost use Rattle.program_call.specs.Results.{number_by, worst_by, lines_by, AreWhole, AllEnded};
 ghost use Rattle.program_call.specs.Sinks.{at, Gets, status_by};
+ghost use Rattle.program_call.specs.Statuses.{sink_fault, want_of_memory};
 
 use crate::line::line_of;
 use crate::outlet::say;
+use crate::status::{ERROR_END, NORMAL_END, SINK_FAULT, SPENT_BUDGET, TREE_FAULT, WANT_OF_MEMORY};
 use base_types::{NoMemory, Text};
 use machine_book::Flow;
 use script_end::Ending;
@@ -17,23 +19,23 @@ use tree_files::Sink;
 /// How a script ended, or that memory was wanting.
 pub type Came = Result<Ending, NoMemory>;
 
-/// The number of what came of a script.
+/// The status of what came of a script.
 fn number_of(came: &Came) -> u8
     ensures { result ≡ number_by came.now }
 {
     match came {
-        Ok(Ending::Normal) | Err(_) => 0,
-        Ok(Ending::Raised(_)) => 1,
-        Ok(Ending::Fuel) => 3,
-        Ok(Ending::Read) => 4,
+        Ok(Ending::Normal) | Err(_) => NORMAL_END,
+        Ok(Ending::Raised(_)) => ERROR_END,
+        Ok(Ending::Fuel) => SPENT_BUDGET,
+        Ok(Ending::Read) => TREE_FAULT,
     }
 }
 
-/// The number of the worst.
+/// The status of the worst.
 fn worst_of(results: &[Came]) -> u8
     ensures { result ≡ worst_by results.now }
 {
-    let mut worst = 0;
+    let mut worst = NORMAL_END;
     for came in results {
         worst = number_of(came).max(worst);
     }
@@ -64,7 +66,7 @@ pub fn status_by(good: u8, bad: u8, out: Flow, err: Flow) -> u8
     ensures { result ≡ status_by good bad out err }
 {
     match (out, err) {
-        (Flow::Short, _) | (_, Flow::Short) => 6,
+        (Flow::Short, _) | (_, Flow::Short) => WANT_OF_MEMORY,
         (Flow::Open, Flow::Open) => good,
         _ => bad,
     }
@@ -95,11 +97,11 @@ pub fn finish<K: Sink>(
     ensures leaves { (history : List Entry) → AllEnded 0 results.now history
         → (flow : Flow) × Gets (at K.written K.faults err.old) (err_text scripts.now history)
         (at K.written K.faults err.new) flow
-        × (result ≡ status_by (status_of (length scripts.now) history) 5 out flow) }
-    ensures short { (result ≡ 6) ⊎ AreWhole results.now }
+        × (result ≡ status_by (status_of (length scripts.now) history) sink_fault out flow) }
+    ensures short { (result ≡ want_of_memory) ⊎ AreWhole results.now }
     ensures faults_grow { K.faults err.old ≤ K.faults err.new }
 {
     let lines = lines_of(alloc, scripts, results);
     let said = say_line(err, lines);
-    status_by(worst_of(results), 5, out, said)
+    status_by(worst_of(results), SINK_FAULT, out, said)
 }

@@ -13,6 +13,7 @@ mod outlet;
 mod report;
 mod run;
 mod scripts;
+mod status;
 mod together;
 
 pub use alone::run_alone;
@@ -24,4 +25,7 @@ pub use outlet::Out;
 pub use report::{Left, Report, with_plan, without_run};
 pub use run::run_scripts;
 pub use scripts::Scripts;
+pub use status::{
+    ERROR_END, NORMAL_END, REFUSAL, SINK_FAULT, SPENT_BUDGET, TREE_FAULT, WANT_OF_MEMORY,
+};
 pub use together::run_together;

@@ -105,7 +105,12 @@ impl<K: Sink> Out<K> {
 }
 
 impl<K: Sink> Outlet for Out<K> {
-    ghost out = { λ o. record { trace = o.trace; written = K.written o.sink; faults = K.faults o.sink; flow = o.flow } };
+    ghost out = { λ o. record {
+      trace = o.trace;
+      written = K.written o.sink;
+      faults = K.faults o.sink;
+      flow = o.flow;
+    } };
 
     ghost piece = { piece };
 

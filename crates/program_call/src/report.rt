@@ -1,6 +1,8 @@
 //! How a call ended.
 ghost use Rattle.std.specs.Prelude.{◌≡◌, Some, None};
+ghost use Rattle.program_call.specs.Statuses.{want_of_memory};
 
+use crate::status::WANT_OF_MEMORY;
 use base_types::Seq;
 use import_words::Plan;
 use machine_events::Entry;
@@ -8,9 +10,7 @@ use machine_events::Entry;
 /// How a call of the program ended.
 #[derive(Drop)]
 pub struct Report {
-    /// The exit status: 0 where all went well, 1 where an error left a script, 2 where the words or a
-    /// script were refused, 3 where a budget was spent, 4 where a file could not be read, 5 where a
-    /// sink failed, 6 for want of memory.
+    /// The exit status: one of those from `NORMAL_END` to `WANT_OF_MEMORY`.
     pub status: u8,
     /// What the words asked for, where they were accepted.
     pub plan: Option<Plan>,
@@ -37,10 +37,10 @@ pub fn of_run(status: u8, history: Seq<Entry>) -> Left
 
 /// A run for whose history there was no memory.
 pub fn unbegun() -> Left
-    ensures { result ≡ record { status = 6; history = None } }
+    ensures { result ≡ record { status = want_of_memory; history = None } }
 {
     Left {
-        status: 6,
+        status: WANT_OF_MEMORY,
         history: None,
     }
 }

@@ -1,8 +1,8 @@
 //! A run of one script or of several.
-ghost use Rattle.std.specs.Prelude.{◌≡◌, ◌≤◌, length};
+ghost use Rattle.std.specs.Prelude.{◌≡◌, length};
 ghost use Rattle.program_call.specs.Runs.{Gives};
 ghost use Rattle.program_call.specs.Scripts.{AreFew};
-ghost use Rattle.program_call.specs.Sinks.{at, moment};
+ghost use Rattle.program_call.specs.Sinks.{at, moment, Passes};
 
 use crate::alone::run_alone;
 use crate::report::Left;
@@ -36,14 +36,13 @@ pub fn run_scripts<
 ) -> Left
     requires few { AreFew plan.now.scripts }
     requires texts { length texts ≡ length plan.now.scripts }
-    ensures run { Gives S.means plan.now texts (T.files tree.old)
-        (moment T.faults T.lists O.written O.faults K.written K.faults tree.old out.old err.old)
-        (moment T.faults T.lists O.written O.faults K.written K.faults tree.new out.new err.new)
-        result.history result.status }
-    ensures files { T.files tree.new ≡ T.files tree.old }
-    ensures faults_grow { T.faults tree.old ≤ T.faults tree.new }
-    ensures out_faults { O.faults out.old ≤ O.faults out.new }
-    ensures err_faults { K.faults err.old ≤ K.faults err.new }
+    ensures run { Gives S.means plan.now texts
+        (moment T.files T.faults T.lists tree.old (at O.written O.faults out.old) (at K.written K.faults err.old))
+        (moment T.files T.faults T.lists tree.new (at O.written O.faults out.new) (at K.written K.faults err.new))
+        result }
+    ensures passes { Passes
+        (moment T.files T.faults T.lists tree.old (at O.written O.faults out.old) (at K.written K.faults err.old))
+        (moment T.files T.faults T.lists tree.new (at O.written O.faults out.new) (at K.written K.faults err.new)) }
 {
     if plan.scripts.len() == 1 {
         return run_alone::<S, T, O, K>(alloc, plan, texts, tree, out, err);

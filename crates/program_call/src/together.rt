@@ -9,7 +9,8 @@ ghost use Rattle.round_run.specs.Ran.{counted};
 ghost use Rattle.program_call.specs.Ends.{err_text, status_of};
 ghost use Rattle.program_call.specs.Results.{AreWhole, AllEnded};
 ghost use Rattle.program_call.specs.Runs.{Gives};
-ghost use Rattle.program_call.specs.Sinks.{at, moment, Gets, status_by};
+ghost use Rattle.program_call.specs.Sinks.{at, moment, Gets, Passes, status_by};
+ghost use Rattle.program_call.specs.Statuses.{sink_fault, want_of_memory};
 ghost use Rattle.program_call.specs.Together.{RanTogether};
 
 use crate::begin::{Begun, begin};
@@ -17,6 +18,7 @@ use crate::finish::{Came, finish};
 use crate::outlet::Out;
 use crate::report::{Left, of_run, unbegun};
 use crate::scripts::Scripts;
+use crate::status::WANT_OF_MEMORY;
 use base_types::{Seq, Text};
 use import_words::RunPlan;
 use machine_book::{Book, Flow, Outlet};
@@ -94,13 +96,13 @@ fn finish_some<K: Sink>(
     ensures leaves { (history : List Entry) → IfSome results.now (λ results. AllEnded 0 results.items history)
         → (flow : Flow) × Gets (at K.written K.faults err.old) (err_text scripts.now history)
         (at K.written K.faults err.new) flow
-        × (result ≡ status_by (status_of (length scripts.now) history) 5 out flow) }
-    ensures short { (result ≡ 6) ⊎ IsSomeAnd results.now (λ results. AreWhole results.items) }
+        × (result ≡ status_by (status_of (length scripts.now) history) sink_fault out flow) }
+    ensures short { (result ≡ want_of_memory) ⊎ IsSomeAnd results.now (λ results. AreWhole results.items) }
     ensures faults_grow { K.faults err.old ≤ K.faults err.new }
 {
     match results {
         Some(results) => finish(alloc, err, scripts, out, results.as_slice()),
-        None => 6,
+        None => WANT_OF_MEMORY,
     }
 }
 
@@ -127,14 +129,13 @@ pub fn run_together<
     requires some { 2 ≤ length plan.now.scripts }
     requires few { length plan.now.scripts ≤ 16 }
     requires texts { length texts ≡ length plan.now.scripts }
-    ensures run { Gives S.means plan.now texts (T.files tree.old)
-        (moment T.faults T.lists O.written O.faults K.written K.faults tree.old out.old err.old)
-        (moment T.faults T.lists O.written O.faults K.written K.faults tree.new out.new err.new)
-        result.history result.status }
-    ensures files { T.files tree.new ≡ T.files tree.old }
-    ensures faults_grow { T.faults tree.old ≤ T.faults tree.new }
-    ensures out_faults { O.faults out.old ≤ O.faults out.new }
-    ensures err_faults { K.faults err.old ≤ K.faults err.new }
+    ensures run { Gives S.means plan.now texts
+        (moment T.files T.faults T.lists tree.old (at O.written O.faults out.old) (at K.written K.faults err.old))
+        (moment T.files T.faults T.lists tree.new (at O.written O.faults out.new) (at K.written K.faults err.new))
+        result }
+    ensures passes { Passes
+        (moment T.files T.faults T.lists tree.old (at O.written O.faults out.old) (at K.written K.faults err.old))
+        (moment T.files T.faults T.lists tree.new (at O.written O.faults out.new) (at K.written K.faults err.new)) }
 {
     let Ok(it) = begin::<S>(alloc, plan, texts) else {
         return unbegun();

@@ -28,7 +28,8 @@ pub fn expression(
     // What is read is spelled by the tokens before those that are left.
     ensures spelled { IfOk result (λ p. IsFront IsExpr room tokens.now p.0 p.1.now) }
     // What is spelled so is read, where the token behind it does not go on with an expression.
-    ensures only { (front rest : List Lexeme) (value : Spelled) → tokens.now ≡ front ++ rest → IsExpr room front value → reading.strength (head_of rest) < 1 → GivesAt (λ x. x) result (given value rest) }
+    ensures only { (front rest : List Lexeme) (value : Spelled) → tokens.now ≡ front ++ rest → IsExpr room front value
+        → reading.strength (head_of rest) < 1 → GivesAt (λ x. x) result (given value rest) }
     // The refused token is the first one that no expression has after the tokens before it.
     ensures refused { (fault : Fault) → result ≡ Err (Refused fault) → IsFirstRefused IsExpr room tokens.now fault }
 {

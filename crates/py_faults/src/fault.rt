@@ -145,7 +145,8 @@ fn lacking(
     name: &str,
     back: &str,
 ) -> Result<Raised, NoMemory>
-    ensures { IfOk result (λ error. error ≡ table.raised kinds.AttributeError (front.now ++ module.now ++ codes "' has no attribute '" ++ name.now ++ back.now)) }
+    ensures { IfOk result (λ error. error ≡ table.raised kinds.AttributeError
+        (front.now ++ module.now ++ codes "' has no attribute '" ++ name.now ++ back.now)) }
 {
     let start = joined(alloc, front, module, "' has no attribute '")?;
     around(alloc, Kind::AttributeError, start.as_str(), name, back)
@@ -211,7 +212,8 @@ fn import_error(alloc: Global, front: &str, name: Text, back: &str) -> Result<Ra
 
 /// The error of a wrong number of arguments for a built-in function or a method.
 fn argument_count(alloc: Global, name: &str) -> Result<Raised, NoMemory>
-    ensures { IfOk result (λ error. error ≡ table.raised kinds.TypeError (codes "wrong number of arguments for " ++ name.now ++ codes "()")) }
+    ensures { IfOk result (λ error. error ≡ table.raised kinds.TypeError
+        (codes "wrong number of arguments for " ++ name.now ++ codes "()")) }
 {
     around(
         alloc,
@@ -259,7 +261,8 @@ fn cannot_import(
     place: &Place,
     name: &str,
 ) -> Result<Raised, NoMemory>
-    ensures { IfOk result (λ error. error ≡ error_of (faults.CannotImport is_initialising «module» place.now name.now)) }
+    ensures { IfOk result
+        (λ error. error ≡ error_of (faults.CannotImport is_initialising «module» place.now name.now)) }
 {
     let back = looked_in(alloc, is_initialising, module.as_str(), place)?;
     let text = joined(alloc, "cannot import name '", name, back.as_str())?;

@@ -76,7 +76,8 @@ impl Work {
     /// Takes off the frames that a leave passes, and the first one that stops it. None exactly where
     /// no frame stops it; then no frame is left.
     pub fn unwind(&mut self, leave: &Leave) -> Option<Frame>
-        ensures { MatchOption result ((unwound leave.now self.old ≡ []) × (self.new ≡ [])) (λ frame. unwound leave.now self.old ≡ frame ∷ self.new) }
+        ensures { MatchOption result ((unwound leave.now self.old ≡ []) × (self.new ≡ []))
+            (λ frame. unwound leave.now self.old ≡ frame ∷ self.new) }
     {
         while let Some(frame) = self.pop() {
             if stops(leave, &frame) {

@@ -37,7 +37,8 @@ pub(crate) trait Steps: Drop {
         ensures { IfOk result (λ procedure. procedure ≡ held self) };
 
     // Fed by the work it does just that.
-    ghost is_fed: { (w : World) (d : ℕ) (it : Self) (input : Input) → fed w d (held it) input ≡ means (inside_at w d) it input };
+    ghost is_fed: { (w : World) (d : ℕ) (it : Self) (input : Input)
+        → fed w d (held it) input ≡ means (inside_at w d) it input };
 }
 
 impl Steps for Importer {

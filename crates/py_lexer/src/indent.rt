@@ -34,7 +34,8 @@ fn levels_left(stack: &[Columns], at: Columns) -> usize
 pub fn settle(stack: &mut Vec<Columns>, at: Columns) -> Result<Change, WordError>
     requires { 0 < length stack.old.items }
     ensures opened { IfOk result (λ _. 0 < length stack.new.items) }
-    ensures value { Changes (reverse stack.old.items) (reverse stack.new.items) result (settled (reverse stack.old.items) at) }
+    ensures value { Changes (reverse stack.old.items) (reverse stack.new.items) result
+        (settled (reverse stack.old.items) at) }
 {
     settle_last(stack, at)
 }

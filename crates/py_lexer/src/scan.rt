@@ -134,7 +134,8 @@ impl Scanner {
     #[tactic(auto, unfolding(crate::specs::Reading::pass))]
     fn pass<'a>(&mut self, gap: Gap, chars: &'a [char]) -> Result<&'a [char], ScanError>
         requires room { self.old.line + length chars.now < 2 ^ 31 }
-        ensures value { Comes (λ rest. (state_of self.new, rest.now)) result (Ok (reading.pass gap (state_of self.old) chars.now)) }
+        ensures value { Comes (λ rest. (state_of self.new, rest.now)) result
+            (Ok (reading.pass gap (state_of self.old) chars.now)) }
         ensures shorter { IfOk result (λ rest. length rest.now ≤ length chars.now) }
         ensures kept { self.new.stack.items ≡ self.old.stack.items }
         ensures lines { self.new.line ≤ self.old.line + 1 }
@@ -154,7 +155,8 @@ impl Scanner {
     #[tactic(auto, unfolding(crate::specs::Reading::pass))]
     fn end_line<'a>(&mut self, chars: &'a [char]) -> Result<&'a [char], ScanError>
         requires room { self.old.line + length chars.now < 2 ^ 31 }
-        ensures value { Comes (λ rest. (state_of self.new, rest.now)) result (Ok (reading.pass Gap.Ended (state_of self.old) chars.now)) }
+        ensures value { Comes (λ rest. (state_of self.new, rest.now)) result
+            (Ok (reading.pass Gap.Ended (state_of self.old) chars.now)) }
         ensures shorter { IfOk result (λ rest. length rest.now ≤ length chars.now) }
         ensures kept { self.new.stack.items ≡ self.old.stack.items }
         ensures lines { self.new.line ≤ self.old.line + 1 }
@@ -228,11 +230,13 @@ impl Scanner {
         requires open { 0 < length self.old.stack.items }
         requires lines { self.old.line + length chars.now < 2 ^ 31 }
         requires depths { depth_of self.old.mode + length chars.now < 2 ^ 31 }
-        ensures value { Comes (λ rest. (state_of self.new, rest.now)) result (reading.take_word (state_of self.old) chars.now) }
+        ensures value { Comes (λ rest. (state_of self.new, rest.now)) result
+            (reading.take_word (state_of self.old) chars.now) }
         ensures open { IfOk result (λ _. 0 < length self.new.stack.items) }
         ensures shorter { IfOk result (λ rest. length rest.now < length chars.now) }
         ensures lines { IfOk result (λ rest. self.new.line + length rest.now ≤ self.old.line + length chars.now) }
-        ensures depths { IfOk result (λ rest. depth_of self.new.mode + length rest.now ≤ depth_of self.old.mode + length chars.now) }
+        ensures depths { IfOk result
+            (λ rest. depth_of self.new.mode + length rest.now ≤ depth_of self.old.mode + length chars.now) }
     {
         self.begin()?;
         match word(alloc, chars) {
@@ -250,11 +254,13 @@ impl Scanner {
         requires open { 0 < length self.old.stack.items }
         requires lines { self.old.line + length chars.now < 2 ^ 31 }
         requires depths { depth_of self.old.mode + length chars.now < 2 ^ 31 }
-        ensures value { Comes (λ rest. (state_of self.new, rest.now)) result (reading.step (state_of self.old) chars.now) }
+        ensures value { Comes (λ rest. (state_of self.new, rest.now)) result
+            (reading.step (state_of self.old) chars.now) }
         ensures open { IfOk result (λ _. 0 < length self.new.stack.items) }
         ensures shorter { IfOk result (λ rest. length rest.now < length chars.now) }
         ensures lines { IfOk result (λ rest. self.new.line + length rest.now ≤ self.old.line + length chars.now) }
-        ensures depths { IfOk result (λ rest. depth_of self.new.mode + length rest.now ≤ depth_of self.old.mode + length chars.now) }
+        ensures depths { IfOk result
+            (λ rest. depth_of self.new.mode + length rest.now ≤ depth_of self.old.mode + length chars.now) }
     {
         match gap_at(chars) {
             Some((gap, rest)) => self.pass(gap, rest),

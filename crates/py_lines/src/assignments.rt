@@ -43,7 +43,8 @@ fn augmented_name(
     tokens: &[Lexeme],
     room: usize,
 ) -> Result<(Stmt, &[Lexeme]), ReadError>
-    ensures value { (t : Lexeme) → GivesAt (λ x. x) result (reading.augmented_by room (Some name) operator t tokens.now) }
+    ensures value { (t : Lexeme) → GivesAt (λ x. x) result
+        (reading.augmented_by room (Some name) operator t tokens.now) }
     ensures shorter { Shortens tokens.now result }
 {
     let (value, rest) = expr(alloc, tokens, room)?;

@@ -53,7 +53,8 @@ fn listed_stmt(
     tokens: &[Lexeme],
     room: usize,
 ) -> Result<(Stmts, &[Lexeme]), ReadError>
-    ensures value { GivesAt stmts_of result (listed_item (reading.simple context room) reading.semicolon (stmts_of stmts) tokens.now) }
+    ensures value { GivesAt stmts_of result (listed_item (reading.simple context room) reading.semicolon
+        (stmts_of stmts) tokens.now) }
     ensures shorter { Shortens tokens.now result }
 {
     let (next, rest) = simple(alloc, context, tokens, room)?;
@@ -77,7 +78,8 @@ fn listed_stmts(
     tokens: &[Lexeme],
     room: usize,
 ) -> Result<(Stmts, &[Lexeme]), ReadError>
-    ensures value { GivesAt stmts_of result (listed reading.goes_on (reading.simple context room) reading.semicolon tokens.now) }
+    ensures value { GivesAt stmts_of result (listed reading.goes_on
+        (reading.simple context room) reading.semicolon tokens.now) }
     ensures shorter { Shortens tokens.now result }
 {
     let none = Stmts {

@@ -105,7 +105,12 @@ fn within_line(place: Place, lexeme: &Lexeme) -> Place
 
 /// The place behind the opening token of an indented block.
 fn indented(place: Place) -> Result<Place, NoMemory>
-    ensures { IfOk result (λ it. it ≡ record { blocks = place.blocks ++ place.here ∷ []; is_fresh = place.is_fresh; opening = place.opening; here = place.here }) }
+    ensures { IfOk result (λ it. it ≡ record {
+      blocks = place.blocks ++ place.here ∷ [];
+      is_fresh = place.is_fresh;
+      opening = place.opening;
+      here = place.here;
+    }) }
 {
     let here = place.here;
     let mut blocks = place.blocks;
@@ -120,7 +125,12 @@ fn indented(place: Place) -> Result<Place, NoMemory>
 
 /// The place behind the closing token of an indented block.
 fn dedented(place: Place) -> Place
-    ensures { result ≡ record { blocks = take (length place.blocks - 1) place.blocks; is_fresh = place.is_fresh; opening = place.opening; here = place.here } }
+    ensures { result ≡ record {
+      blocks = take (length place.blocks - 1) place.blocks;
+      is_fresh = place.is_fresh;
+      opening = place.opening;
+      here = place.here;
+    } }
 {
     let mut blocks = place.blocks;
     blocks.drop_last();

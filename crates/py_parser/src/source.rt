@@ -42,7 +42,9 @@ fn refusal(
     requires some { 0 < fault.left }
     requires within { fault.left ≤ length tokens.now }
     requires same { lexemes.now ≡ lexemes_of tokens.now }
-    ensures { IfOk result (λ error. (t : Token) → slice_get tokens.now (length tokens.now - fault.left) ≡ Some t → error ≡ kinds.refusal_of fault.kind (places.inside_finally (take (length tokens.now - fault.left) (lexemes_of tokens.now))) t) }
+    ensures { IfOk result (λ error. (t : Token) → slice_get tokens.now (length tokens.now - fault.left) ≡ Some t
+        → error ≡ kinds.refusal_of fault.kind (places.inside_finally
+        (take (length tokens.now - fault.left) (lexemes_of tokens.now))) t) }
 {
     let at = tokens.len() - fault.left;
     let inside = inside_finally(alloc, &lexemes[..at])?;

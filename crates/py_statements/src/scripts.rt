@@ -36,7 +36,8 @@ fn top() -> Context
 /// The statements of a script.
 #[tactic(auto, unfolding(token_reading::specs::Many::many))]
 fn top_stmts(alloc: Global, tokens: &[Lexeme], room: usize) -> Result<(Stmts, &[Lexeme]), ReadError>
-    ensures { GivesAt stmts_of result (rounds reading.begins_stmt (reading.next_stmt (reading.stmt room) contexts.top) ([], 0) tokens.now) }
+    ensures { GivesAt stmts_of result (rounds reading.begins_stmt (reading.next_stmt (reading.stmt room) contexts.top)
+        ([], 0) tokens.now) }
 {
     let mut found = Stmts {
         found: Seq::new(alloc),

@@ -88,7 +88,8 @@ pub fn next_stmt(
     tokens: &[Lexeme],
     room: usize,
 ) -> Result<(Stmts, &[Lexeme]), ReadError>
-    ensures value { GivesAt stmts_of result (reading.next_stmt (reading.stmt room) context (stmts_of stmts) tokens.now) }
+    ensures value { GivesAt stmts_of result (reading.next_stmt (reading.stmt room) context
+        (stmts_of stmts) tokens.now) }
     ensures shorter { Shortens tokens.now result }
 {
     let (more, rest) = stmt(alloc, context, stmts.next, tokens, room)?;
@@ -247,7 +248,8 @@ fn next_elif(
     tokens: &[Lexeme],
     room: usize,
 ) -> Result<(Branches, &[Lexeme]), ReadError>
-    ensures value { GivesAt branches_of result (reading.next_elif (reading.stmt room) room context (branches_of branches) tokens.now) }
+    ensures value { GivesAt branches_of result (reading.next_elif (reading.stmt room) room context
+        (branches_of branches) tokens.now) }
     ensures shorter { Shortens tokens.now result }
 {
     match tokens {
@@ -398,7 +400,8 @@ fn with_handler(
     body: Stmts,
     is_open: bool,
 ) -> Result<Handlers, NoMemory>
-    ensures { IfOk result (λ it. handlers_of it ≡ reading.with_handler handlers.found kinds bound (stmts_of body) is_open) }
+    ensures { IfOk result (λ it. handlers_of it ≡ reading.with_handler handlers.found kinds bound
+        (stmts_of body) is_open) }
 {
     let next = body.next;
     let handler = Handler {
@@ -441,7 +444,8 @@ fn handler_rest(
     tokens: &[Lexeme],
     room: usize,
 ) -> Result<(Handlers, &[Lexeme]), ReadError>
-    ensures value { GivesAt handlers_of result (reading.handler_rest (reading.stmt room) room context (handlers_of handlers) tokens.now) }
+    ensures value { GivesAt handlers_of result (reading.handler_rest (reading.stmt room) room context
+        (handlers_of handlers) tokens.now) }
     ensures shorter { Shortens tokens.now result }
 {
     match tokens {
@@ -478,7 +482,8 @@ fn next_handler(
     tokens: &[Lexeme],
     room: usize,
 ) -> Result<(Handlers, &[Lexeme]), ReadError>
-    ensures value { GivesAt handlers_of result (reading.next_handler (reading.stmt room) room context (handlers_of handlers) tokens.now) }
+    ensures value { GivesAt handlers_of result (reading.next_handler (reading.stmt room) room context
+        (handlers_of handlers) tokens.now) }
     ensures shorter { Shortens tokens.now result }
 {
     match tokens {
@@ -569,7 +574,8 @@ fn with_handlers(
     tokens: &[Lexeme],
     room: usize,
 ) -> Result<(Stmts, &[Lexeme]), ReadError>
-    ensures value { GivesAt stmts_of result (with_handlers (reading.stmt room) room context (stmts_of body) tokens.now) }
+    ensures value { GivesAt stmts_of result (with_handlers (reading.stmt room) room context
+        (stmts_of body) tokens.now) }
     ensures shorter { Shortens tokens.now result }
 {
     let (handlers, rest) = handlers(alloc, context, body.next, tokens, room)?;
@@ -593,7 +599,8 @@ fn after_try(
     tokens: &[Lexeme],
     room: usize,
 ) -> Result<(Stmts, &[Lexeme]), ReadError>
-    ensures value { GivesAt stmts_of result (reading.after_try (reading.stmt room) room context (stmts_of body) tokens.now) }
+    ensures value { GivesAt stmts_of result (reading.after_try (reading.stmt room) room context
+        (stmts_of body) tokens.now) }
     ensures shorter { Shortens tokens.now result }
 {
     match tokens {
@@ -629,7 +636,8 @@ fn indented_body<'a>(
     tokens: &'a [Lexeme],
     room: usize,
 ) -> Result<(FunctionBody, &'a [Lexeme]), ReadError>
-    ensures value { GivesAt body_of result (reading.indented_body (reading.stmt room) parameters.now number tokens.now) }
+    ensures value { GivesAt body_of result (reading.indented_body
+        (reading.stmt room) parameters.now number tokens.now) }
     ensures shorter { Shortens tokens.now result }
 {
     let (globals, rest) = globals(alloc, parameters, tokens)?;
@@ -658,7 +666,8 @@ fn after_newline<'a>(
     tokens: &'a [Lexeme],
     room: usize,
 ) -> Result<(FunctionBody, &'a [Lexeme]), ReadError>
-    ensures value { GivesAt body_of result (reading.after_newline (reading.stmt room) parameters.now number tokens.now) }
+    ensures value { GivesAt body_of result (reading.after_newline
+        (reading.stmt room) parameters.now number tokens.now) }
     ensures shorter { Shortens tokens.now result }
 {
     let rest = indent(tokens)?;
@@ -675,7 +684,8 @@ fn function_body<'a>(
     tokens: &'a [Lexeme],
     room: usize,
 ) -> Result<(FunctionBody, &'a [Lexeme]), ReadError>
-    ensures value { GivesAt body_of result (reading.function_body (reading.stmt room) room parameters.now number tokens.now) }
+    ensures value { GivesAt body_of result (reading.function_body
+        (reading.stmt room) room parameters.now number tokens.now) }
     ensures shorter { Shortens tokens.now result }
 {
     match tokens {

@@ -1,7 +1,8 @@
 //! The call that runs a made workload.
 ghost use Rattle.std.specs.Prelude.{◌≡◌, ◌≤◌, Some};
 ghost use Rattle.import_words.specs.declared.plan.Plan.TheVariants as plans;
-ghost use Rattle.made_call.specs.MadeRuns.{MadeGives, sinks};
+ghost use Rattle.made_call.specs.MadeRuns.{MadeGives, sinks, workload_of};
+ghost use Rattle.program_call.specs.Answers.{left_of};
 ghost use Rattle.program_call.specs.Sinks.{at};
 ghost use Rattle.py_meaning.specs.Meaning.{meaning};
 ghost use Rattle.py_sources.specs.Sources.{sources};
@@ -56,10 +57,9 @@ pub fn run_made<R: Threads + Wait + Sync, K: Sink, G: Gate + Sync>(
 ) -> Report
     requires modules { 1 ≤ it.modules }
     requires scripts { (1 ≤ it.scripts) × (it.scripts ≤ 16) }
-    ensures run { MadeGives (meaning sources) it.seed it.modules it.scripts
+    ensures run { MadeGives (meaning sources) (workload_of it.seed it.modules it.scripts)
         (sinks (at K.written K.faults out.old) (at K.written K.faults err.old))
-        (sinks (at K.written K.faults out.new) (at K.written K.faults err.new))
-        result.history result.status }
+        (sinks (at K.written K.faults out.new) (at K.written K.faults err.new)) (left_of result) }
     ensures plan { result.plan ≡ Some (plans.Gen it.seed it.modules it.scripts) }
     ensures out_faults { K.faults out.old ≤ K.faults out.new }
     ensures err_faults { K.faults err.old ≤ K.faults err.new }

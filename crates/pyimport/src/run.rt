@@ -1,8 +1,9 @@
 //! The calls of the program.
 ghost use Rattle.std.specs.Prelude.{◌≡◌, ◌≤◌, None, length, map};
 ghost use Rattle.std.specs.String.{string_bytes};
+ghost use Rattle.program_call.specs.Answers.{left_of};
 ghost use Rattle.program_call.specs.Runs.{Gives};
-ghost use Rattle.program_call.specs.Sinks.{at, moment};
+ghost use Rattle.program_call.specs.Sinks.{at, moment, Passes};
 ghost use Rattle.py_meaning.specs.Meaning.{meaning};
 ghost use Rattle.py_sources.specs.Sources.{sources};
 ghost use Rattle.pyimport.specs.Answers.{Answers};
@@ -11,7 +12,9 @@ use crate::made::{numbers_of, run_made};
 use crate::script::Script;
 use base_types::Seq;
 use import_words::RunPlan;
-use program_call::{Report, call, plan_for, run_alone, run_together, with_plan, without_run};
+use program_call::{
+    Report, WANT_OF_MEMORY, call, plan_for, run_alone, run_together, with_plan, without_run,
+};
 use round_run::Gate;
 use std::alloc::Global;
 use std::sync::Wait;
@@ -30,15 +33,14 @@ pub fn solo<T: Tree, K: Sink>(
 ) -> Report
     requires script { length plan.now.scripts ≡ 1 }
     requires text { length texts ≡ 1 }
-    ensures run { Gives (meaning sources) plan.now texts (T.files tree.old)
-        (moment T.faults T.lists K.written K.faults K.written K.faults tree.old out.old err.old)
-        (moment T.faults T.lists K.written K.faults K.written K.faults tree.new out.new err.new)
-        result.history result.status }
+    ensures run { Gives (meaning sources) plan.now texts
+        (moment T.files T.faults T.lists tree.old (at K.written K.faults out.old) (at K.written K.faults err.old))
+        (moment T.files T.faults T.lists tree.new (at K.written K.faults out.new) (at K.written K.faults err.new))
+        (left_of result) }
     ensures plan { result.plan ≡ None }
-    ensures files { T.files tree.new ≡ T.files tree.old }
-    ensures faults_grow { T.faults tree.old ≤ T.faults tree.new }
-    ensures out_faults { K.faults out.old ≤ K.faults out.new }
-    ensures err_faults { K.faults err.old ≤ K.faults err.new }
+    ensures passes { Passes
+        (moment T.files T.faults T.lists tree.old (at K.written K.faults out.old) (at K.written K.faults err.old))
+        (moment T.files T.faults T.lists tree.new (at K.written K.faults out.new) (at K.written K.faults err.new)) }
 {
     let ran = run_alone::<Script, T, K, K>(alloc, plan, texts, tree, out, err);
     with_plan(ran, None)
@@ -60,15 +62,14 @@ pub fn run_all<R: Threads + Wait + Sync, T: Grove, K: Sink + Send, G: Gate + Syn
     requires some { 2 ≤ length plan.now.scripts }
     requires few { length plan.now.scripts ≤ 16 }
     requires texts { length texts ≡ length plan.now.scripts }
-    ensures run { Gives (meaning sources) plan.now texts (T.files tree.old)
-        (moment T.faults T.lists K.written K.faults K.written K.faults tree.old out.old err.old)
-        (moment T.faults T.lists K.written K.faults K.written K.faults tree.new out.new err.new)
-        result.history result.status }
+    ensures run { Gives (meaning sources) plan.now texts
+        (moment T.files T.faults T.lists tree.old (at K.written K.faults out.old) (at K.written K.faults err.old))
+        (moment T.files T.faults T.lists tree.new (at K.written K.faults out.new) (at K.written K.faults err.new))
+        (left_of result) }
     ensures plan { result.plan ≡ None }
-    ensures files { T.files tree.new ≡ T.files tree.old }
-    ensures faults_grow { T.faults tree.old ≤ T.faults tree.new }
-    ensures out_faults { K.faults out.old ≤ K.faults out.new }
-    ensures err_faults { K.faults err.old ≤ K.faults err.new }
+    ensures passes { Passes
+        (moment T.files T.faults T.lists tree.old (at K.written K.faults out.old) (at K.written K.faults err.old))
+        (moment T.files T.faults T.lists tree.new (at K.written K.faults out.new) (at K.written K.faults err.new)) }
 {
     let ran = run_together::<Script, R, T, K, K, G>(rt, alloc, plan, texts, tree, out, err, gate);
     with_plan(ran, None)
@@ -89,15 +90,14 @@ pub fn pyimport<R: Threads + Wait + Sync, T: Grove, K: Sink + Send, G: Gate + Sy
     err: &mut K,
     gate: &G,
 ) -> Report
-    ensures answers { Answers (map string_bytes words.now) (T.files tree.old)
-        (moment T.faults T.lists K.written K.faults K.written K.faults tree.old out.old err.old)
-        (moment T.faults T.lists K.written K.faults K.written K.faults tree.new out.new err.new)
-        result.status result.plan result.history }
-    ensures files { T.files tree.new ≡ T.files tree.old }
-    ensures faults_grow { T.faults tree.old ≤ T.faults tree.new }
+    ensures answers { Answers (map string_bytes words.now)
+        (moment T.files T.faults T.lists tree.old (at K.written K.faults out.old) (at K.written K.faults err.old))
+        (moment T.files T.faults T.lists tree.new (at K.written K.faults out.new) (at K.written K.faults err.new))
+        result }
+    ensures passes { Passes
+        (moment T.files T.faults T.lists tree.old (at K.written K.faults out.old) (at K.written K.faults err.old))
+        (moment T.files T.faults T.lists tree.new (at K.written K.faults out.new) (at K.written K.faults err.new)) }
     ensures lists { result.history ≡ None → T.lists tree.new ≡ T.lists tree.old }
-    ensures out_faults { K.faults out.old ≤ K.faults out.new }
-    ensures err_faults { K.faults err.old ≤ K.faults err.new }
 {
     match plan_for(alloc, words) {
         Ok(plan) => match numbers_of(&plan) {
@@ -107,6 +107,6 @@ pub fn pyimport<R: Threads + Wait + Sync, T: Grove, K: Sink + Send, G: Gate + Sy
             }
             None => call::<Script, R, T, K, G>(rt, alloc, words, plan, tree, out, err, gate),
         },
-        Err(_) => without_run(6, None),
+        Err(_) => without_run(WANT_OF_MEMORY, None),
     }
 }

@@ -14,5 +14,6 @@ pub fn one_text()
 /// Two sources that are spelled alike are one.
 #[tactic(auto, using(crate::proofs::Takes::one_source))]
 pub fn one_source()
-    ensures { (s t : List ℕ) → AllByRecursion (λ b. b < 256) s → AllByRecursion (λ b. b < 256) t → source s ≡ source t → s ≡ t }
+    ensures { (s t : List ℕ) → AllByRecursion (λ b. b < 256) s → AllByRecursion (λ b. b < 256) t → source s ≡ source t
+        → s ≡ t }
 {}

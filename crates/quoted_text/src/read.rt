@@ -55,7 +55,8 @@ fn source_of(alloc: Global, field: &[u8]) -> Result<Option<Seq<u8>>, NoMemory>
 pub fn read_source(alloc: Global, field: &[u8]) -> Result<Option<Seq<u8>>, NoMemory>
     ensures exact { IfOk result (λ o. o ≡ source_in field.now) }
     ensures given { IfOk result (λ o. IfSome o (λ bytes. field.now ≡ source bytes)) }
-    ensures only { (bytes : List ℕ) → AllByRecursion (λ b. b < 256) bytes → field.now ≡ source bytes → IfOk result (λ o. o ≡ Some bytes) }
+    ensures only { (bytes : List ℕ) → AllByRecursion (λ b. b < 256) bytes → field.now ≡ source bytes
+        → IfOk result (λ o. o ≡ Some bytes) }
 {
     source_of(alloc, field)
 }

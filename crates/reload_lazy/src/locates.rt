@@ -111,7 +111,8 @@ pub(crate) fn on_entry(
     parent: Dotted,
     reply: Reply,
 ) -> Result<Want, NoMemory>
-    ensures goes { IfOk result (ReloadGoes (does_at p.old name (await.ParentEntry epoch parent) (ins.Replied reply)) p.new) }
+    ensures goes { IfOk result (ReloadGoes (does_at p.old name (await.ParentEntry epoch parent)
+        (ins.Replied reply)) p.new) }
 {
     match reply {
         Reply::Slot(slot) => on_parent(p, name, epoch, parent, slot),
@@ -145,7 +146,8 @@ fn on_path(
     parent: ModRef,
     path: Value,
 ) -> Result<Want, NoMemory>
-    ensures goes { IfOk result (ReloadGoes (does_at p.old name (await.ParentPath epoch parent) (ins.Ended (flows.Went path))) p.new) }
+    ensures goes { IfOk result (ReloadGoes (does_at p.old name (await.ParentPath epoch parent)
+        (ins.Ended (flows.Went path))) p.new) }
 {
     match path {
         Value::List(items) => find(p, name, epoch, items),
@@ -166,7 +168,8 @@ pub(crate) fn on_parent_path(
     parent: ModRef,
     flow: Flow,
 ) -> Result<Want, NoMemory>
-    ensures goes { IfOk result (ReloadGoes (does_at p.old name (await.ParentPath epoch parent) (ins.Ended flow)) p.new) }
+    ensures goes { IfOk result (ReloadGoes (does_at p.old name (await.ParentPath epoch parent)
+        (ins.Ended flow)) p.new) }
 {
     match flow {
         Flow::Went(path) => on_path(p, name, epoch, parent, path),

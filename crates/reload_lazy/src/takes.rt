@@ -128,7 +128,8 @@ pub(crate) fn take_first(
 
 /// The lock is waited for, and then the next turn is taken.
 fn wait(p: &mut Reloader, name: Dotted, epoch: u64, finding: Finding) -> Want
-    ensures goes { ReloadGoes (λ inside s k. Makes ev.Wake (λ _. again p.old name epoch finding inside s k)) p.new result }
+    ensures goes { ReloadGoes (λ inside s k. Makes ev.Wake
+        (λ _. again p.old name epoch finding inside s k)) p.new result }
 {
     wait_for(p, name, Awaited::Waits { epoch, finding }, Want::Wait)
 }

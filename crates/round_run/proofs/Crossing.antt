@@ -15,7 +15,6 @@ use Rattle.base_types.proofs.seq.Seq.TheSendSync as seq
 use Rattle.base_types.proofs.text.Text.TheSendSync as text
 use Rattle.base_types.specs.contracts.text.Text as text_type
 use Rattle.base_types.proofs.path.Listing.TheSendSync as listing
-use Rattle.base_types.specs.contracts.path.Listing as listing_type
 use Rattle.base_types.proofs.path.TreePath.TheSendSync as tree_path
 use Rattle.spec_core.proofs.name.Dotted.TheSendSync as dotted
 use Rattle.spec_core.proofs.spec.Spec.TheSendSync as spec
@@ -49,6 +48,8 @@ use Rattle.machine_events.specs.contracts.event.Reply as reply_type
 use Rattle.machine_events.specs.contracts.event.Entry as entry_type
 use Rattle.module_lock.proofs.locks.Locks.TheSendSync as locks
 use Rattle.module_table.specs.contracts.table.Table as table_type
+use Rattle.kept_listing.specs.contracts.kept.KeptListing as kept_type
+use Rattle.kept_listing.proofs.kept.KeptListing.TheSendSync as kept
 use Rattle.machine_state.specs.contracts.state.State as state_type
 use Rattle.import_machine.specs.contracts.machine.Machine as machine_type
 use Rattle.import_machine.specs.contracts.machine.Machine.TheInside as machine_inside
@@ -159,7 +160,7 @@ entry-send = recorded_send entry_type.the_field.row _ _ entry_type.the_type.to_o
 
 state-field : IsSend state_type.the_field.row
 state-field = struct_send (structs.shape state_type.the_type)
-    (table-field, (locks.the_send, (path_map.the_send listing_type.the_row listing.the_send, (seq.the_send builtin.u32 (plain_send _ _ _ _ _), tt))))
+    (table-field, (locks.the_send, (path_map.the_send kept_type.the_row kept.the_send, (seq.the_send builtin.u32 (plain_send _ _ _ _ _), tt))))
 
 state-send : IsSend state_type.the_row
 state-send = recorded_send state_type.the_field.row _ _ state_type.the_type.to_one state-field

@@ -31,7 +31,8 @@ pub enum Change {
 
 /// How an event changes what is held.
 pub fn change_of(event: &Event) -> Result<Change, NoMemory>
-    ensures { IfOk result (λ change. (reply : Reply) (held : List Holding) → changed change reply held ≡ holds event.now reply held) }
+    ensures { IfOk result (λ change. (reply : Reply) (held : List Holding) → changed change reply held
+        ≡ holds event.now reply held) }
 {
     match event {
         Event::Take(name) => Ok(Change::Takes(name.copy()?)),

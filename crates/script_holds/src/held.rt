@@ -87,7 +87,8 @@ impl Held {
 
     /// Takes off the innermost. None exactly where nothing is held.
     pub fn pop(&mut self) -> Option<Hold>
-        ensures { MatchOption result ((held_in self.old ≡ []) × (held_in self.new ≡ [])) (λ hold. held_in self.old ≡ holding_of hold ∷ held_in self.new) }
+        ensures { MatchOption result ((held_in self.old ≡ []) × (held_in self.new ≡ []))
+            (λ hold. held_in self.old ≡ holding_of hold ∷ held_in self.new) }
     {
         if self.holds.is_empty() {
             return None;

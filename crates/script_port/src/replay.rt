@@ -37,9 +37,12 @@ impl<'a> ReplayPort<'a> {
 
 impl ReplayPort<'_> {
     fn next(&mut self, event: &Event) -> Result<Reply, Halt>
-        ensures ok { IfOk result (λ reply. (self.new.at ≡ self.old.at + 1) × (slice_get self.old.own.now self.old.at ≡ Some (record { event = event.now; reply = reply })) × Fits event.now reply) }
+        ensures ok { IfOk result (λ reply. (self.new.at ≡ self.old.at + 1)
+            × (slice_get self.old.own.now self.old.at ≡ Some (record { event = event.now; reply = reply }))
+            × Fits event.now reply) }
         ensures err { OnErr result (self.new.at ≡ self.old.at) }
-        ensures refused { IsErrOf result Halt.Refused → IsOther self.new.misfit (slice_get self.old.own.now self.old.at) event.now }
+        ensures refused { IsErrOf result Halt.Refused → IsOther self.new.misfit
+            (slice_get self.old.own.now self.old.at) event.now }
         ensures own { self.new.own.now ≡ self.old.own.now }
         ensures number { self.new.number ≡ self.old.number }
     {
@@ -66,7 +69,13 @@ impl ReplayPort<'_> {
 }
 
 impl Port for ReplayPort<'_> {
-    ghost view = { λ d. record { number = d.number; mine = pairs_of (take d.at d.own.now); ready = Unit {0}; later = λ c. c.own.now ≡ d.own.now; refuses = λ event. IsOther d.misfit (slice_get d.own.now d.at) event } };
+    ghost view = { λ d. record {
+      number = d.number;
+      mine = pairs_of (take d.at d.own.now);
+      ready = Unit {0};
+      later = λ c. c.own.now ≡ d.own.now;
+      refuses = λ event. IsOther d.misfit (slice_get d.own.now d.at) event;
+    } };
 
     fn call(&mut self, event: Event) -> Result<Reply, Halt> {
         self.next(&event)

@@ -36,7 +36,8 @@ impl Model for Dotted {
 impl Dotted {
     /// The name that a text spells. None exactly where the text is no dotted name.
     pub fn read(text: &Text) -> Result<Option<Dotted>, NoMemory>
-        ensures { IfOk result (λ read. MatchOption read (IsFalse (is_dotted text.now)) (λ name. (name ≡ text.now) × IsTrue (is_dotted text.now))) }
+        ensures { IfOk result (λ read. MatchOption read (IsFalse (is_dotted text.now))
+            (λ name. (name ≡ text.now) × IsTrue (is_dotted text.now))) }
     {
         if is_dotted(text.alloc(), text.as_str())? {
             Ok(Some(Dotted::of(text.copy()?)))

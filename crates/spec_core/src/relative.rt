@@ -57,7 +57,8 @@ pub fn resolve(
 /// The name without its last `count` parts. None where it has no more parts than that.
 fn ancestor(name: DottedView<'_>, count: u32) -> Option<DottedView<'_>>
     ensures none { result ≡ None → length (parts name.entry) ≤ count }
-    ensures some { IfSome result (λ it. (count < length (parts name.entry)) × (it ≡ front_parts (length (parts name.entry) - count) name.entry)) }
+    ensures some { IfSome result (λ it. (count < length (parts name.entry))
+        × (it ≡ front_parts (length (parts name.entry) - count) name.entry)) }
 {
     let mut name = name;
     'levels: for _ in 0..count {

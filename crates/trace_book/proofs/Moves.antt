@@ -9,6 +9,7 @@ use Rattle.machine_events.specs.declared.event.Reply.{Reply}
 use Rattle.machine_events.specs.declared.event.Entry.{Entry}
 use Rattle.machine_events.specs.Fitting.{Fits}
 use Rattle.machine_state.specs.declared.state.State.{State}
+use Rattle.machine_state.specs.Allowed.{allowed}
 use Rattle.machine_state.specs.Legal.{Allowed, IsLegal, replay}
 use Rattle.machine_laws.specs.Begun.{Begun, first}
 use Rattle.thread_knowledge.specs.Own.{own, Ready as HasTurn}
@@ -122,12 +123,12 @@ module _ {O : Type 0} (piece : Pieces) (out : O → Outgo) where
       let shown : b.history ≡ history_out me.1 = ap (λ (x : BoundTo O). x.history) is ∙ sym (history_is me busy) in
       subst (λ (p : State × List Entry). (g : Begun) × (first g ≡ p.0) → IsLegal p.0 p.1 → Allowed (replay p.0 p.1) t e) (λ i. (sym opens i, sym shown i)) may.allowed begun legal
 
-  -- what is allowed in that state, in the words of the seat
-  pub allowed_in : (me : Seated O) (busy : Busy piece out me) (t : ℕ) (e : Event) (b : BoundTo O) → b ≡ busy.0 → Allowed (replay b.opening b.history) t e → Allowed (replay me.0.base.opening (history_out me.1)) t e
-  allowed_in me busy t e b is may =
+  -- whether it is allowed in that state, in the words of the seat
+  pub allowed_in : (me : Seated O) (busy : Busy piece out me) (t : ℕ) (e : Event) (b : BoundTo O) → b ≡ busy.0 → allowed (replay b.opening b.history) t e ≡ allowed (replay me.0.base.opening (history_out me.1)) t e
+  allowed_in me busy t e b is =
       let opens : b.opening ≡ me.0.base.opening = ap (λ (x : BoundTo O). x.opening) is ∙ busy.2.opening in
       let shown : b.history ≡ history_out me.1 = ap (λ (x : BoundTo O). x.history) is ∙ sym (history_is me busy) in
-      subst (λ (p : State × List Entry). Allowed (replay p.0 p.1) t e) (λ i. (opens i, shown i)) may
+      λ i. allowed (replay (opens i) (shown i)) t e
 
   -- the book after an event, in the words of the seat
   pub grown : (me : Seated O) (busy : Busy piece out me) (b b' : BoundTo O) (e : Entry) → b ≡ busy.0 → b'.history ≡ b.history ++ e ∷ [] → b'.history ≡ history_out me.1 ++ e ∷ []

@@ -1,10 +1,11 @@
 -- What the seat of a pass is, between calls and while it has the turn, and what is told of a step at it.
-use Rattle.std.specs.Prelude.{◌≡◌, ℕ, List, [], ◌∷◌, ◌++◌, Some}
+use Rattle.std.specs.Prelude.{◌≡◌, ℕ, Bool, List, [], ◌∷◌, ◌++◌, Some}
 use Rattle.machine_events.specs.declared.event.Event.{Event}
 use Rattle.machine_events.specs.declared.event.Event.TheVariants.{Wake}
 use Rattle.machine_events.specs.declared.event.Reply.{Reply}
 use Rattle.machine_events.specs.declared.event.Entry.{Entry}
 use Rattle.machine_events.specs.Fitting.{Fits}
+use Rattle.machine_state.specs.Allowed.{allowed}
 use Rattle.machine_state.specs.Legal.{Allowed, IsLegal, replay}
 use Rattle.thread_knowledge.specs.Own.{own}
 use Rattle.machine_laws.specs.Begun.{Begun, first}
@@ -63,9 +64,13 @@ pub record Noted {O : Type 0} (piece : Pieces) (out : O → Outgo) (me after : S
   pub history : history_out after.1 ≡ longer_by me t e r
   pub made : Made me t e r
 
--- the book that the seat has out lets a thread that waits wake up
-abbrev pub MayWake : {O : Type 0} → Seated O → ℕ → Type 0
-MayWake me t = Allowed (replay me.0.base.opening (history_out me.1)) t Wake
+-- whether the machine of the book that the seat has out lets a thread that waits wake up
+abbrev pub may_wake : {O : Type 0} → Seated O → ℕ → Bool
+may_wake me t = allowed (replay me.0.base.opening (history_out me.1)) t Wake
+
+-- whether the machine lets a thread that waits wake up after all that the seat has seen
+abbrev pub wakes_after : {O : Type 0} → Seated O → ℕ → Bool
+wakes_after me t = allowed (replay me.0.base.opening me.0.seen) t Wake
 
 -- the seat without the turn, which has seen these entries
 abbrev pub resting : {O : Type 0} → Seated O → List Entry → Seated O

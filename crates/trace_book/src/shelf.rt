@@ -1,5 +1,5 @@
 //! The table with the book, and what a seat does on it.
-ghost use Rattle.std.specs.Prelude.{◌≡◌, ◌≢◌, ℕ, suc, ◌<◌, ◌≤◌, ◌+◌, ◌^◌, vec_len, vec_capacity, ◌++◌, ◌∷◌, [], ◌⊎◌, IfOk, IfErr, OnErr, IfSome, IfNone, MatchBool, IsTrue};
+ghost use Rattle.std.specs.Prelude.{◌≡◌, ◌≢◌, ℕ, suc, ◌<◌, ◌≤◌, ◌+◌, ◌^◌, vec_len, vec_capacity, ◌++◌, ◌∷◌, [], ◌⊎◌, IfOk, IfErr, OnErr, IfSome, IfNone, MatchBool, false};
 ghost use mathlib.Core.List.{IsPrefix};
 ghost use Rattle.machine_events.specs.declared.event.Event.TheVariants as events;
 ghost use Rattle.thread_knowledge.specs.Own.{own, Ready as HasTurn};
@@ -9,7 +9,7 @@ ghost use Rattle.trace_book.specs.Views.{Has, Within, view, first_view, numbers_
 ghost use Rattle.trace_book.specs.Rule.{Written};
 ghost use Rattle.trace_book.specs.Told.{new_passes, dealt, SamePlace};
 ghost use Rattle.trace_book.specs.Plays.{Took, history_out};
-ghost use Rattle.trace_book.specs.Seats.{Ready, Busy, MayMake, Made, Noted, MayWake, GoesOn, MadeAt, SameOwn, SameOf, RoundedToo, longer_by, resting, speaking, taken_in, seen_by_both};
+ghost use Rattle.trace_book.specs.Seats.{Ready, Busy, MayMake, Made, Noted, may_wake, wakes_after, GoesOn, MadeAt, SameOwn, SameOf, RoundedToo, longer_by, resting, speaking, taken_in, seen_by_both};
 
 use crate::bell::{Bell, frees};
 use crate::pass::Pass;
@@ -21,6 +21,7 @@ use machine_book::{Book, Halt, Outlet};
 use machine_events::{Event, Reply};
 use machine_knowledge::knows_is_allowed;
 use std::alloc::Global;
+use std::hint::spin_loop;
 use std::mem::replace;
 use std::sync::Wait;
 
@@ -35,6 +36,10 @@ const FREE: u64 = 0;
 const HELD: u64 = 1;
 
 const STOPPED: u64 = 2;
+
+// So often a thread tries to take the turn before it may sleep. One event holds the turn for about a
+// microsecond, and so many tries take a few, while going to sleep and being woken takes ten to fifty.
+const TRIES: u32 = 400;
 
 // The word that counts the entries.
 const COUNT: usize = 1;
@@ -100,7 +105,7 @@ impl<O: Outlet> Shelf<O> {
         requires busy { Busy O.piece O.out seat.old.me }
         ensures table { seat.new.table_id ≡ seat.old.table_id }
         ensures seat { seat.new.me ≡ seat.old.me }
-        ensures yes { IsTrue result → MayWake seat.old.me number }
+        ensures may { result ≡ may_wake seat.old.me number }
     {
         let Some(book) = self.table.shared.exchange(seat, HOME, None) else {
             unreachable!()
@@ -132,22 +137,60 @@ impl<O: Outlet> Shelf<O> {
         }
     }
 
-    // The turn, or false where the shelf is stopped.
+    // As `try_take`, which it does again for a while as long as another has the turn.
+    fn try_often(&self, seat: &mut Seat<O>, number: u32) -> u64
+        requires { (seat.old.table_id ≡ self.now.table.shared.table_id) × Ready seat.old.me number }
+        ensures table { seat.new.table_id ≡ seat.old.table_id }
+        ensures had { result ≡ 0 → Took O.piece O.out seat.old.me seat.new.me }
+        ensures not { result ≢ 0 → seat.new.me ≡ seat.old.me }
+    {
+        for _ in 0..TRIES {
+            let turn = self.try_take(seat, number);
+            if turn != HELD {
+                return turn;
+            }
+            spin_loop();
+        }
+        HELD
+    }
+
+    // The turn, or false where the shelf is stopped. It sleeps where the turn stays taken.
     fn take_turn<R: Wait>(&self, rt: &R, bell: &Bell, seat: &mut Seat<O>, number: u32) -> bool
         requires { (seat.old.table_id ≡ self.now.table.shared.table_id) × Ready seat.old.me number }
         ensures table { seat.new.table_id ≡ seat.old.table_id }
         ensures had { MatchBool result (Took O.piece O.out seat.old.me seat.new.me) (seat.new.me ≡ seat.old.me) }
     {
+        let turn = self.try_often(seat, number);
+        if turn == FREE {
+            return true;
+        }
+        if turn == STOPPED {
+            return false;
+        }
+        bell.turn.enter();
+        let had = self.sleep_for_turn(rt, bell, seat, number);
+        bell.turn.leave();
+        had
+    }
+
+    // As `take_turn`, for one who is counted in at the bell. It reads how often that rang before it
+    // tries, so a giving back after the tries keeps it from sleeping or wakes it. Once woken it tries
+    // often again, since another may have been quicker.
+    fn sleep_for_turn<R: Wait>(&self, rt: &R, bell: &Bell, seat: &mut Seat<O>, number: u32) -> bool
+        requires { (seat.old.table_id ≡ self.now.table.shared.table_id) × Ready seat.old.me number }
+        ensures table { seat.new.table_id ≡ seat.old.table_id }
+        ensures had { MatchBool result (Took O.piece O.out seat.old.me seat.new.me) (seat.new.me ≡ seat.old.me) }
+    {
         for _ in rt.forever() {
-            let turns = bell.turns(rt);
-            let turn = self.try_take(seat, number);
+            let rung = bell.turn.rung(rt);
+            let turn = self.try_often(seat, number);
             if turn == FREE {
                 return true;
             }
             if turn == STOPPED {
                 return false;
             }
-            bell.sleep_for_turn(rt, turns);
+            bell.turn.sleep(rt, rung);
         }
         unreachable!()
     }
@@ -178,7 +221,7 @@ impl<O: Outlet> Shelf<O> {
         }
         let freed = frees(&event);
         let done = self.make(seat, number, event);
-        bell.ring(rt, freed || done.is_err());
+        bell.ring(rt, freed, done.is_err());
         match done {
             Ok(reply) => Ok(reply),
             Err(_) => Err(Halt::NoMemory),
@@ -201,12 +244,14 @@ impl<O: Outlet> Shelf<O> {
         ensures ok { IfOk result (MadeAt seat.old.table_id number seat.old.me seat.new.me events.Wake) }
         ensures err { OnErr result (SameOwn number seat.old.me seat.new.me) }
     {
+        bell.locks.enter();
         for _ in rt.forever() {
-            let locks = bell.locks(rt);
+            let rung = bell.locks.rung(rt);
             if let Some(done) = self.try_wake(rt, bell, seat, number) {
+                bell.locks.leave();
                 return done;
             }
-            bell.sleep_for_lock(rt, locks);
+            bell.locks.sleep(rt, rung);
         }
         unreachable!()
     }
@@ -227,17 +272,18 @@ impl<O: Outlet> Shelf<O> {
         ensures ok { IfSome result (λ r. IfOk r (MadeAt seat.old.table_id number seat.old.me seat.new.me events.Wake)) }
         ensures err { IfSome result (λ done. OnErr done (SameOwn number seat.old.me seat.new.me)) }
         ensures none { IfNone result (SameOwn number seat.old.me seat.new.me) }
+        ensures asleep { IfNone result (wakes_after seat.new.me number ≡ false) }
     {
         if !self.take_turn(rt, bell, seat, number) {
             return Some(Err(Halt::NoMemory));
         }
         if !self.may_wake(seat, number) {
             self.give_back(seat, FREE);
-            bell.ring(rt, false);
+            bell.ring(rt, false, false);
             return None;
         }
         let done = self.make(seat, number, Event::Wake);
-        bell.ring(rt, done.is_err());
+        bell.ring(rt, false, done.is_err());
         match done {
             Ok(reply) => Some(Ok(reply)),
             Err(_) => Some(Err(Halt::NoMemory)),
@@ -255,7 +301,7 @@ impl<O: Outlet> Shelf<O> {
     {
         if self.take_turn(rt, bell, seat, number) {
             self.give_back(seat, STOPPED);
-            bell.ring(rt, true);
+            bell.ring(rt, false, true);
         }
     }
 

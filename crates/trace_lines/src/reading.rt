@@ -82,7 +82,8 @@ fn format_of(old: bool) -> u32
 }
 
 fn with_format(alloc: Global, old: bool, lines: &[&[u8]], rest: &[u8]) -> Result<Trace, TraceError>
-    ensures { reading.Gives reading.format_and_entries result (reading.with_format old (reading.entries_in old 2 (views lines.now ++ rest.now ∷ []))) }
+    ensures { reading.Gives reading.format_and_entries result
+        (reading.with_format old (reading.entries_in old 2 (views lines.now ++ rest.now ∷ []))) }
 {
     let entries = entries_in(alloc, old, lines, rest)?;
     Ok(Trace {
@@ -93,7 +94,8 @@ fn with_format(alloc: Global, old: bool, lines: &[&[u8]], rest: &[u8]) -> Result
 
 /// The first line, those behind it, and what stands behind the last line end.
 fn opened(alloc: Global, first: &[u8], lines: &[&[u8]], rest: &[u8]) -> Result<Trace, TraceError>
-    ensures { reading.Gives reading.format_and_entries result (reading.opened (reading.format_in first.now) (views lines.now ++ rest.now ∷ [])) }
+    ensures { reading.Gives reading.format_and_entries result
+        (reading.opened (reading.format_in first.now) (views lines.now ++ rest.now ∷ [])) }
 {
     match format_in(first) {
         Some(old) => with_format(alloc, old, lines, rest),

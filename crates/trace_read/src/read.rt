@@ -16,7 +16,8 @@ pub fn read_trace(alloc: Global, bytes: &[u8]) -> Result<Trace, TraceError>
     // What is read is spelled so, each byte of it.
     ensures found { IfOk result (λ trace. Spelled bytes.now (format_and_entries trace)) }
     // What is spelled so is read, unless memory is wanted.
-    ensures only { (old : Bool) (entries : List Entry) → entries_fit old entries ≡ true → entries_bytes entries ≡ true → bytes.now ≡ text_of old entries → Gives format_and_entries result (Ok (format_of old, entries)) }
+    ensures only { (old : Bool) (entries : List Entry) → entries_fit old entries ≡ true → entries_bytes entries ≡ true
+        → bytes.now ≡ text_of old entries → Gives format_and_entries result (Ok (format_of old, entries)) }
     // The first line that is none is refused, at its first field at which no line goes on, with the cause that fits.
     ensures refused { IfErr result (λ e. IsRefusal bytes.now e) }
     // Reading line by line and field by field, as a definition: which line is refused, and with which cause.

@@ -74,7 +74,8 @@ fn put_variable_event(
     name: &Text,
     raw: bool,
 ) -> Result<Text, NoMemory>
-    ensures { IfOk result (λ it. it ≡ out ++ spaced (word.now ∷ decimal mid ∷ text.variable_text name.now ∷ fields.raw_word raw ∷ [])) }
+    ensures { IfOk result
+        (λ it. it ≡ out ++ spaced (word.now ∷ decimal mid ∷ text.variable_text name.now ∷ fields.raw_word raw ∷ [])) }
 {
     let out = word_field(out, word)?;
     let out = number_field(out, mid as u64)?;
@@ -84,7 +85,8 @@ fn put_variable_event(
 
 #[tactic(auto, using(crate::proofs::Pieces::fields_five))]
 fn put_set(out: Text, mid: u32, name: &Text, value: &Value, raw: bool) -> Result<Text, NoMemory>
-    ensures { IfOk result (λ it. it ≡ out ++ spaced (codes "set" ∷ decimal mid ∷ text.variable_text name.now ∷ text.value_text value.now ∷ fields.raw_word raw ∷ [])) }
+    ensures { IfOk result (λ it. it ≡ out ++ spaced (codes "set" ∷ decimal mid ∷ text.variable_text name.now
+        ∷ text.value_text value.now ∷ fields.raw_word raw ∷ [])) }
 {
     let out = word_field(out, "set")?;
     let out = number_field(out, mid as u64)?;
@@ -103,7 +105,8 @@ fn put_print(out: Text, printed: &Text) -> Result<Text, NoMemory>
 
 #[tactic(auto, using(crate::proofs::Pieces::fields_three))]
 fn put_path_add(out: Text, at: Option<i128>, value: &Value) -> Result<Text, NoMemory>
-    ensures { IfOk result (λ it. it ≡ out ++ spaced (codes "pathadd" ∷ text.place_in_path at ∷ text.value_text value.now ∷ [])) }
+    ensures { IfOk result
+        (λ it. it ≡ out ++ spaced (codes "pathadd" ∷ text.place_in_path at ∷ text.value_text value.now ∷ [])) }
 {
     let out = word_field(out, "pathadd")?;
     let out = place_in_path_field(out, at)?;
@@ -120,7 +123,8 @@ fn dir_field(out: Text, dir: &TreePath) -> Result<Text, NoMemory>
 
 #[tactic(auto, using(crate::proofs::Pieces::fields_three))]
 fn put_dir_get(out: Text, dir: &TreePath, part: &Text) -> Result<Text, NoMemory>
-    ensures { IfOk result (λ it. it ≡ out ++ spaced (codes "dirget" ∷ quoted (joined dir.now) ∷ text.name_text part.now ∷ [])) }
+    ensures { IfOk result (λ it. it ≡ out ++ spaced (codes "dirget" ∷ quoted (joined dir.now)
+        ∷ text.name_text part.now ∷ [])) }
 {
     let out = word_field(out, "dirget")?;
     let out = dir_field(out, dir)?;
@@ -129,7 +133,8 @@ fn put_dir_get(out: Text, dir: &TreePath, part: &Text) -> Result<Text, NoMemory>
 
 #[tactic(auto, using(crate::proofs::Pieces::fields_four))]
 fn put_dir_set(out: Text, dir: &TreePath, listing: &Listing) -> Result<Text, NoMemory>
-    ensures { IfOk result (λ it. it ≡ out ++ spaced (codes "dirset" ∷ quoted (joined dir.now) ∷ decimal listing.now.time ∷ text.texts_text listing.now.names ∷ [])) }
+    ensures { IfOk result (λ it. it ≡ out ++ spaced (codes "dirset" ∷ quoted (joined dir.now)
+        ∷ decimal listing.now.time ∷ text.texts_text listing.now.names ∷ [])) }
 {
     let out = word_field(out, "dirset")?;
     let out = dir_field(out, dir)?;
@@ -166,7 +171,8 @@ fn put_reload_begin(out: Text, mid: u32, raw: bool) -> Result<Text, NoMemory>
 
 #[tactic(auto, using(crate::proofs::Pieces::fields_five))]
 fn put_reload_take(out: Text, mid: u32, spec: &Spec, source: &Seq<u8>) -> Result<Text, NoMemory>
-    ensures { IfOk result (λ it. it ≡ out ++ spaced (codes "reloadtake" ∷ decimal mid ∷ fields.spec_fields spec.now source.now)) }
+    ensures { IfOk result
+        (λ it. it ≡ out ++ spaced (codes "reloadtake" ∷ decimal mid ∷ fields.spec_fields spec.now source.now)) }
 {
     let out = word_field(out, "reloadtake")?;
     let out = number_field(out, mid as u64)?;
@@ -196,7 +202,8 @@ fn put_ended(out: Text, how: &str, spent: u64) -> Result<Text, NoMemory>
 
 #[tactic(auto, using(crate::proofs::Pieces::fields_four))]
 fn put_raised(out: Text, error: &Raised, spent: u64) -> Result<Text, NoMemory>
-    ensures { IfOk result (λ it. it ≡ out ++ spaced (codes "end" ∷ codes "raised" ∷ decimal spent ∷ text.error_text error.now ∷ [])) }
+    ensures { IfOk result
+        (λ it. it ≡ out ++ spaced (codes "end" ∷ codes "raised" ∷ decimal spent ∷ text.error_text error.now ∷ [])) }
 {
     let out = word_field(out, "end")?;
     let out = word_field(out, "raised")?;

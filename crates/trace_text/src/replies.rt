@@ -85,7 +85,8 @@ fn put_names(out: Text, names: &Texts) -> Result<Text, NoMemory>
 
 #[tactic(auto, using(crate::proofs::Pieces::fields_three))]
 fn put_loaded(out: Text, m: &ModRef, loaded: &Seq<u8>) -> Result<Text, NoMemory>
-    ensures { IfOk result (λ it. it ≡ out ++ spaced (codes "loaded" ∷ text.module_text m.now ∷ source loaded.now ∷ [])) }
+    ensures { IfOk result
+        (λ it. it ≡ out ++ spaced (codes "loaded" ∷ text.module_text m.now ∷ source loaded.now ∷ [])) }
 {
     let out = word_field(out, "loaded")?;
     let out = module_field(out, m)?;
@@ -120,7 +121,8 @@ fn put_yours(out: Text, load: u32, text: &Seq<u8>) -> Result<Text, NoMemory>
 
 #[tactic(auto, using(crate::proofs::Pieces::fields_four))]
 fn put_listing(out: Text, time: u64, part: bool, file: bool) -> Result<Text, NoMemory>
-    ensures { IfOk result (λ it. it ≡ out ++ spaced (codes "listing" ∷ decimal time ∷ fields.yes_word part ∷ fields.yes_word file ∷ [])) }
+    ensures { IfOk result
+        (λ it. it ≡ out ++ spaced (codes "listing" ∷ decimal time ∷ fields.yes_word part ∷ fields.yes_word file ∷ [])) }
 {
     let out = word_field(out, "listing")?;
     let out = number_field(out, time)?;

@@ -186,7 +186,8 @@ pub(crate) fn put_value(out: Text, value: &Value) -> Result<Text, NoMemory>
 #[cycle(values)]
 #[tactic(auto, using(crate::proofs::Pieces::three))]
 fn put_items(out: Text, opening: &str, items: &Items, end: &str) -> Result<Text, NoMemory>
-    ensures { IfOk result (λ it. it ≡ out ++ (opening.now ++ text.with_commas (map text.value_text items.now) ++ end.now)) }
+    ensures { IfOk result (λ it. it ≡ out ++ (opening.now ++ text.with_commas (map text.value_text items.now)
+        ++ end.now)) }
 {
     let out = put(out, opening)?;
     let out = put_with_commas(out, items)?;
@@ -215,7 +216,8 @@ pub(crate) fn put_values(out: Text, items: &Items) -> Result<Text, NoMemory>
 
 #[tactic(auto, using(crate::proofs::Pieces::five))]
 fn put_package(out: Text, file: &Text, path: &Texts) -> Result<Text, NoMemory>
-    ensures { IfOk result (λ it. it ≡ out ++ (codes "package(" ++ quoted file.now ++ codes "," ++ text.texts_text path.now ++ codes ")")) }
+    ensures { IfOk result (λ it. it ≡ out ++ (codes "package(" ++ quoted file.now ++ codes ","
+        ++ text.texts_text path.now ++ codes ")")) }
 {
     let out = put(out, "package(")?;
     let out = write_quoted(out, file.as_str())?;

@@ -10,5 +10,6 @@ pub fn names_are_listed()
 
 /// A directory has one listing.
 pub fn listing_is_one()
-    ensures { (files : Files) (dir : Path) (names : List (List ℕ)) → IsListing files dir names → names ≡ names_in files dir }
+    ensures { (files : Files) (dir : Path) (names : List (List ℕ)) → IsListing files dir names
+        → names ≡ names_in files dir }
 {}

@@ -88,7 +88,8 @@ impl MemTree {
     /// wanted some of those may stand.
     pub fn put_file(&mut self, path: &TreePath, bytes: &[u8]) -> Result<(), NoMemory>
         requires { IsTrue (takes_file (mem_files self.old.nodes) path.now) }
-        ensures ok { OnOk result (mem_files self.new.nodes ≡ placed (mem_files self.old.nodes) path.now (file bytes.now)) }
+        ensures ok { OnOk result (mem_files self.new.nodes
+            ≡ placed (mem_files self.old.nodes) path.now (file bytes.now)) }
         ensures err { OnErr result (HasDirs (mem_files self.old.nodes) path.now (mem_files self.new.nodes)) }
         ensures faults { self.new.faults ≡ self.old.faults }
         ensures lists { self.new.lists ≡ self.old.lists }
@@ -150,7 +151,8 @@ impl Tree for MemTree {
         ensures is_tree { IsTreeMap self.old.nodes }
         ensures files_stay { mem_files self.new.nodes ≡ mem_files self.old.nodes }
         ensures faults_grow { self.old.faults ≤ self.new.faults }
-        ensures counted { self.new.faults ≡ if is_next_due self.old.due then raised self.old.faults 1 else self.old.faults }
+        ensures counted { self.new.faults
+            ≡ if is_next_due self.old.due then raised self.old.faults 1 else self.old.faults }
         ensures due { self.new.due ≡ after_call self.old.due }
         ensures lists_stay { self.new.lists ≡ self.old.lists }
     {
@@ -171,7 +173,8 @@ impl Tree for MemTree {
         ensures is_tree { IsTreeMap self.old.nodes }
         ensures files_stay { mem_files self.new.nodes ≡ mem_files self.old.nodes }
         ensures faults_grow { self.old.faults ≤ self.new.faults }
-        ensures counted { self.new.faults ≡ if is_next_due self.old.due then raised self.old.faults 1 else self.old.faults }
+        ensures counted { self.new.faults
+            ≡ if is_next_due self.old.due then raised self.old.faults 1 else self.old.faults }
         ensures due { self.new.due ≡ after_call self.old.due }
         ensures listed { OnOk result (self.new.lists ≡ raised self.old.lists 1) }
         ensures not_listed { OnErr result (self.new.lists ≡ self.old.lists) }
@@ -188,14 +191,16 @@ impl Tree for MemTree {
 
     fn read(&mut self, file: &TreePath, at: u64, into: &mut [u8]) -> Result<usize, TreeFault>
         requires { IsFileAt (mem_files self.old.nodes) file.now }
-        ensures told { IfOk result (IsRead (bytes_of (node_at (mem_files self.old.nodes) file.now)) at into.old into.new) }
+        ensures told { IfOk result (IsRead (bytes_of (node_at (mem_files self.old.nodes) file.now))
+            at into.old into.new) }
         ensures count { IfOk result (λ n. n ≤ length into.old) }
         ensures exact { IsErrOf result TreeFault.Failed ↔ IsTrue (is_next_due self.old.due) }
         ensures failed { IsErrOf result TreeFault.Failed → Rose self.old.faults self.new.faults }
         ensures is_tree { IsTreeMap self.old.nodes }
         ensures files_stay { mem_files self.new.nodes ≡ mem_files self.old.nodes }
         ensures faults_grow { self.old.faults ≤ self.new.faults }
-        ensures counted { self.new.faults ≡ if is_next_due self.old.due then raised self.old.faults 1 else self.old.faults }
+        ensures counted { self.new.faults
+            ≡ if is_next_due self.old.due then raised self.old.faults 1 else self.old.faults }
         ensures due { self.new.due ≡ after_call self.old.due }
         ensures lists_stay { self.new.lists ≡ self.old.lists }
     {
@@ -240,7 +245,8 @@ impl Grove for MemTree {
         ensures files_stay { mem_files self.new.nodes ≡ mem_files self.old.nodes }
         ensures faults_stay { self.new.faults ≡ self.old.faults }
         ensures lists_stay { self.new.lists ≡ self.old.lists }
-        ensures due_stays { MatchResult result (λ _. self.new.due ≡ after_fork self.old.due) (λ _. self.new.due ≡ self.old.due) }
+        ensures due_stays { MatchResult result (λ _. self.new.due ≡ after_fork self.old.due)
+            (λ _. self.new.due ≡ self.old.due) }
     {
         let nodes = self.nodes.clone()?;
         let named = Seq::from_vec(of_fork(&self.due.named, self.due.forks)?);

@@ -142,7 +142,8 @@ impl Sink for MemSink {
             (λ n. self.new.bytes.items ≡ self.old.bytes.items ++ take n piece.now)
             (λ _. self.new.bytes.items ≡ self.old.bytes.items) }
         ensures count { IfOk result (λ n. n ≡ room_for self.old.room (length piece.now)) }
-        ensures room { MatchResult result (λ n. self.new.room ≡ room_after self.old.room n) (λ _. self.new.room ≡ self.old.room) }
+        ensures room { MatchResult result (λ n. self.new.room ≡ room_after self.old.room n)
+            (λ _. self.new.room ≡ self.old.room) }
         ensures exact { IsErrOf result SinkFault.Failed ↔ ((self.old.room ≡ Some 0) × (0 < length piece.now)) }
         ensures failed { IsErrOf result SinkFault.Failed → self.new.faults ≡ raised self.old.faults 1 }
         ensures wanting { IsErrOf result SinkFault.NoMemory → self.new.faults ≡ self.old.faults }

@@ -104,7 +104,8 @@ pub trait Tree: Sized + Drop {
     /// That is none where the file has none there.
     fn read(&mut self, file: &TreePath, at: u64, into: &mut [u8]) -> Result<usize, TreeFault>
         requires { ForSome (files self.old) (λ f. IsFileAt f file.now) }
-        ensures told { IfSome (files self.old) (λ f. IfOk result (IsRead (bytes_of (node_at f file.now)) at into.old into.new)) }
+        ensures told { IfSome (files self.old) (λ f. IfOk result
+            (IsRead (bytes_of (node_at f file.now)) at into.old into.new)) }
         ensures count { IfOk result (λ n. n ≤ length into.old) }
         ensures failed { IsErrOf result TreeFault.Failed → Rose (faults self.old) (faults self.new) }
         ensures faults_stay { OnOk result (faults self.new ≡ faults self.old) }

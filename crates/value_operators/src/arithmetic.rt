@@ -182,7 +182,8 @@ fn joined_tuples(alloc: Global, a: &Items, b: &Items) -> Result<Applied, NoMemor
 }
 
 fn joined(alloc: Global, left: &Value, right: &Value) -> Result<Applied, NoMemory>
-    ensures { IfOk result (λ applied. applied ≡ joined (out-Value left.now) (out-Value right.now) (unsupported ops.Add left.now right.now)) }
+    ensures { IfOk result (λ applied. applied ≡ joined (out-Value left.now) (out-Value right.now)
+        (unsupported ops.Add left.now right.now)) }
 {
     match left {
         Value::Text(a) => match right {
@@ -240,7 +241,8 @@ fn times(
     left: &Value,
     right: &Value,
 ) -> Result<Applied, NoMemory>
-    ensures { IfOk result (λ applied. applied ≡ times (out-Value value.now) n (unsupported ops.Mul left.now right.now)) }
+    ensures { IfOk result (λ applied. applied ≡ times (out-Value value.now) n
+        (unsupported ops.Mul left.now right.now)) }
 {
     match value {
         Value::Text(text) => repeated_text(alloc, text, n),
@@ -251,7 +253,8 @@ fn times(
 }
 
 fn repeated(alloc: Global, left: &Value, right: &Value) -> Result<Applied, NoMemory>
-    ensures { IfOk result (λ applied. applied ≡ repeated left.now right.now (number_of left.now) (number_of right.now) (unsupported ops.Mul left.now right.now)) }
+    ensures { IfOk result (λ applied. applied ≡ repeated left.now right.now (number_of left.now) (number_of right.now)
+        (unsupported ops.Mul left.now right.now)) }
 {
     match number_of(left) {
         Some(n) => match number_of(right) {
@@ -266,7 +269,8 @@ fn repeated(alloc: Global, left: &Value, right: &Value) -> Result<Applied, NoMem
 }
 
 fn formatted(alloc: Global, left: &Value, right: &Value) -> Result<Applied, NoMemory>
-    ensures { IfOk result (λ applied. applied ≡ formatted (out-Value left.now) (unsupported ops.Mod left.now right.now)) }
+    ensures { IfOk result (λ applied. applied ≡ formatted (out-Value left.now)
+        (unsupported ops.Mod left.now right.now)) }
 {
     match left {
         Value::Text(_) => not_in_profile(alloc),
@@ -287,7 +291,8 @@ fn combined(alloc: Global, op: BinOp, left: &Value, right: &Value) -> Result<App
 }
 
 fn by_numbers(alloc: Global, op: BinOp, left: &Value, right: &Value) -> Result<Applied, NoMemory>
-    ensures { IfOk result (λ applied. applied ≡ by_numbers op left.now right.now (number_of left.now) (number_of right.now)) }
+    ensures { IfOk result (λ applied. applied ≡ by_numbers op left.now right.now (number_of left.now)
+        (number_of right.now)) }
 {
     match number_of(left) {
         Some(a) => match number_of(right) {

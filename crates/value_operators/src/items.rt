@@ -49,7 +49,8 @@ fn inside_text(
     item: &Value,
     container: &Value,
 ) -> Result<Applied, NoMemory>
-    ensures { IfOk result (λ applied. applied ≡ table.inside_text text.now (out-Value item.now) (table.not_iterable container.now)) }
+    ensures { IfOk result (λ applied. applied ≡ table.inside_text text.now (out-Value item.now)
+        (table.not_iterable container.now)) }
 {
     match item {
         Value::Text(needle) => Ok(truth_value(holds_text(text.as_str(), needle.as_str()))),
@@ -146,7 +147,8 @@ fn letter(alloc: Global, c: char) -> Result<Value, NoMemory>
 }
 
 fn letter_of(alloc: Global, text: &str, n: i128) -> Result<Applied, NoMemory>
-    ensures { IfOk result (λ applied. applied ≡ table.found (option_map table.letter (table.item_at (chars text.now) n)) (table.out_of_range (codes "string"))) }
+    ensures { IfOk result (λ applied. applied ≡ table.found
+        (option_map table.letter (table.item_at (chars text.now) n)) (table.out_of_range (codes "string"))) }
 {
     match place_of(count_letters(text), n) {
         Some(at) => match letter_at(text, at) {
@@ -174,7 +176,8 @@ fn has_items(value: &Value) -> bool
 }
 
 fn at_number(alloc: Global, value: &Value, n: i128) -> Result<Applied, NoMemory>
-    ensures { IfOk result (λ applied. applied ≡ table.subscript_at (out-Value value.now) n (table.not_subscriptable value.now)) }
+    ensures { IfOk result (λ applied. applied ≡ table.subscript_at (out-Value value.now) n
+        (table.not_subscriptable value.now)) }
 {
     match value {
         Value::List(items) => item_at(alloc, items, n, "list"),

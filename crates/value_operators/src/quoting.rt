@@ -79,7 +79,8 @@ fn is_escaped(quote: Quote, b: u8) -> bool
 
 #[tactic(auto, using(crate::proofs::Drafts::put_put))]
 fn put_hex(draft: Draft, b: u8) -> Result<Draft, NoMemory>
-    ensures { IfOk result (λ it. it ≡ table.put draft (codes "\\x" ++ (table.hex_digit (b / 16) ∷ table.hex_digit (b % 16) ∷ []))) }
+    ensures { IfOk result (λ it. it ≡ table.put draft (codes "\\x"
+        ++ (table.hex_digit (b / 16) ∷ table.hex_digit (b % 16) ∷ []))) }
 {
     let draft = put(draft, "\\x")?;
     let draft = put(draft, hex_digit(b / 16))?;
@@ -122,7 +123,8 @@ fn put_run(draft: Draft, quote: Quote, run: &str, b: u8) -> Result<Draft, NoMemo
 
 /// A quote, and the text with its escapes.
 fn put_opened(draft: Draft, quote: Quote, text: &str) -> Result<Draft, NoMemory>
-    ensures { IfOk result (λ it. it ≡ table.put draft (table.quote_byte quote ∷ flat_map (table.escaped (table.quote_byte quote)) text.now)) }
+    ensures { IfOk result (λ it. it ≡ table.put draft (table.quote_byte quote
+        ∷ flat_map (table.escaped (table.quote_byte quote)) text.now)) }
 {
     let bytes = text.as_bytes();
     let mut draft = put(draft, quote.text())?;

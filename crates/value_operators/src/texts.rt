@@ -89,7 +89,8 @@ fn put_place(draft: Draft, place: &Place) -> Result<Draft, NoMemory>
 
 #[tactic(auto, using(crate::proofs::Drafts::put_put))]
 fn put_module(draft: Draft, held: &ModRef) -> Result<Draft, NoMemory>
-    ensures { IfOk result (λ it. it ≡ table.put draft (codes "<module " ++ table.quoted held.now.name ++ table.place_text held.now.place)) }
+    ensures { IfOk result (λ it. it ≡ table.put draft (codes "<module " ++ table.quoted held.now.name
+        ++ table.place_text held.now.place)) }
 {
     let draft = put(draft, "<module ")?;
     let draft = put_quoted(draft, held.name.as_str())?;
@@ -134,7 +135,8 @@ fn put_repr(alloc: Global, draft: Draft, value: &Value) -> Result<Draft, NoMemor
 #[cycle(reprs)]
 #[tactic(auto, using(crate::proofs::Drafts::put_put))]
 fn put_list(alloc: Global, draft: Draft, items: &Items) -> Result<Draft, NoMemory>
-    ensures { IfOk result (λ it. it ≡ table.put draft (codes "[" ++ table.with_commas (map table.repr_text items.now) ++ codes "]")) }
+    ensures { IfOk result (λ it. it ≡ table.put draft (codes "[" ++ table.with_commas (map table.repr_text items.now)
+        ++ codes "]")) }
 {
     let draft = put_items(alloc, draft, "[", items)?;
     put(draft, "]")
@@ -143,7 +145,8 @@ fn put_list(alloc: Global, draft: Draft, items: &Items) -> Result<Draft, NoMemor
 #[cycle(reprs)]
 #[tactic(auto, using(crate::proofs::Drafts::put_put))]
 fn put_tuple(alloc: Global, draft: Draft, items: &Items) -> Result<Draft, NoMemory>
-    ensures { IfOk result (λ it. it ≡ table.put draft (codes "(" ++ table.with_commas (map table.repr_text items.now) ++ table.tuple_end (length items.now))) }
+    ensures { IfOk result (λ it. it ≡ table.put draft (codes "(" ++ table.with_commas (map table.repr_text items.now)
+        ++ table.tuple_end (length items.now))) }
 {
     let draft = put_items(alloc, draft, "(", items)?;
     put(draft, tuple_end(items.len()))
@@ -151,7 +154,8 @@ fn put_tuple(alloc: Global, draft: Draft, items: &Items) -> Result<Draft, NoMemo
 
 #[cycle(reprs)]
 fn put_items(alloc: Global, draft: Draft, opening: &str, items: &Items) -> Result<Draft, NoMemory>
-    ensures { IfOk result (λ it. it ≡ table.put draft (opening.now ++ table.with_commas (map table.repr_text items.now))) }
+    ensures { IfOk result (λ it. it ≡ table.put draft (opening.now
+        ++ table.with_commas (map table.repr_text items.now))) }
 {
     let items = items.as_slice();
     let mut draft = put(draft, opening)?;

@@ -1,7 +1,7 @@
 use Rattle.std.proofs.Common.{◌∙◌, ◌∷◌, [], ℕ, length, ap, sym, subst, arith}
 use Rattle.machine_state.specs.declared.state.State.{State}
 use Rattle.machine_state.specs.Legal.{IsLegal}
-use Rattle.program_call.specs.Sinks.{Moment, moment}
+use Rattle.program_call.specs.Sinks.{Moment, at, moment}
 use Rattle.program_call.specs.Runs.{Gives}
 use Rattle.program_call.specs.declared.report.Left.{Left}
 use Rattle.program_call.proofs.Leaving.{leaves_of}
@@ -34,8 +34,8 @@ returns-clause-run g c =
     let it = c.in-Ok.it in
     let is = c.in-Ok.ensures in
     let tree = g.T.Tree.files c.args.tree.now in
-    let old : Moment = moment g.T.Tree.faults g.T.Tree.lists g.O.Sink.written g.O.Sink.faults g.K.Sink.written g.K.Sink.faults c.args.tree.now c.args.out.now c.args.err.now in
-    let new : Moment = moment g.T.Tree.faults g.T.Tree.lists g.O.Sink.written g.O.Sink.faults g.K.Sink.written g.K.Sink.faults c.run_on_book-history.new.tree c.close-flow.new.sink c.finish_some-status.new.err in
+    let old : Moment = moment g.T.Tree.files g.T.Tree.faults g.T.Tree.lists c.args.tree.now (at g.O.Sink.written g.O.Sink.faults c.args.out.now) (at g.K.Sink.written g.K.Sink.faults c.args.err.now) in
+    let new : Moment = moment g.T.Tree.files g.T.Tree.faults g.T.Tree.lists c.run_on_book-history.new.tree (at g.O.Sink.written g.O.Sink.faults c.close-flow.new.sink) (at g.K.Sink.written g.K.Sink.faults c.finish_some-status.new.err) in
     let left = c.run_on_book-history.result in
     let ran = c.run_on_book-history.ensures in
     let status = c.finish_some-status.result in
@@ -44,6 +44,6 @@ returns-clause-run g c =
     let ended = ended_some (λ v. v.items) left.results tree _ plan.fuel _ _ left.history ran.ran in
     let leaves = leaves_of old new _ _ plan.trace c.as_slice.result.now plan.scripts left.history status c.close-flow.result c.open-outlet.ensures.trace c.open-outlet.ensures.gets ran.kept c.close-flow.ensures.written c.close-flow.ensures.faults
     c.close-flow.ensures.flow c.as_slice.ensures (c.finish_some-status.ensures.leaves left.history ended) in
-    subst (λ (r : Left). Gives means plan c.args.texts tree old new r.history r.status) (sym c.of_run.ensures)
-    (has_run means plan c.args.texts tree old new left.history status (omega (arith, some, many)) many (subst (λ (s : State). IsLegal s left.history) is.opening ran.legal) leaves run it.programs.items (λ v. v.items) left.results is.programs ran.ran ran.unrun
+    subst (λ (r : Left). Gives means plan c.args.texts old new r) (sym c.of_run.ensures)
+    (has_run means plan c.args.texts old new left.history status (omega (arith, some, many)) many (subst (λ (s : State). IsLegal s left.history) is.opening ran.legal) leaves run it.programs.items (λ v. v.items) left.results is.programs ran.ran ran.unrun
     c.finish_some-status.ensures.short)

@@ -2,7 +2,7 @@ use Rattle.std.proofs.Common.{◌≡◌, ◌∙◌, Some, None, refl, sym, ap, m
 use Rattle.std.specs.String.{string_bytes}
 use Rattle.import_words.specs.Plans.{plan_of}
 use Rattle.pyimport.specs.Answers.{Answers, numbers_of}
-use Rattle.pyimport.proofs.Answering.{made_by, wordless_by}
+use Rattle.pyimport.proofs.Answering.{wordless_by}
 use Rattle.pyimport.proofs.Numbered.{fits_of}
 use Rattle.pyimport.proofs.run.pyimport.Goals as goal
 
@@ -17,12 +17,12 @@ run_made-requires-clause-scripts g c κs within =
 pub returns-in-Some-clause-answers : goal.returns-in-Some-clause-answers
 returns-in-Some-clause-answers g c =
     let asked = ap numbers_of (sym c.in-Ok.ensures) ∙ (sym c.numbers_of.ensures ∙ c.in-Some.is) in
-    made_by _ _ _ _ c.in-Some.it _ _ _ asked refl refl c.run_made.ensures.run c.run_made.ensures.plan
+    Answers.made c.in-Some.it asked c.run_made.ensures.plan refl refl c.run_made.ensures.run
 
 pub returns-in-None-clause-answers : goal.returns-in-None-clause-answers
 returns-in-None-clause-answers g c =
     let unasked = ap numbers_of (sym c.in-Ok.ensures) ∙ (sym c.numbers_of.ensures ∙ c.in-None.is) in
-    Answers.runs _ _ _ unasked c.call.ensures.answers
+    Answers.runs unasked c.call.ensures.answers
 
 pub returns-in-Err-clause-answers : goal.returns-in-Err-clause-answers
-returns-in-Err-clause-answers g c = wordless_by _ _ _ c.without_run.result c.without_run.ensures
+returns-in-Err-clause-answers g c = wordless_by _ _ c.without_run.result c.without_run.ensures

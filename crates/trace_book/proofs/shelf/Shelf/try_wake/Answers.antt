@@ -1,12 +1,12 @@
 -- The Wake is allowed where the machine says so.
-use Rattle.std.proofs.Common.{◌≡◌, [], Result, subst, sym, refl}
+use Rattle.std.proofs.Common.{◌≡◌, false, [], Result, subst, sym}
 use Rattle.std.specs.Prelude.{IfOk}
 use Rattle.base_types.specs.declared.no_memory.NoMemory.{NoMemory}
 use Rattle.machine_events.specs.declared.event.Reply.{Reply}
 use Rattle.machine_events.specs.declared.event.Event.TheVariants as events
 use Rattle.trace_book.specs.Plays.{Seated, Took}
 use Rattle.trace_book.specs.Views.{idle}
-use Rattle.trace_book.specs.Seats.{Busy, MayMake, Made, longer_by}
+use Rattle.trace_book.specs.Seats.{Busy, MayMake, may_wake, wakes_after, Made, longer_by}
 use Rattle.trace_book.proofs.Moves.{took_busy, may_make_it, called_from}
 use Rattle.trace_book.proofs.shelf.Shelf.try_wake.Goals as goal
 
@@ -19,10 +19,15 @@ make-done-requires-clause-busy g c = subst (λ (x : Seated g.row.O.Denot). Busy 
 pub make-done-requires-clause-may : goal.make-done-requires-clause-may
 make-done-requires-clause-may g c =
     subst (λ (x : Seated g.row.O.Denot). MayMake x c.args.number events.Wake) (sym c.may_wake.ensures.seat)
-    (may_make_it _ _ c.args.seat.now.me _ c.args.number events.Wake c.requires.ready c.if-not-take_turn.ensures.had (c.if-not-may_wake.ensures.yes refl))
+    (may_make_it _ _ c.args.seat.now.me _ c.args.number events.Wake c.requires.ready c.if-not-take_turn.ensures.had (sym c.if-not-may_wake.ensures.may))
 
 pub may_wake-requires-clause-busy : goal.may_wake-requires-clause-busy
 may_wake-requires-clause-busy g c = took_busy _ _ c.args.seat.now.me _ c.if-not-take_turn.ensures.had
+
+pub returns-then-not-may_wake-clause-asleep : goal.returns-then-not-may_wake-clause-asleep
+returns-then-not-may_wake-clause-asleep g c =
+    subst (λ (x : Seated g.row.O.Denot). wakes_after x c.args.number ≡ false) (sym c.give_back.ensures.seat)
+    (subst (λ (x : Seated g.row.O.Denot). may_wake x c.args.number ≡ false) (sym c.may_wake.ensures.seat) (sym c.if-not-may_wake.ensures.may))
 
 pub returns-in-Ok-clause-ok : goal.returns-in-Ok-clause-ok
 returns-in-Ok-clause-ok g c =
