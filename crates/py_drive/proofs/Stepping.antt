@@ -16,6 +16,7 @@ use Rattle.py_frames.specs.declared.want.Want.TheVariants as want
 use Rattle.py_drive.specs.At.{At}
 use Rattle.py_drive.specs.Turns.{Stepped, remains}
 use Rattle.py_drive.specs.declared.course.Course.{Course}
+use Rattle.py_drive.specs.declared.course.Turn.{Turn}
 use Rattle.py_drive.specs.declared.course.Turn.TheVariants as turn
 use Rattle.py_drive.specs.declared.purse.Purse.{Purse}
 
@@ -33,6 +34,15 @@ pub stepped_paid : (purse : Purse) (after : Course) (run next : Run) (w : Want) 
 stepped_paid purse after run next w is paid files faults faults' mine = record {
   moves = λ whole fuel a. rw is (paid files whole fuel mine a);
   counts = tt;
+}
+
+-- a turn behind a payment
+pub stepped_behind : (purse paid : Purse) (after : Course) (run next : Run) (t : Turn)
+    → ((files : Option Files) (whole : Run) (fuel : ℕ) (mine : List (Event × Reply)) → At files whole fuel mine purse run → At files whole fuel mine paid next)
+    → Stepped paid after next t → Stepped purse after run t
+stepped_behind purse paid after run next t leads step files faults faults' mine = record {
+  moves = λ whole fuel a. (step files faults faults' mine).moves whole fuel (leads files whole fuel mine a);
+  counts = (step files faults faults' mine).counts;
 }
 
 -- a payment could not be made

@@ -1,5 +1,6 @@
 -- From where a script stands to where it stands after a turn.
-use Rattle.std.proofs.Common.{◌≡◌, ◌≤◌, ℕ, List, [], codes, Option, None, refl, sym, ◌∙◌, subst, arith}
+use Rattle.std.proofs.Common.{◌≡◌, ◌≤◌, ℕ, List, [], codes, Option, None, Result, IfOk, refl, sym, ◌∙◌, subst, arith}
+use Rattle.std.proofs.lemmas.Result.{IfOk-weaker}
 use Rattle.tree_files.specs.Count.{Rose}
 use Rattle.tree_files.specs.Files.{Files}
 use Rattle.machine_events.specs.declared.event.Event.{Event}
@@ -7,8 +8,9 @@ use Rattle.machine_events.specs.declared.event.Reply.{Reply}
 use Rattle.thread_knowledge.specs.Shown.{shown_first}
 use Rattle.meanings.specs.Lists.{lists_in}
 use Rattle.meanings.specs.Runs.{Run, Safe, StandsIn}
-use Rattle.meanings.proofs.Stand.{stands_start, safe_stands}
+use Rattle.meanings.proofs.Stand.{stands_start, safe_stands, in_some}
 use Rattle.script_port.specs.View.{View, Stays}
+use Rattle.script_port.specs.declared.port.Halt.{Halt}
 use Rattle.py_meaning.specs.Meaning.{meaning, first_state}
 use Rattle.py_sources.specs.Sources.{sources}
 use Rattle.py_frames.specs.Does.{want_does, rest}
@@ -17,10 +19,11 @@ use Rattle.py_frames.specs.declared.want.Want.{Want}
 use Rattle.py_frames.specs.declared.want.Want.TheVariants as want
 use Rattle.script_end.specs.Ending.{Holds}
 use Rattle.py_drive.specs.At.{At}
-use Rattle.py_drive.specs.Turns.{After, Turned, Stood, Refused, RefusedAt, Parted, Asked, AllKept, remains}
+use Rattle.py_drive.specs.Turns.{After, Turned, Stepped, Stood, Refused, RefusedAt, Parted, Asked, AllKept, remains}
 use Rattle.py_drive.specs.Overs.{Begun, Fresh}
 use Rattle.py_drive.specs.declared.course.Course.{Course}
 use Rattle.py_drive.specs.declared.course.Turn.{Turn}
+use Rattle.py_drive.specs.declared.purse.Purse.{Purse}
 
 starts_at : (files : Option Files) (script fuel : ℕ) (text : List ℕ)
     → At files (meaning sources script text) fuel [] (record { budget = fuel; read = None }) (want_does sources 200 (want.Then (Start script script (codes "__main__") text)) (rest sources []) (first_state script))
@@ -84,5 +87,14 @@ pub turned_at : (files : Option Files) (faults faults' : ℕ) (mine mine' : List
     → Turned files faults faults' mine mine' c.purse c' (remains c w') t → Turned files faults faults' mine mine' c.purse c' (remains c w) t
 turned_at files faults faults' mine mine' c c' w w' t is h = rw is h
 
+-- where neither an event is made nor the tree asked
+pub turned_here : (files : Option Files) (faults : ℕ) (mine : List (Event × Reply)) (c c' : Course) (w w' : Want) (r : Result Turn Halt) → w ≡ w'
+    → IfOk r (Stepped c.purse c' (remains c w')) → IfOk r (Turned files faults faults mine mine c.purse c' (remains c w))
+turned_here files faults mine c c' w w' r is stepped = IfOk-weaker r _ _ (λ turn step. turned_at files faults faults mine mine c c' w w' turn is (step files faults faults mine)) stepped
+
 pub at_want : {files : Option Files} {whole : Run} {fuel : ℕ} {mine : List (Event × Reply)} (c : Course) (w w' : Want) → w ≡ w' → At files whole fuel mine c.purse (remains c w) → At files whole fuel mine c.purse (remains c w')
 at_want {files = files} {whole} {fuel} {mine} c w w' is a = subst (λ (w : Want). At files whole fuel mine c.purse (remains c w)) is a
+
+-- where nothing was done, a script stands somewhere
+pub parted_here : {files : Option Files} {mine : List (Event × Reply)} (purse : Purse) (run : Run) → Parted files mine mine purse run
+parted_here purse run whole fuel a = in_some a.stands

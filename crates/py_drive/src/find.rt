@@ -14,7 +14,6 @@ ghost use Rattle.py_drive.specs.Turns.{Stood, Turned, After, Counts, Parted, Ref
 use crate::course::{Course, Turn};
 use crate::search::{Sought, seek};
 use crate::steps::feed;
-use base_types::NoMemory;
 use find_load::In;
 use py_frames::Procedure;
 use py_value::Items;
@@ -29,13 +28,14 @@ fn found(
     course: &mut Course,
     procedure: Procedure,
     sought: Sought,
-) -> Result<Turn, NoMemory>
+) -> Result<Turn, Halt>
     ensures after { IfOk result (λ turn. (files : Option Files) (whole : Run) (fuel : ℕ) (mine : List (Event × Reply))
         → AfterSought files whole fuel mine course.old.purse
         (λ answer. feeds course.old procedure (given.Found answer)) sought
         → After files whole fuel mine course.new turn) }
     ensures counts { IfOk result (λ turn. (old new : ℕ) → CountsSought old new sought → Counts old new turn) }
     ensures held { course.new.held ≡ course.old.held }
+    ensures refused { IsErrOf result Halt.Refused → ⊥ }
 {
     match sought {
         Sought::Found(answer) => feed(alloc, course, procedure, In::Found(answer)),
@@ -75,10 +75,7 @@ pub fn find<P: Port, T: Tree>(
     ensures asked { Asked (T.files tree.old) (T.files tree.new) (T.faults tree.old) (T.faults tree.new) }
 {
     match seek(port, tree, &mut course.purse, name, path) {
-        Ok(sought) => match found(alloc, course, procedure, sought) {
-            Ok(turn) => Ok(turn),
-            Err(_) => Err(Halt::NoMemory),
-        },
+        Ok(sought) => found(alloc, course, procedure, sought),
         Err(halt) => {
             drop(procedure);
             Err(halt)

@@ -1,5 +1,5 @@
 //! Turns that look into the tree.
-ghost use Rattle.std.specs.Prelude.{◌≡◌, ◌≤◌, ℕ, List, IfOk, IfSome, Option, Some, None, true};
+ghost use Rattle.std.specs.Prelude.{◌≡◌, ◌≤◌, ℕ, List, IfOk, IsErrOf, IfSome, Option, Some, None, true};
 ghost use Rattle.std.specs.Option.{ForSome};
 ghost use Rattle.tree_files.specs.Count.{Rose};
 ghost use Rattle.tree_files.specs.Files.{Files, IsFileAt};
@@ -12,21 +12,23 @@ ghost use Rattle.py_drive.specs.Turns.{Asked, Looked, remains, feeds};
 
 use crate::course::{Course, Turn};
 use crate::steps::feed;
-use base_types::{NoMemory, TreePath};
+use base_types::TreePath;
 use find_load::In;
 use path_finder::{LoadFault, load_text};
 use py_frames::Procedure;
+use script_port::Halt;
 use std::alloc::Global;
 use tree_files::{Stamp, Tree, TreeFault};
 
 /// A call of the tree failed: the script stands where it paid for it.
-fn unread(course: &Course) -> Result<Turn, NoMemory>
-    ensures { IfOk result (λ turn. (files : Option Files) (old new : ℕ) (run : Run) → Rose old new
+fn unread(course: &Course) -> Result<Turn, Halt>
+    ensures refused { IsErrOf result Halt.Refused → ⊥ }
+    ensures looked { IfOk result (λ turn. (files : Option Files) (old new : ℕ) (run : Run) → Rose old new
         → Looked files old new course.now.purse course.now run turn) }
 {
     match course.purse.read {
         Some(left) => Ok(Turn::Unread(left)),
-        None => Err(NoMemory),
+        None => Err(Halt::NoMemory),
     }
 }
 
@@ -37,12 +39,13 @@ fn load<T: Tree>(
     course: &mut Course,
     path: &TreePath,
     procedure: Procedure,
-) -> Result<Turn, NoMemory>
+) -> Result<Turn, Halt>
     requires file { ForSome (T.files tree.old) (λ f. IsFileAt f path.now) }
     ensures turned { IfOk result (Looked (T.files tree.old) (T.faults tree.old)
         (T.faults tree.new) course.old.purse course.new (Pays true 1
         (Looks (TextOf path.now) (λ text. feeds course.old procedure (given.Opened (Some text)))))) }
     ensures held { course.new.held ≡ course.old.held }
+    ensures refused { IsErrOf result Halt.Refused → ⊥ }
     ensures asked { Asked (T.files tree.old) (T.files tree.new) (T.faults tree.old) (T.faults tree.new) }
     ensures lists_stay { T.lists tree.new ≡ T.lists tree.old }
 {
@@ -59,7 +62,7 @@ fn load<T: Tree>(
         }
         Err(LoadFault::Tree(TreeFault::NoMemory)) => {
             drop(procedure);
-            Err(NoMemory)
+            Err(Halt::NoMemory)
         }
     }
 }
@@ -72,13 +75,14 @@ fn seen<T: Tree>(
     path: &TreePath,
     procedure: Procedure,
     stamp: Stamp,
-) -> Result<Turn, NoMemory>
+) -> Result<Turn, Halt>
     requires file { IsFileStamp stamp → ForSome (T.files tree.old) (λ f. IsFileAt f path.now) }
     ensures turned { IfOk result (Looked (T.files tree.old) (T.faults tree.old)
         (T.faults tree.new) course.old.purse course.new (opens path.now
         (feeds course.old procedure (given.Opened None)) (λ text. feeds course.old procedure
         (given.Opened (Some text))) stamp)) }
     ensures held { course.new.held ≡ course.old.held }
+    ensures refused { IsErrOf result Halt.Refused → ⊥ }
     ensures asked { Asked (T.files tree.old) (T.files tree.new) (T.faults tree.old) (T.faults tree.new) }
     ensures lists_stay { T.lists tree.new ≡ T.lists tree.old }
 {
@@ -96,10 +100,11 @@ pub fn file<T: Tree>(
     course: &mut Course,
     path: &TreePath,
     procedure: Procedure,
-) -> Result<Turn, NoMemory>
+) -> Result<Turn, Halt>
     ensures turned { IfOk result (Looked (T.files tree.old) (T.faults tree.old)
         (T.faults tree.new) course.old.purse course.new (remains course.old (wants.File path.now procedure))) }
     ensures held { course.new.held ≡ course.old.held }
+    ensures refused { IsErrOf result Halt.Refused → ⊥ }
     ensures asked { Asked (T.files tree.old) (T.files tree.new) (T.faults tree.old) (T.faults tree.new) }
     ensures lists_stay { T.lists tree.new ≡ T.lists tree.old }
 {
@@ -111,7 +116,7 @@ pub fn file<T: Tree>(
         }
         Err(TreeFault::NoMemory) => {
             drop(procedure);
-            Err(NoMemory)
+            Err(Halt::NoMemory)
         }
     }
 }

@@ -1,5 +1,5 @@
 //! Turns that see neither a port nor a tree.
-ghost use Rattle.std.specs.Prelude.{◌≡◌, ℕ, List, IfOk, MatchOption, Option};
+ghost use Rattle.std.specs.Prelude.{◌≡◌, ℕ, List, IfOk, IsErrOf, MatchOption, Option};
 ghost use Rattle.machine_events.specs.declared.event.Event.{Event};
 ghost use Rattle.machine_events.specs.declared.event.Reply.{Reply};
 ghost use Rattle.tree_files.specs.Files.{Files};
@@ -15,27 +15,14 @@ ghost use Rattle.py_drive.specs.Turns.{Stepped, remains, feeds};
 
 use crate::course::{Course, Turn};
 use crate::purse::Purse;
-use base_types::NoMemory;
 use find_load::In;
 use machine_events::Reply;
 use py_costs::reply_units;
 use py_frames::{Frame, Item, OnReply, Procedure, Want, Work};
 use py_state::Flow;
 use py_steps::{begin, fed, go_on, replied};
+use script_port::Halt;
 use std::alloc::Global;
-
-/// Units are paid.
-pub fn pay(course: &mut Course, of_tree: bool, units: u64, item: Item) -> Turn
-    ensures turned { Stepped course.old.purse course.new (remains course.old (wants.Pay of_tree units item)) result }
-    ensures held { course.new.held ≡ course.old.held }
-{
-    if course.purse.pay(of_tree, units) {
-        Turn::On(Want::Then(item))
-    } else {
-        drop(item);
-        Turn::Out
-    }
-}
 
 /// What waits for a way on: no frame, or the first one that it does not pass.
 fn next_frame(work: &mut Work, flow: &Flow) -> Option<Frame>
@@ -50,28 +37,50 @@ fn next_frame(work: &mut Work, flow: &Flow) -> Option<Frame>
 }
 
 /// A way on comes to what waits for it.
-pub fn pass(alloc: Global, course: &mut Course, flow: Flow) -> Result<Turn, NoMemory>
+pub fn pass(alloc: Global, course: &mut Course, flow: Flow) -> Result<Turn, Halt>
     ensures turned { IfOk result (Stepped course.old.purse course.new (remains course.old (wants.Go flow))) }
     ensures held { course.new.held ≡ course.old.held }
+    ensures refused { IsErrOf result Halt.Refused → ⊥ }
 {
     match next_frame(&mut course.work, &flow) {
         None => Ok(Turn::Came(flow)),
         Some(frame) => match go_on(alloc, frame, flow, &mut course.thread) {
             Ok(want) => Ok(Turn::On(want)),
-            Err(_) => Err(NoMemory),
+            Err(_) => Err(Halt::NoMemory),
         },
     }
 }
 
 /// A piece of work begins.
-pub fn start(alloc: Global, course: &mut Course, item: Item) -> Result<Turn, NoMemory>
+pub fn start(alloc: Global, course: &mut Course, item: Item) -> Result<Turn, Halt>
     ensures turned { IfOk result (Stepped course.old.purse course.new (remains course.old (wants.Then item))) }
     ensures held { course.new.held ≡ course.old.held }
+    ensures refused { IsErrOf result Halt.Refused → ⊥ }
 {
     match begin(alloc, item, &mut course.thread) {
         Ok(want) => Ok(Turn::On(want)),
-        Err(_) => Err(NoMemory),
+        Err(_) => Err(Halt::NoMemory),
     }
+}
+
+/// Units are paid, and a piece of work begins.
+pub fn pay(
+    alloc: Global,
+    course: &mut Course,
+    of_tree: bool,
+    units: u64,
+    item: Item,
+) -> Result<Turn, Halt>
+    ensures turned { IfOk result (Stepped course.old.purse course.new
+        (remains course.old (wants.Pay of_tree units item))) }
+    ensures held { course.new.held ≡ course.old.held }
+    ensures refused { IsErrOf result Halt.Refused → ⊥ }
+{
+    if !course.purse.pay(of_tree, units) {
+        drop(item);
+        return Ok(Turn::Out);
+    }
+    start(alloc, course, item)
 }
 
 /// A piece of work begins, and a frame waits for it.
@@ -80,15 +89,16 @@ pub fn start_under(
     course: &mut Course,
     item: Item,
     frame: Frame,
-) -> Result<Turn, NoMemory>
+) -> Result<Turn, Halt>
     ensures turned { IfOk result (Stepped course.old.purse course.new (remains course.old (wants.Both item frame))) }
     ensures held { course.new.held ≡ course.old.held }
+    ensures refused { IsErrOf result Halt.Refused → ⊥ }
 {
     match course.work.push(frame) {
         Ok(()) => start(alloc, course, item),
         Err(_) => {
             drop(item);
-            Err(NoMemory)
+            Err(Halt::NoMemory)
         }
     }
 }
@@ -107,14 +117,10 @@ pub fn pay_reply(purse: &mut Purse, reply: &Reply) -> bool
 }
 
 /// The reply to an event is paid for, and comes to what waits for it.
-pub fn reply_to(
-    alloc: Global,
-    course: &mut Course,
-    on: OnReply,
-    reply: Reply,
-) -> Result<Turn, NoMemory>
+pub fn reply_to(alloc: Global, course: &mut Course, on: OnReply, reply: Reply) -> Result<Turn, Halt>
     ensures turned { IfOk result (Stepped course.old.purse course.new (remains course.old (wants.Replied on reply))) }
     ensures held { course.new.held ≡ course.old.held }
+    ensures refused { IsErrOf result Halt.Refused → ⊥ }
 {
     if !pay_reply(&mut course.purse, &reply) {
         drop(on);
@@ -123,7 +129,7 @@ pub fn reply_to(
     }
     match replied(alloc, on, reply, &mut course.thread) {
         Ok(want) => Ok(Turn::On(want)),
-        Err(_) => Err(NoMemory),
+        Err(_) => Err(Halt::NoMemory),
     }
 }
 
@@ -133,12 +139,13 @@ pub fn feed(
     course: &mut Course,
     procedure: Procedure,
     input: In,
-) -> Result<Turn, NoMemory>
+) -> Result<Turn, Halt>
     ensures turned { IfOk result (Stepped course.old.purse course.new (feeds course.old procedure input)) }
     ensures held { course.new.held ≡ course.old.held }
+    ensures refused { IsErrOf result Halt.Refused → ⊥ }
 {
     match fed(alloc, procedure, input, &mut course.thread) {
         Ok(want) => Ok(Turn::On(want)),
-        Err(_) => Err(NoMemory),
+        Err(_) => Err(Halt::NoMemory),
     }
 }

@@ -36,37 +36,22 @@ pub fn give<P: Port, T: Tree>(
         (P.view port.new).mine) }
 {
     match want {
-        Want::Go(flow) => match pass(alloc, course, flow) {
-            Ok(turn) => Ok(turn),
-            Err(_) => Err(Halt::NoMemory),
-        },
-        Want::Then(item) => match start(alloc, course, item) {
-            Ok(turn) => Ok(turn),
-            Err(_) => Err(Halt::NoMemory),
-        },
-        Want::Both(item, frame) => match start_under(alloc, course, item, frame) {
-            Ok(turn) => Ok(turn),
-            Err(_) => Err(Halt::NoMemory),
-        },
+        Want::Go(flow) => pass(alloc, course, flow),
+        Want::Then(item) => start(alloc, course, item),
+        Want::Both(item, frame) => start_under(alloc, course, item, frame),
         Want::Pay {
             of_tree,
             units,
             item,
-        } => Ok(pay(course, of_tree, units, item)),
+        } => pay(alloc, course, of_tree, units, item),
         Want::Call(event, on) => call(port, course, event, on),
-        Want::Replied(on, reply) => match reply_to(alloc, course, on, reply) {
-            Ok(turn) => Ok(turn),
-            Err(_) => Err(Halt::NoMemory),
-        },
+        Want::Replied(on, reply) => reply_to(alloc, course, on, reply),
         Want::Wait(item) => wait(port, course, item),
         Want::Find {
             name,
             path,
             procedure,
         } => find(alloc, port, tree, course, name, path, procedure),
-        Want::File(path, procedure) => match file(alloc, tree, course, &path, procedure) {
-            Ok(turn) => Ok(turn),
-            Err(_) => Err(Halt::NoMemory),
-        },
+        Want::File(path, procedure) => file(alloc, tree, course, &path, procedure),
     }
 }

@@ -25,4 +25,4 @@ seen-requires g c = record { file = λ is. subst (λ (o : Option Files). ForSome
 
 pub returns-in-Err-Failed-clause-turned : goal.returns-in-Err-Failed-clause-turned
 returns-in-Err-Failed-clause-turned g c = IfOk-weaker c.unread.result _ _ (λ turn u.
-    u (g.T.Tree.files c.args.tree.now) (g.T.Tree.faults c.args.tree.now) (g.T.Tree.faults c.stamp.new.self) _ (c.in-Err-Failed.ensures.failed (ap Err c.in-Err-Failed.field-0-is))) c.unread.ensures
+    u (g.T.Tree.files c.args.tree.now) (g.T.Tree.faults c.args.tree.now) (g.T.Tree.faults c.stamp.new.self) _ (c.in-Err-Failed.ensures.failed (ap Err c.in-Err-Failed.field-0-is))) c.unread.ensures.looked

@@ -41,4 +41,4 @@ returns-in-Err-Tree-Failed-clause-turned g c = IfOk-weaker c.unread.result _ _ (
     record {
       moves = λ whole fuel a. lost.moves whole fuel (c.if-not-pay.ensures files whole fuel mine _ a);
       counts = lost.counts;
-    }) c.unread.ensures
+    }) c.unread.ensures.looked

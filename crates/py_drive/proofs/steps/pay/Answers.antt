@@ -1,7 +1,12 @@
+use Rattle.std.proofs.lemmas.Result.{IfOk-weaker}
+use Rattle.py_frames.specs.declared.want.Want.TheVariants as wants
+use Rattle.py_drive.specs.Turns.{remains}
+use Rattle.py_drive.proofs.Stepping.{stepped_behind, stepped_out}
 use Rattle.py_drive.proofs.steps.pay.Goals as goal
 
-pub returns-then-pay-clause-turned : goal.returns-then-pay-clause-turned
-returns-then-pay-clause-turned c = λ files faults faults' mine. record { moves = λ whole fuel a. c.if-pay.ensures files whole fuel mine _ a; counts = tt }
+pub returns-then-not-pay-clause-turned : goal.returns-then-not-pay-clause-turned
+returns-then-not-pay-clause-turned c = stepped_out c.args.course.now.purse _ _ (λ files whole fuel mine a. c.if-not-pay.ensures files whole fuel mine _ a)
 
-pub returns-else-pay-clause-turned : goal.returns-else-pay-clause-turned
-returns-else-pay-clause-turned c = λ files faults faults' mine. record { moves = λ whole fuel a. c.if-pay.ensures files whole fuel mine _ a; counts = tt }
+pub returns-clause-turned : goal.returns-clause-turned
+returns-clause-turned c = IfOk-weaker c.start.result _ _ (λ turn step.
+    stepped_behind c.args.course.now.purse c.pay.new.self _ _ (remains c.args.course.now (wants.Then c.args.item)) turn (λ files whole fuel mine a. c.if-not-pay.ensures files whole fuel mine _ a) step) c.start.ensures.turned
