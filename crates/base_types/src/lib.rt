@@ -3,6 +3,7 @@
 #![tactic(auto)]
 
 mod exact;
+mod limits;
 mod no_memory;
 mod path;
 mod same;
@@ -10,6 +11,7 @@ mod seq;
 mod text;
 
 pub use exact::Exact;
+pub use limits::LONGEST_SOURCE;
 pub use no_memory::NoMemory;
 pub use path::{Listing, TreePath};
 pub use same::Same;

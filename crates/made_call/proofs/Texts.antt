@@ -1,6 +1,7 @@
 -- The texts of scripts that stand in a tree of which no call fails.
 use Rattle.std.proofs.Common.{◌≡◌, ◌∙◌, refl, sym, ap, subst, ℕ, ◌≤◌, length, List, [], ◌∷◌, ◌++◌, cond, Option, Some, None, le-leb, arith}
 use Rattle.std.specs.List.{AllZip}
+use Rattle.base_types.specs.declared.limits.TheConstants.{LONGEST_SOURCE}
 use Rattle.tree_files.specs.Files.{Files, node_at}
 use Rattle.tree_files.specs.declared.tree.Node.TheVariants.{File}
 use Rattle.import_words.specs.Words.{Word}
@@ -12,8 +13,8 @@ use Rattle.program_call.specs.declared.open.Unopened.TheVariants as unopened
 use Rattle.made_tree.specs.Scripts.{Holds}
 use Rattle.made_call.specs.Wanting.{IsWanting}
 
-short_enough : (text : List ℕ) → length text ≤ 1048576 → by_node (Some (File text)) ≡ opened.Text text
-short_enough text h = ap (λ b. cond b (opened.Text text) opened.TooLong) (le-leb (length text) 1048576 h)
+short_enough : (text : List ℕ) → length text ≤ LONGEST_SOURCE → by_node (Some (File text)) ≡ opened.Text text
+short_enough text h = ap (λ b. cond b (opened.Text text) opened.TooLong) (le-leb (length text) LONGEST_SOURCE h)
 
 -- what a word names that holds a text
 named : (files : Files) (word text : Word) (it : Opened) → Holds files word text → IsScript files word it → it ≡ opened.Text text

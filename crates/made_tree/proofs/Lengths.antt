@@ -3,6 +3,7 @@ use Rattle.std.proofs.Common.{◌≡◌, ℕ, zero, suc, ◌+◌, ◌*◌, ◌/�
 use Rattle.std.proofs.lemmas.Fmt.{length-decimal-le}
 use Rattle.std.proofs.lemmas.Nat.{mod_below}
 use Rattle.std.specs.Fmt.{decimal}
+use Rattle.base_types.specs.declared.limits.TheConstants.{LONGEST_SOURCE}
 use Rattle.workload.specs.Generator.{after, drawn, import_of, imports_of, script_text}
 
 drawn_below : (bound x : ℕ) → 1 ≤ bound → drawn bound x < bound
@@ -25,7 +26,7 @@ imports_length bound (suc n) x some few =
     let more : length (imports_of bound n x) ≤ n * 30 = imports_length bound n x some few in
     omega arith
 
-pub script_length : (modules x : ℕ) → 1 ≤ modules → modules ≤ 2 ^ 32 → length (script_text modules x) ≤ 1048576
+pub script_length : (modules x : ℕ) → 1 ≤ modules → modules ≤ 2 ^ 32 → length (script_text modules x) ≤ LONGEST_SOURCE
 script_length modules x some few =
     let short : length (imports_of modules 4 x) ≤ 4 * 30 = imports_length modules 4 x some few in
     omega arith

@@ -1,6 +1,7 @@
 -- The scripts of a made workload in its tree.
 use Rattle.std.specs.Prelude.{◌≡◌, ◌≤◌, ℕ, zero, suc, List, [], ◌∷◌, ◌++◌, length, Some}
 use Rattle.std.specs.List.{AllZip}
+use Rattle.base_types.specs.declared.limits.TheConstants.{LONGEST_SOURCE}
 use Rattle.base_types.specs.Path.{Path, Spells}
 use Rattle.tree_files.specs.declared.tree.Node.TheVariants.{File}
 use Rattle.tree_files.specs.Files.{Files, node_at}
@@ -20,7 +21,7 @@ pub record Holds (files : Files) (word text : Word) : Type 0 where
   pub spells : Spells word (word ∷ [])
   pub only : (path : Path) → Spells word path → path ≡ word ∷ []
   pub stands : node_at files (word ∷ []) ≡ Some (File text)
-  pub fits : length text ≤ 1048576
+  pub fits : length text ≤ LONGEST_SOURCE
 
 -- the tree of a workload holds each of its scripts
 abbrev pub HoldsScripts : ℕ → ℕ → ℕ → Type 0

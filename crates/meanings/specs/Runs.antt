@@ -6,6 +6,7 @@ use Rattle.machine_events.specs.declared.event.Event.TheVariants as e
 use Rattle.machine_events.specs.declared.event.Reply.{Reply}
 use Rattle.machine_events.specs.declared.event.Outcome.{Outcome}
 use Rattle.machine_events.specs.declared.event.Outcome.TheVariants as o
+use Rattle.base_types.specs.declared.limits.TheConstants.{LONGEST_SOURCE}
 use Rattle.base_types.specs.Path.{Path}
 use Rattle.tree_files.specs.declared.tree.Stamp.{Stamp}
 use Rattle.tree_files.specs.Files.{Files, node_at, stamp_of, bytes_of, names_in}
@@ -33,7 +34,7 @@ Answer (NamesOf path) = List (List ℕ)
 
 -- a source has at most 1,048,576 bytes
 abbrev pub within_source : List ℕ → Option (List ℕ)
-within_source bytes = if nat_le (length bytes) 1048576 then Some bytes else None
+within_source bytes = if nat_le (length bytes) LONGEST_SOURCE then Some bytes else None
 
 -- what these files answer
 abbrev pub told : Files → (question : Question) → Answer question

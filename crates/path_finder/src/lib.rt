@@ -8,6 +8,6 @@ mod sought;
 mod stamps;
 mod words;
 
-pub use load::{LONGEST, LoadFault, load_text};
+pub use load::{LoadFault, load_text};
 pub use look::Look;
 pub use words::{Found, LookIn, LookWant, Probe};

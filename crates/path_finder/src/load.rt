@@ -1,17 +1,15 @@
 //! The text of a file.
 ghost use Rattle.std.specs.Prelude.{◌≡◌, ◌≤◌, ◌<◌, length, IfOk, IfSome, IsErrOf, OnOk};
 ghost use Rattle.std.specs.Option.{ForSome};
+ghost use Rattle.base_types.specs.declared.limits.TheConstants.{LONGEST_SOURCE};
 ghost use Rattle.tree_files.specs.Count.{Rose};
 ghost use Rattle.tree_files.specs.Files.{node_at, bytes_of, IsFileAt};
 ghost use Rattle.path_finder.specs.Faults.{HasFailed};
 
-use base_types::{NoMemory, Seq, TreePath};
+use base_types::{LONGEST_SOURCE, NoMemory, Seq, TreePath};
 use std::alloc::{AllocError, Global};
 use thiserror::Error;
 use tree_files::{Tree, TreeFault};
-
-/// The most bytes of a source.
-pub const LONGEST: usize = 1_048_576;
 
 /// Why the text of a file was not loaded.
 #[derive(Clone, Copy, Debug, Error)]
@@ -57,9 +55,9 @@ pub fn load_text<T: Tree>(
 ) -> Result<Seq<u8>, LoadFault>
     requires { ForSome (T.files tree.old) (λ f. IsFileAt f file.now) }
     ensures loaded { IfSome (T.files tree.old) (λ f. IfOk result (λ text. text ≡ bytes_of (node_at f file.now))) }
-    ensures fits { IfOk result (λ text. length text ≤ 1048576) }
+    ensures fits { IfOk result (λ text. length text ≤ LONGEST_SOURCE) }
     ensures too_long { IfSome (T.files tree.old) (λ f. IsErrOf result LoadFault.TooLong
-        → 1048576 < length (bytes_of (node_at f file.now))) }
+        → LONGEST_SOURCE < length (bytes_of (node_at f file.now))) }
     ensures failed { HasFailed result → Rose (T.faults tree.old) (T.faults tree.new) }
     ensures too_long_faults { IsErrOf result LoadFault.TooLong → T.faults tree.new ≡ T.faults tree.old }
     ensures faults_stay { OnOk result (T.faults tree.new ≡ T.faults tree.old) }
@@ -74,7 +72,7 @@ pub fn load_text<T: Tree>(
         if count == 0 {
             return Ok(Seq::from_vec(text));
         }
-        if count > LONGEST - text.len() {
+        if count > LONGEST_SOURCE - text.len() {
             return Err(LoadFault::TooLong);
         }
         text.extend_from_slice(&buffer[..count])?;

@@ -1,6 +1,7 @@
 -- The text of a printed script is a source of that script.
 use Rattle.std.specs.Prelude.{ℕ, ◌≤◌, List, length, Ok}
 use Rattle.std.specs.Str.{IsUtf8}
+use Rattle.base_types.specs.declared.limits.TheConstants.{LONGEST_SOURCE}
 use Rattle.py_lexer.specs.declared.word.Token.{Token}
 use Rattle.py_lexer.specs.Source.{Tokens}
 use Rattle.py_lexemes.specs.Words.{lexemes_of}
@@ -26,7 +27,7 @@ Utf8 t = Unit {0}
 
 -- Where some source of the script is, its printed text is one, if it is not longer than a source may be.
 abbrev pub PrintsBack : List ℕ → Script → Type 0
-PrintsBack text s = (src : List ℕ) → IsSource src s → length text ≤ 1048576 → IsSource text s
+PrintsBack text s = (src : List ℕ) → IsSource src s → length text ≤ LONGEST_SOURCE → IsSource text s
 
 -- This holds of each text, where names, strings and the text itself are UTF-8.
 abbrev pub TextIsSource : Type 0

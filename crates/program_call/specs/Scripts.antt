@@ -1,6 +1,7 @@
 -- What scripts' words name in a tree.
 use Rattle.std.specs.Prelude.{◌≡◌, ◌≤◌, ℕ, nat_le, length, List, [], ◌∷◌, ◌++◌, codes, Option, Some, None, if◌then◌else◌}
 use Rattle.std.specs.List.{AllZip}
+use Rattle.base_types.specs.declared.limits.TheConstants.{LONGEST_SOURCE}
 use Rattle.base_types.specs.Path.{Path, Spells}
 use Rattle.tree_files.specs.declared.tree.Node.{Node}
 use Rattle.tree_files.specs.declared.tree.Node.TheVariants.{File, Dir}
@@ -18,7 +19,7 @@ AreFew scripts = (1 ≤ length scripts) × (length scripts ≤ 16)
 
 -- a file of at most 1,048,576 bytes has a text
 abbrev pub by_node : Option Node → Opened
-by_node (Some (File bytes)) = if nat_le (length bytes) 1048576 then opened.Text bytes else opened.TooLong
+by_node (Some (File bytes)) = if nat_le (length bytes) LONGEST_SOURCE then opened.Text bytes else opened.TooLong
 by_node (Some (Dir time)) = opened.Missing
 by_node None = opened.Missing
 

@@ -2,6 +2,7 @@
 use Rattle.std.proofs.Common.{◌≡◌, ◌≤◌, ◌<◌, ℕ, List, length, Bool, IsTrue, Option, Some, None, IfSome, if◌then◌else◌, refl, ap, sym, subst}
 use Rattle.std.specs.Option.{ForSome}
 use Rattle.std.proofs.lemmas.Bool.{le-leb, lt-leb}
+use Rattle.base_types.specs.declared.limits.TheConstants.{LONGEST_SOURCE}
 use Rattle.base_types.specs.Path.{Path}
 use Rattle.tree_files.specs.declared.tree.Node.{Node}
 use Rattle.tree_files.specs.declared.tree.Node.TheVariants as nodes
@@ -30,16 +31,16 @@ told_stamp None p a h = tt
 told_stamp (Some f) p a h = h
 
 -- a file that fits
-pub told_text : (o : Option Files) (p : Path) (text : List ℕ) → IfSome o (λ f. text ≡ bytes_of (node_at f p)) → length text ≤ 1048576 → IsTold o (TextOf p) (Some text)
+pub told_text : (o : Option Files) (p : Path) (text : List ℕ) → IfSome o (λ f. text ≡ bytes_of (node_at f p)) → length text ≤ LONGEST_SOURCE → IsTold o (TextOf p) (Some text)
 told_text None p text h fits = tt
 told_text (Some f) p text h fits =
     subst (λ (bytes : List ℕ). Some text ≡ within_source bytes) h
-    (ap (λ (b : Bool). if b then Some text else None) (sym (le-leb (length text) 1048576 fits)))
+    (ap (λ (b : Bool). if b then Some text else None) (sym (le-leb (length text) LONGEST_SOURCE fits)))
 
 -- one that doesn't
-pub told_none : (o : Option Files) (p : Path) → IfSome o (λ f. 1048576 < length (bytes_of (node_at f p))) → IsTold o (TextOf p) None
+pub told_none : (o : Option Files) (p : Path) → IfSome o (λ f. LONGEST_SOURCE < length (bytes_of (node_at f p))) → IsTold o (TextOf p) None
 told_none None p h = tt
-told_none (Some f) p h = ap (λ (b : Bool). if b then Some (bytes_of (node_at f p)) else None) (sym (lt-leb (length (bytes_of (node_at f p))) 1048576 h))
+told_none (Some f) p h = ap (λ (b : Bool). if b then Some (bytes_of (node_at f p)) else None) (sym (lt-leb (length (bytes_of (node_at f p))) LONGEST_SOURCE h))
 
 file_node : (node : Option Node) (size : ℕ) → stamps.File size ≡ stamp_of node → IsTrue (is_file node)
 file_node None size h = absurd (cc h)

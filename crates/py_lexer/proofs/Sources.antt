@@ -6,6 +6,7 @@ use Rattle.std.specs.Str.Lossy.{utf8_valid_len, valid_len_up_to}
 use Rattle.std.proofs.lemmas.Str.{is_utf8-from_IsUtf8, IsUtf8-from_is_utf8, utf8_valid_len-IsValidUpTo, utf8_valid_len_le}
 use Rattle.std.proofs.lemmas.Bool.Decides.{nat_tests}
 use Rattle.std.proofs.Math.Seq.{take-length}
+use Rattle.base_types.specs.declared.limits.TheConstants.{LONGEST_SOURCE}
 use Rattle.py_lexer.specs.declared.error.LexError.{LexError}
 use Rattle.py_lexer.specs.declared.error.LexError.TheVariants as error
 use Rattle.py_lexer.specs.declared.word.Token.{Token}
@@ -47,12 +48,12 @@ not_whole bs n v = utf8_false bs (λ u. v.longest (length bs) v.short (subst IsU
 -- a source gives only what is read
 pub only : {src : List ℕ} {answer : Answer} → Tokens src answer → source src ≡ answer
 unfolding source
-only {src} (source_spec.too_long h) = let t : nat_lt 1048576 (length src) ≡ true = grind (arith, nat_tests) in rw t refl
+only {src} (source_spec.too_long h) = let t : nat_lt LONGEST_SOURCE (length src) ≡ true = grind (arith, nat_tests) in rw t refl
 only {src} (source_spec.not_utf8 {n = n} h v) =
-    let t : nat_lt 1048576 (length src) ≡ false = grind (arith, nat_tests) in
+    let t : nat_lt LONGEST_SOURCE (length src) ≡ false = grind (arith, nat_tests) in
     rw (t, not_whole src n v, utf8_valid_len-IsValidUpTo src n v) refl
 only {src} (source_spec.text {out = out} h u s) =
-    let t : nat_lt 1048576 (length src) ≡ false = grind (arith, nat_tests) in
+    let t : nat_lt LONGEST_SOURCE (length src) ≡ false = grind (arith, nat_tests) in
     rw (t, utf8_true src u, starts_scan (without_mark (chars src)) out (lines_starts s)) refl
 
 -- the front that is UTF-8
@@ -114,9 +115,9 @@ valid_up_to bs e = record {
 pub gives : (src : List ℕ) → Tokens src (source src)
 unfolding source
 gives src =
-    choice (Tokens src) _ _ (nat_lt 1048576 (length src))
+    choice (Tokens src) _ _ (nat_lt LONGEST_SOURCE (length src))
     (λ t. source_spec.too_long (grind (arith, nat_tests)))
-    (λ t. let fits : length src ≤ 1048576 = grind (arith, nat_tests) in
+    (λ t. let fits : length src ≤ LONGEST_SOURCE = grind (arith, nat_tests) in
     choice (Tokens src) _ _ (is_utf8 src)
     (λ u. source_spec.text fits (IsUtf8-from_is_utf8 src u) (starts_lines (scan_starts (without_mark (chars src)))))
     (λ f. source_spec.not_utf8 fits (valid_up_to src f)))

@@ -1,6 +1,7 @@
 -- A source: its bytes, and its tokens or why there are none (Language Reference, chapter 2, for a small subset).
 use Rattle.std.specs.Prelude.{ℕ, suc, ◌+◌, ◌<◌, ◌≤◌, ◌==◌, not, ◌||◌, ◌&&◌, if◌then◌else◌, List, [], ◌∷◌, length, take, Result, Ok, Err}
 use Rattle.std.specs.Str.{IsUtf8, IsValidUpTo, chars}
+use Rattle.base_types.specs.declared.limits.TheConstants.{LONGEST_SOURCE}
 use Rattle.py_lexer.specs.declared.error.Kind.{Kind}
 use Rattle.py_lexer.specs.declared.error.Kind.TheVariants.{BadChar, BadNumber, NumberTooWide, OpenString, BadEscape, BadDedent, MixedTabs}
 use Rattle.py_lexer.specs.declared.error.LexError.{LexError}
@@ -41,7 +42,7 @@ answer_of (Err fault) = Err (error_at fault.kind fault.line)
 -- A source of more than 1,048,576 bytes is TooLong. Else one that is not UTF-8 is NotUtf8, with the line of its first bad
 -- byte. Else its tokens, or its first fault in text order, are those of its lines; a leading U+FEFF is dropped.
 pub data Tokens : List ℕ → Answer → Type 0 where
-  too_long : {src : List ℕ} → 1048576 < length src → Tokens src (Err error.TooLong)
+  too_long : {src : List ℕ} → LONGEST_SOURCE < length src → Tokens src (Err error.TooLong)
   -- the first n bytes are the longest front that is UTF-8, and more follow
-  not_utf8 : {src : List ℕ} {n : ℕ} → length src ≤ 1048576 → IsValidUpTo src n → Tokens src (Err (error.NotUtf8 (line_ends (take n src) + 1)))
-  text : {src : List ℕ} {out : Outcome} → length src ≤ 1048576 → IsUtf8 src → Lines (margin ∷ []) 1 (without_mark (chars src)) out → Tokens src (answer_of out)
+  not_utf8 : {src : List ℕ} {n : ℕ} → length src ≤ LONGEST_SOURCE → IsValidUpTo src n → Tokens src (Err (error.NotUtf8 (line_ends (take n src) + 1)))
+  text : {src : List ℕ} {out : Outcome} → length src ≤ LONGEST_SOURCE → IsUtf8 src → Lines (margin ∷ []) 1 (without_mark (chars src)) out → Tokens src (answer_of out)

@@ -11,11 +11,8 @@ ghost use Rattle.py_lexer.specs.Reading as reading;
 use crate::error::{LexError, lex_error};
 use crate::scan::scan;
 use crate::word::Token;
-use base_types::Seq;
+use base_types::{LONGEST_SOURCE, Seq};
 use std::alloc::{AllocError, Global};
-
-/// The longest source, in bytes.
-const MAX_LEN: usize = 1_048_576;
 
 /// Whether a LF stands at the front.
 fn begins_with_lf(bytes: &[u8]) -> bool
@@ -66,7 +63,7 @@ fn decoded(alloc: Global, text: &str) -> Result<Vec<char>, AllocError>
 fn read(alloc: Global, src: &[u8]) -> Result<Seq<Token>, LexError>
     ensures { Told (λ told. told ≡ source src.now) result }
 {
-    if src.len() > MAX_LEN {
+    if src.len() > LONGEST_SOURCE {
         return Err(LexError::TooLong);
     }
     let text = match str::from_utf8(src) {

@@ -12,7 +12,7 @@ use std::io::ErrorKind;
 use std::process::ExitCode;
 use std::sync::Wait;
 use std::thread::Threads;
-use tree_files::{RealTree, StdSink};
+use system_edge::{RealTree, StdSink};
 
 /// The words after the program's name. Words that are not UTF-8 are refused, as no words are.
 fn words_of(rt: &HostRuntime) -> Result<Vec<String>, NoMemory> {

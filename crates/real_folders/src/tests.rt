@@ -9,7 +9,8 @@ use std::fs;
 use std::fs::Permissions;
 use std::os::unix::fs::PermissionsExt;
 use std::test::Fail;
-use tree_files::{Grove, RealTree, Stamp, Tree, TreeFault};
+use system_edge::RealTree;
+use tree_files::{Grove, Stamp, Tree, TreeFault};
 
 fn text(rt: &HostRuntime, text: &str) -> Result<Text, Fail> {
     Ok(Text::from_str(rt.alloc(), text)?)

@@ -7,7 +7,8 @@ use row_words::{Row, RowError};
 use std::alloc::Global;
 use std::cell::Cell;
 use std::io::{self, Error, ErrorKind};
-use tree_files::{MemSink, Sink, SinkFault, StdSink, Streams, write_whole};
+use system_edge::{StdSink, Streams};
+use tree_files::{MemSink, Sink, SinkFault, write_whole};
 
 /// Standard streams of which the first takes two bytes at a time while there is room, after some interrupted writes, and
 /// the second is closed.

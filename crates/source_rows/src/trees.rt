@@ -1,7 +1,7 @@
 //! The tree of a source as the printer writes it, or why it has none.
 
 use crate::tokens::fault;
-use base_types::Text;
+use base_types::{LONGEST_SOURCE, Text};
 use py_parser::{ParseError, parse};
 use py_printer::print_script;
 use py_syntax::Script;
@@ -39,9 +39,6 @@ fn shown(alloc: Global, source: &[u8], text: &Text) -> Result<Text, RowError> {
     Ok(Text::from_string(format!(in alloc; "{len} bytes{same}")?))
 }
 
-/// The most bytes that a source may have.
-const MOST_SOURCE: usize = 1_048_576;
-
 /// Whether what is printed is parsed and printed again as it is.
 fn is_printed_again(alloc: Global, text: &Text) -> Result<bool, RowError> {
     match parse(alloc, text.as_bytes()) {
@@ -54,7 +51,7 @@ fn is_printed_again(alloc: Global, text: &Text) -> Result<bool, RowError> {
 /// A script as the printer writes it.
 pub fn printed(alloc: Global, source: &[u8], script: &Script) -> Result<Text, RowError> {
     let text = print_script(script)?;
-    if text.len() <= MOST_SOURCE && !is_printed_again(alloc, &text)? {
+    if text.len() <= LONGEST_SOURCE && !is_printed_again(alloc, &text)? {
         return Ok(Text::from_str(alloc, "printed otherwise when it is read again")?);
     }
     shown(alloc, source, &text)

@@ -3,5 +3,4 @@ pub mod Edits
 pub mod Files
 pub mod MemFiles
 pub mod Reading
-pub mod Systems
 pub mod Writing

@@ -4,16 +4,12 @@
 mod edit;
 mod laws;
 mod mem_tree;
-mod real_tree;
 mod sink;
-mod std_sink;
 mod tree;
 
 pub use base_types::{Exact, Listing, NoMemory, Same, Seq, Text, Texts, TreePath};
 pub use edit::Edit;
 pub use laws::{listing_is_one, names_are_listed};
 pub use mem_tree::MemTree;
-pub use real_tree::RealTree;
 pub use sink::{MemSink, Sink, SinkFault, write_whole};
-pub use std_sink::{StdSink, Streams};
 pub use tree::{Grove, Node, Stamp, Tree, TreeFault};

@@ -1,5 +1,6 @@
 use Rattle.std.proofs.Common.{◌<◌, length, Some, None, IfSome, Err, ap}
 use Rattle.std.proofs.lemmas.Result.{IfOk-weaker}
+use Rattle.base_types.specs.declared.limits.TheConstants.{LONGEST_SOURCE}
 use Rattle.tree_files.specs.Files.{node_at, bytes_of}
 use Rattle.meanings.specs.Runs.{TextOf}
 use Rattle.find_load.specs.declared.words.In.TheVariants as given
@@ -25,7 +26,7 @@ pub returns-in-Err-TooLong-clause-turned : goal.returns-in-Err-TooLong-clause-tu
 returns-in-Err-TooLong-clause-turned g c = IfOk-weaker c.feed-in-Err-TooLong.result _ _ (λ turn t. λ mine.
     let files = g.T.Tree.files c.args.tree.now in
     let path = c.args.path.now in
-    let longer : IfSome files (λ f. 1048576 < length (bytes_of (node_at f path))) = if_some files (λ f h. h (ap Err c.in-Err-TooLong.field-0-is)) c.in-Err-TooLong.ensures.too_long in
+    let longer : IfSome files (λ f. LONGEST_SOURCE < length (bytes_of (node_at f path))) = if_some files (λ f h. h (ap Err c.in-Err-TooLong.field-0-is)) c.in-Err-TooLong.ensures.too_long in
     let here = t files (g.T.Tree.faults c.args.tree.now) (g.T.Tree.faults c.load_text.new.tree) mine in
     record {
       moves = λ whole fuel a. here.moves whole fuel

@@ -2,9 +2,9 @@ ghost use Rattle.std.specs.Prelude.{◌≡◌, ◌≤◌, length, IfOk, None};
 ghost use Rattle.tree_files.specs.Count.{Rose};
 ghost use Rattle.tree_files.specs.declared.sink.SinkFault.TheVariants as fault;
 
-use crate::sink::{Sink, SinkFault};
 use std::io;
 use std::io::{Error, ErrorKind, Write};
+use tree_files::{Sink, SinkFault};
 
 /// A runtime that can write bytes to standard output and to standard error, some of them at a time.
 pub trait Streams: Drop {

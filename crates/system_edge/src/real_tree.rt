@@ -3,10 +3,9 @@ ghost use Rattle.std.specs.List.Sorted.{IsPermutation, IsSorted};
 ghost use Rattle.std.specs.Ordering.{nat_cmp};
 ghost use Rattle.std.specs.Cmp.Lexicographic.{slice_cmp};
 ghost use Rattle.tree_files.specs.Count.{Rose, raised};
-ghost use Rattle.tree_files.specs.Systems.{wants_slash, with_part, with_parts, or_here, system_name, says_absent, fault_of};
+ghost use Rattle.system_edge.specs.Systems.{wants_slash, with_part, with_parts, or_here, system_name, says_absent, fault_of};
 ghost use Rattle.tree_files.specs.declared.tree.TreeFault.TheVariants as fault;
 
-use crate::tree::{Grove, Stamp, Tree, TreeFault};
 use base_types::{Exact, NoMemory, Text, Texts, TreePath};
 use std::alloc::AllocError;
 use std::fs::Metadata;
@@ -14,13 +13,25 @@ use std::io::{ErrorKind, Read, Seek, SeekFrom};
 use std::rt::Files;
 use std::time::UNIX_EPOCH;
 use std::{fs, io};
+use tree_files::{Grove, Stamp, Tree, TreeFault};
+
+/// A file that was read from its front and has bytes left, perhaps.
+#[derive(Drop)]
+struct OpenFile<F> {
+    name: Text,
+    file: F,
+}
 
 /// A folder of the system, whose files it does not tell. A path of the wrong kind makes `list` and
 /// `read` fail.
+///
+/// The file that was read last stays open until a read finds its end or another file is read, so a
+/// file that is read in pieces from its front is opened once.
 #[derive(Drop)]
-pub struct RealTree<R> {
+pub struct RealTree<R: Files> {
     rt: R,
     root: Text,
+    open: Option<OpenFile<R::File>>,
     faults: u64,
     lists: u64,
 }
@@ -35,6 +46,7 @@ impl<R: Files + AllocGlobal + Clone + Drop> RealTree<R> {
         RealTree {
             rt,
             root,
+            open: None,
             faults: 0,
             lists: 0,
         }
@@ -52,6 +64,36 @@ impl<R: Files + AllocGlobal + Clone + Drop> RealTree<R> {
             self.faults = self.faults.saturating_add(1);
         }
         fault
+    }
+
+    /// The file of a name, to be read at a place: the one that is open where it is read on, and else
+    /// a file that is opened now.
+    fn opened(&mut self, name: Text, at: u64) -> io::Result<OpenFile<R::File>>
+        ensures faults_stay { self.new.faults ≡ self.old.faults }
+        ensures lists_stay { self.new.lists ≡ self.old.lists }
+    {
+        if let Some(open) = self.open.take() {
+            if at > 0 && open.name.as_str() == name.as_str() {
+                return Ok(open);
+            }
+        }
+        let file = fs::open(&self.rt, name.as_str())?;
+        Ok(OpenFile { name, file })
+    }
+
+    /// Reads the file of a name at a place, and keeps it open where it had bytes there.
+    fn read_at(&mut self, name: Text, at: u64, into: &mut [u8]) -> io::Result<usize>
+        ensures count { IfOk result (λ n. n ≤ length into.old) }
+        ensures faults_stay { self.new.faults ≡ self.old.faults }
+        ensures lists_stay { self.new.lists ≡ self.old.lists }
+    {
+        let mut open = self.opened(name, at)?;
+        open.file.seek(SeekFrom::Start(at))?;
+        let count = open.file.read(into)?;
+        if count > 0 {
+            self.open = Some(open);
+        }
+        Ok(count)
     }
 }
 
@@ -83,14 +125,17 @@ impl<R: Files + AllocGlobal + Clone + Drop> Tree for RealTree<R> {
 
     fn read(&mut self, file: &TreePath, at: u64, into: &mut [u8]) -> Result<usize, TreeFault> {
         let name = system_name(&self.root, file)?;
-        match read_at(&self.rt, name.as_str(), at, into) {
+        match self.read_at(name, at, into) {
             Ok(count) => Ok(count),
             Err(error) => Err(self.refuse(error)),
         }
     }
 }
 
-impl<R: Files + AllocGlobal + Clone + Send + Drop> Grove for RealTree<R> {
+impl<R: Files + AllocGlobal + Clone + Send + Drop> Grove for RealTree<R>
+where
+    R::File: Send,
+{
     fn fork(&mut self) -> Result<RealTree<R>, NoMemory>
         ensures root { IfOk result (λ child. child.root ≡ self.old.root) }
         ensures root_stays { self.new.root ≡ self.old.root }
@@ -102,6 +147,7 @@ impl<R: Files + AllocGlobal + Clone + Send + Drop> Grove for RealTree<R> {
         Ok(RealTree {
             rt: self.rt.clone()?,
             root: self.root.copy()?,
+            open: None,
             faults: 0,
             lists: 0,
         })
@@ -235,12 +281,4 @@ fn names_in<R: Files + AllocGlobal + Clone + Drop>(rt: &R, folder: &str) -> io::
         }
     }
     Ok(in_order(names)?)
-}
-
-fn read_at<R: Files>(rt: &R, name: &str, at: u64, into: &mut [u8]) -> io::Result<usize>
-    ensures { IfOk result (λ n. n ≤ length into.old) }
-{
-    let mut file = fs::open(rt, name)?;
-    file.seek(SeekFrom::Start(at))?;
-    file.read(into)
 }
