@@ -1,5 +1,5 @@
 //! A step that keeps the counts.
-ghost use Rattle.std.specs.Prelude.{◌≡◌, IfOk, OnOk, OnErr, IsTrue};
+ghost use Rattle.std.specs.Prelude.{◌≡◌, Err, IfOk, OnOk, OnErr, IsTrue};
 ghost use Rattle.machine_state.specs.Step.{step};
 ghost use Rattle.machine_state.specs.Allowed.{allowed};
 ghost use Rattle.machine_laws.specs.Sound.{IsSound};
@@ -11,6 +11,14 @@ use machine_events::{Event, Reply};
 use machine_state::State;
 use machine_steps::step;
 use spec_core::{Dotted, NameMap};
+
+// Lets an event go that is not made. It stands apart, since a function pays at its entry for all that it may let go.
+fn unmade(event: Event, error: NoMemory) -> Result<Reply, NoMemory>
+    ensures { result ≡ Err error }
+{
+    drop(event);
+    Err(error)
+}
 
 // The step of an event that may open a load of the one name, and ends one of the other.
 fn step_named(
@@ -33,7 +41,7 @@ fn step_named(
 {
     match raise_at(counts, begun) {
         Ok(()) => {}
-        Err(e) => return Err(e),
+        Err(e) => return unmade(event, e),
     }
     match step(state, thread, event) {
         Ok(reply) => {
@@ -64,11 +72,11 @@ pub(crate) fn step_counted(
 {
     let begun = match begins(state, &event) {
         Ok(begun) => begun,
-        Err(e) => return Err(e),
+        Err(e) => return unmade(event, e),
     };
     let ended = match ends(state, &event) {
         Ok(ended) => ended,
-        Err(e) => return Err(e),
+        Err(e) => return unmade(event, e),
     };
     step_named(state, counts, thread, event, &begun, &ended)
 }

@@ -30,6 +30,12 @@ pub fn closes(locks: &Locks, thread: u32, name: &Dotted) -> bool
     closes_by::<Brand>(locks, thread, name, Blank::new(1))
 }
 
+// Lets a reply go in whose place another comes. It stands apart, since a call clears a place for each part of what its
+// function may let go.
+fn let_go(reply: Reply) {
+    drop(reply);
+}
+
 /// Waits for the name, or answers that this would close a cycle.
 pub fn wait_or(
     locks: &mut Locks,
@@ -44,6 +50,7 @@ pub fn wait_or(
     if closes(locks, thread, &name) {
         return Ok(blocked);
     }
+    let_go(blocked);
     let awaited = name.copy()?;
     locks.queue(thread, awaited)?;
     Ok(Reply::Wait(name))
@@ -85,12 +92,14 @@ pub fn take_or(locks: &mut Locks, thread: u32, name: Dotted, mine: Reply) -> Res
     ensures ok { OnOk result (locks.new ≡ after_take locks.old thread name) }
     ensures err { OnErr result (locks.new ≡ locks.old) }
 {
-    match take(locks, thread, &name) {
-        Ok(Took::Got) => Ok(mine),
+    let took = match take(locks, thread, &name) {
+        Ok(Took::Got) => return Ok(mine),
         Ok(Took::Waits) => Ok(Reply::Wait(name)),
         Ok(Took::Closes) => Ok(Reply::Deadlock),
         Err(refusal) => Err(refusal),
-    }
+    };
+    let_go(mine);
+    took
 }
 
 /// Waiting for the name, or that this would close a cycle.
@@ -105,5 +114,6 @@ pub fn wait_reply(
     if closes(locks, thread, name) {
         return Ok(blocked);
     }
+    let_go(blocked);
     Ok(Reply::Wait(name.copy()?))
 }

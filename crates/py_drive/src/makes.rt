@@ -1,5 +1,5 @@
 //! Turns that make an event.
-ghost use Rattle.std.specs.Prelude.{◌≡◌, ◌≤◌, ℕ, List, IfOk, OnOk, OnErr, IsErrOf, Option};
+ghost use Rattle.std.specs.Prelude.{◌≡◌, ◌≤◌, ℕ, List, Err, IfOk, OnOk, OnErr, IsErrOf, Option};
 ghost use Rattle.tree_files.specs.Files.{Files};
 ghost use Rattle.meanings.specs.Lists.{lists_in};
 ghost use Rattle.py_frames.specs.declared.want.Want.TheVariants as wants;
@@ -12,6 +12,22 @@ use machine_events::Event;
 use py_frames::{Item, OnReply, Want};
 use script_holds::change_of;
 use script_port::{Halt, Port};
+
+/// Lets go what an event that is not made was for.
+///
+/// It stands apart, since a call clears a place for each part of what its function may let go.
+fn let_go(event: Event, on: OnReply) {
+    drop(event);
+    drop(on);
+}
+
+/// An event was not made.
+fn unmade(on: OnReply, halt: Halt) -> Result<Turn, Halt>
+    ensures { result ≡ Err halt }
+{
+    drop(on);
+    Err(halt)
+}
 
 /// An event is made, for a unit.
 pub fn call<P: Port>(
@@ -35,14 +51,12 @@ pub fn call<P: Port>(
     let change = match change_of(&event) {
         Ok(change) => change,
         Err(_) => {
-            drop(event);
-            drop(on);
+            let_go(event, on);
             return Err(Halt::NoMemory);
         }
     };
     if !course.purse.pay(false, 1) {
-        drop(event);
-        drop(on);
+        let_go(event, on);
         return Ok(Turn::Out);
     }
     course.purse.read = None;
@@ -51,10 +65,7 @@ pub fn call<P: Port>(
             Ok(()) => Ok(Turn::On(Want::Replied(on, reply))),
             Err(_) => Err(Halt::NoMemory),
         },
-        Err(halt) => {
-            drop(on);
-            Err(halt)
-        }
+        Err(halt) => unmade(on, halt),
     }
 }
 

@@ -234,13 +234,13 @@ fn wake_for_submodule(
 {
     let read = name.copy()?;
     let lazy = module.copy()?;
+    let owner = module.copy()?;
+    let asked = name.copy()?;
     let event = Event::GetVar {
         mid: module.mid,
         name: read,
         raw: true,
     };
-    let owner = module.copy()?;
-    let asked = name.copy()?;
     let on = OnReply::Submodule {
         module: owner,
         name: asked,

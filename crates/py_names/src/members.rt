@@ -99,12 +99,13 @@ fn member_awake(
 ) -> Result<Want, NoMemory>
     ensures { IfOk result (Does thread.now (replies (ons.Member «module» name false) reply_kinds.Sleeping thread.now)) }
 {
+    let read = name.copy()?;
+    let lazy = module.copy()?;
     let event = Event::GetVar {
         mid: module.mid,
-        name: name.copy()?,
+        name: read,
         raw: true,
     };
-    let lazy = module.copy()?;
     let is_raw = true;
     let reply = OnReply::Member {
         module,
@@ -319,12 +320,13 @@ fn delete_awake(
     ensures { IfOk result (Does thread.now (replies (ons.MemberDeleted «module» name false) reply_kinds.Sleeping
         thread.now)) }
 {
+    let deleted = name.copy()?;
+    let lazy = module.copy()?;
     let event = Event::DelVar {
         mid: module.mid,
-        name: name.copy()?,
+        name: deleted,
         raw: true,
     };
-    let lazy = module.copy()?;
     let is_raw = true;
     let reply = OnReply::MemberDeleted {
         module,

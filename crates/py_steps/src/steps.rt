@@ -4,8 +4,10 @@ ghost use Rattle.py_sources.specs.Sources.{sources};
 ghost use Rattle.py_frames.specs.Does as meant;
 ghost use Rattle.py_frames.specs.Does.{Does, DoesIn, begins, goes_on, pieces, replies};
 ghost use Rattle.py_frames.specs.declared.replies.OnReply.TheVariants as ons;
+ghost use Rattle.py_frames.specs.declared.work.Frame.TheVariants as frames;
+ghost use Rattle.py_frames.specs.declared.work.Item.TheVariants as items;
 
-use base_types::NoMemory;
+use base_types::{NoMemory, Seq};
 use find_load::In;
 use machine_events::Reply;
 use py_blocks::begin_block;
@@ -105,6 +107,7 @@ use py_operations::operands;
 use py_operations::second;
 use py_state::Flow;
 use py_state::Thread;
+use py_syntax::{Expr, Stmt};
 use py_tries::begin_bind;
 use py_tries::begin_handle;
 use py_tries::begin_match;
@@ -117,11 +120,48 @@ use py_tries::go_on_handlers;
 use py_tries::go_on_resume;
 use py_tries::unbound;
 use py_value::Value;
+use shared::Shared;
 use std::alloc::Global;
 
+/// The next turn of a loop.
+#[tactic(auto, using(crate::proofs::Sourced::begins_want))]
+fn turn(
+    thread: &Thread,
+    test: Shared<Expr>,
+    body: Shared<Seq<Stmt>>,
+    turns: u64,
+) -> Result<Want, NoMemory>
+    ensures { IfOk result (DoesIn sources thread.now (begins (items.Turn test body turns) thread.now sources)) }
+{
+    Ok(begin_turn(thread, test, body, turns))
+}
+
 /// Begins a piece of work.
+///
+/// Here stand the pieces that a script begins most often, all others in `begin_any`: a call clears
+/// a place for each value that any arm takes, so a function with few arms is begun quickly.
 #[tactic(auto, using(crate::proofs::Sourced::begins_in, crate::proofs::Sourced::begins_want))]
 pub fn begin(alloc: Global, item: Item, thread: &mut Thread) -> Result<Want, NoMemory>
+    ensures { IfOk result (DoesIn sources thread.new (begins item thread.old sources)) }
+{
+    match item {
+        Item::Eval(expr) => evaluate(alloc, thread, expr),
+        Item::Atom(expr) => atom(alloc, thread, expr),
+        Item::Operands { form, done } => operands(alloc, thread, form, done),
+        Item::Apply { expr, values } => apply(alloc, thread, expr, values),
+        Item::Perform { stmts, at, values } => perform(alloc, thread, stmts, at, values),
+        Item::Block { stmts, at } => begin_block(thread, stmts, at),
+        Item::Statement { stmts, at } => begin_statement(alloc, thread, stmts, at),
+        Item::Begun { stmts, at } => begun(alloc, thread, stmts, at),
+        Item::Turn { test, body, turns } => turn(thread, test, body, turns),
+        Item::Test { test, body, turns } => begin_test(thread, test, body, turns),
+        item => begin_any(alloc, item, thread),
+    }
+}
+
+/// Begins a piece of work of any kind.
+#[tactic(auto, using(crate::proofs::Sourced::begins_in, crate::proofs::Sourced::begins_want))]
+fn begin_any(alloc: Global, item: Item, thread: &mut Thread) -> Result<Want, NoMemory>
     ensures { IfOk result (DoesIn sources thread.new (begins item thread.old sources)) }
 {
     match item {
@@ -222,9 +262,57 @@ pub fn begin(alloc: Global, item: Item, thread: &mut Thread) -> Result<Want, NoM
     }
 }
 
+/// The size of a value is paid.
+#[tactic(auto, using(crate::proofs::Sourced::goes_on_want))]
+fn sized(thread: &Thread, flow: Flow) -> Result<Want, NoMemory>
+    ensures { IfOk result (DoesIn sources thread.now (goes_on frames.Sized flow thread.now sources)) }
+{
+    Ok(give_sized(thread, flow))
+}
+
+/// The statements of a block go on.
+#[tactic(auto, using(crate::proofs::Sourced::goes_on_want))]
+fn block(thread: &Thread, stmts: Shared<Seq<Stmt>>, at: usize, flow: Flow) -> Result<Want, NoMemory>
+    ensures { IfOk result (DoesIn sources thread.now (goes_on (frames.Block stmts at) flow thread.now sources)) }
+{
+    Ok(go_on_block(thread, stmts, at, flow))
+}
+
+/// The block of a loop is over.
+#[tactic(auto, using(crate::proofs::Sourced::goes_on_want))]
+fn turned(
+    thread: &Thread,
+    test: Shared<Expr>,
+    body: Shared<Seq<Stmt>>,
+    turns: u64,
+    flow: Flow,
+) -> Result<Want, NoMemory>
+    ensures { IfOk result (DoesIn sources thread.now
+        (goes_on (frames.Loop test body turns) flow thread.now sources)) }
+{
+    Ok(go_on_loop(thread, test, body, turns, flow))
+}
+
 /// A way on comes to what waited for it.
+///
+/// As in `begin`, the frames that wait most often stand here, and all others in `go_on_any`.
 #[tactic(auto, using(crate::proofs::Sourced::goes_on_in, crate::proofs::Sourced::goes_on_want))]
 pub fn go_on(alloc: Global, frame: Frame, flow: Flow, thread: &mut Thread) -> Result<Want, NoMemory>
+    ensures { IfOk result (DoesIn sources thread.new (goes_on frame flow thread.old sources)) }
+{
+    match frame {
+        Frame::Sized => sized(thread, flow),
+        Frame::Operands { form, done } => operand_value(alloc, thread, form, done, flow),
+        Frame::Block { stmts, at } => block(thread, stmts, at, flow),
+        Frame::Decide { test, body, turns } => go_on_decide(alloc, thread, test, body, turns, flow),
+        Frame::Loop { test, body, turns } => turned(thread, test, body, turns, flow),
+        frame => go_on_any(alloc, frame, flow, thread),
+    }
+}
+
+/// A way on comes to what waited for it, of any kind.
+#[tactic(auto, using(crate::proofs::Sourced::goes_on_in, crate::proofs::Sourced::goes_on_want))]
+fn go_on_any(alloc: Global, frame: Frame, flow: Flow, thread: &mut Thread) -> Result<Want, NoMemory>
     ensures { IfOk result (DoesIn sources thread.new (goes_on frame flow thread.old sources)) }
 {
     match frame {
@@ -300,8 +388,28 @@ fn done(thread: &Thread, reply: Reply) -> Want
 }
 
 /// The reply to an event comes to what waited for it.
+///
+/// As in `begin`, what waits most often stands here, and all else in `replied_any`.
 #[tactic(auto, using(crate::proofs::Sourced::replies_in, crate::proofs::Sourced::replies_want))]
 pub fn replied(
+    alloc: Global,
+    on: OnReply,
+    reply: Reply,
+    thread: &mut Thread,
+) -> Result<Want, NoMemory>
+    ensures { IfOk result (DoesIn sources thread.new (replies on reply thread.old sources)) }
+{
+    match on {
+        OnReply::Global(name) => global(alloc, thread, name, reply),
+        OnReply::Stored => stored(alloc, thread, reply),
+        OnReply::Feed(procedure) => replied_feed(alloc, procedure, reply, thread),
+        on => replied_any(alloc, on, reply, thread),
+    }
+}
+
+/// The reply to an event comes to what waited for it, of any kind.
+#[tactic(auto, using(crate::proofs::Sourced::replies_in, crate::proofs::Sourced::replies_want))]
+fn replied_any(
     alloc: Global,
     on: OnReply,
     reply: Reply,

@@ -15,11 +15,26 @@ use std::time::UNIX_EPOCH;
 use std::{fs, io};
 use tree_files::{Grove, Stamp, Tree, TreeFault};
 
-/// A file that was read from its front and has bytes left, perhaps.
+/// An open file, and the place of the byte that a read gives next.
 #[derive(Drop)]
 struct OpenFile<F> {
     name: Text,
     file: F,
+    place: u64,
+}
+
+impl<F: Read + Seek> OpenFile<F> {
+    /// Reads from a place on. It seeks only where the file stands at another one.
+    fn read_at(&mut self, at: u64, into: &mut [u8]) -> io::Result<usize>
+        ensures { IfOk result (λ n. n ≤ length into.old) }
+    {
+        if self.place != at {
+            self.file.seek(SeekFrom::Start(at))?;
+        }
+        let count = self.file.read(into)?;
+        self.place = at.saturating_add(count as u64);
+        Ok(count)
+    }
 }
 
 /// A folder of the system, whose files it does not tell. A path of the wrong kind makes `list` and
@@ -78,7 +93,11 @@ impl<R: Files + AllocGlobal + Clone + Drop> RealTree<R> {
             }
         }
         let file = fs::open(&self.rt, name.as_str())?;
-        Ok(OpenFile { name, file })
+        Ok(OpenFile {
+            name,
+            file,
+            place: 0,
+        })
     }
 
     /// Reads the file of a name at a place, and keeps it open where it had bytes there.
@@ -88,8 +107,7 @@ impl<R: Files + AllocGlobal + Clone + Drop> RealTree<R> {
         ensures lists_stay { self.new.lists ≡ self.old.lists }
     {
         let mut open = self.opened(name, at)?;
-        open.file.seek(SeekFrom::Start(at))?;
-        let count = open.file.read(into)?;
+        let count = open.read_at(at, into)?;
         if count > 0 {
             self.open = Some(open);
         }
