@@ -165,6 +165,49 @@ fn seen<T: Tree>(rt: &HostRuntime, tree: &mut T, at: &str) -> Result<String, Fai
     }
 }
 
+/// At most three bytes of a file from a place on.
+fn piece(
+    rt: &HostRuntime,
+    tree: &mut RealTree<HostRuntime>,
+    at: &str,
+    place: u64,
+) -> Result<String, Fail> {
+    let path = path(rt, at)?;
+    let mut bytes = [0u8; 3];
+    let count = tree.read(&path, place, &mut bytes)?;
+    Ok(format!(in rt.alloc(); "{count} of {bytes:?}")?)
+}
+
+#[test]
+fn a_file_is_read_on_and_anew(rt: HostRuntime) -> Result<(), Fail> {
+    let folder = "tree_files_pieces";
+    let _ = fs::remove_dir_all(&rt, folder);
+    fs::create_dir(&rt, folder)?;
+    fs::write(&rt, "tree_files_pieces/a", b"hello".as_slice())?;
+    fs::write(&rt, "tree_files_pieces/b", b"world".as_slice())?;
+    let mut tree = RealTree::at(rt, text(&rt, folder)?);
+    for (at, place, wanted) in [
+        ("a", 0, "3 of [104, 101, 108]"),
+        ("a", 3, "2 of [108, 111, 0]"),
+        ("a", 1, "3 of [101, 108, 108]"),
+        ("b", 4, "1 of [100, 0, 0]"),
+        ("a", 5, "0 of [0, 0, 0]"),
+        ("a", 4, "1 of [111, 0, 0]"),
+    ] {
+        assert_eq!(rt;
+            piece(&rt, &mut tree, at, place)?.as_str(),
+            wanted,
+            "{at} {place}"
+        );
+    }
+    fs::remove_file(&rt, "tree_files_pieces/a")?;
+    fs::write(&rt, "tree_files_pieces/a", b"other".as_slice())?;
+    let front = piece(&rt, &mut tree, "a", 0)?;
+    assert_eq!(rt; front.as_str(), "3 of [111, 116, 104]");
+    fs::remove_dir_all(&rt, folder)?;
+    Ok(())
+}
+
 #[test]
 fn a_real_folder_is_read(rt: HostRuntime) -> Result<(), Fail> {
     let folder = "tree_files_test";
