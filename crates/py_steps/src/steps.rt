@@ -155,6 +155,7 @@ pub fn begin(alloc: Global, item: Item, thread: &mut Thread) -> Result<Want, NoM
         Item::Begun { stmts, at } => begun(alloc, thread, stmts, at),
         Item::Turn { test, body, turns } => turn(thread, test, body, turns),
         Item::Test { test, body, turns } => begin_test(thread, test, body, turns),
+        Item::Feed(procedure, input) => begin_feed(alloc, procedure, input, thread),
         item => begin_any(alloc, item, thread),
     }
 }
@@ -293,6 +294,14 @@ fn turned(
     Ok(go_on_loop(thread, test, body, turns, flow))
 }
 
+/// An import is over.
+#[tactic(auto, using(crate::proofs::Sourced::goes_on_want))]
+fn imported(left: u32, flow: Flow, thread: &mut Thread) -> Result<Want, NoMemory>
+    ensures { IfOk result (DoesIn sources thread.new (goes_on (frames.Imported left) flow thread.old sources)) }
+{
+    Ok(go_on_imported(left, flow, thread))
+}
+
 /// A way on comes to what waited for it.
 ///
 /// As in `begin`, the frames that wait most often stand here, and all others in `go_on_any`.
@@ -306,6 +315,8 @@ pub fn go_on(alloc: Global, frame: Frame, flow: Flow, thread: &mut Thread) -> Re
         Frame::Block { stmts, at } => block(thread, stmts, at, flow),
         Frame::Decide { test, body, turns } => go_on_decide(alloc, thread, test, body, turns, flow),
         Frame::Loop { test, body, turns } => turned(thread, test, body, turns, flow),
+        Frame::Imported(left) => imported(left, flow, thread),
+        Frame::Open(procedure) => go_on_open(alloc, procedure, flow, thread),
         frame => go_on_any(alloc, frame, flow, thread),
     }
 }
