@@ -29,7 +29,8 @@ use std::collections::BTreeMap;
 use std::rt::Files;
 use std::time::Instant;
 use std::{env, fs, io};
-use tree_files::{RealTree, Tree, TreeFault};
+use system_edge::RealTree;
+use tree_files::{Tree, TreeFault};
 
 /// The kept listings.
 type Kept = BTreeMap<TreePath, Listing>;
@@ -206,7 +207,7 @@ def main():
     with tempfile.TemporaryDirectory() as folder:
         folder = pathlib.Path(folder)
         proofs = {"proofs/find/Invariants.antt": INVARIANTS}
-        crate, _ = scratch.run(folder, "search_rate", PROGRAM, ["path_finder"], proofs)
+        crate, _ = scratch.run(folder, "search_rate", PROGRAM, ["path_finder", "system_edge"], proofs)
         program = crate / "out" / "search_rate"
         for entries, modules in ((64, 500), (1, 5000)):
             searched = folder / f"folder_{entries}"

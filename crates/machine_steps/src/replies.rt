@@ -21,6 +21,17 @@ pub fn reply(machine: &State, thread: u32, event: &Event) -> Result<Reply, NoMem
     ensures { IfOk result (λ reply. reply ≡ (step machine.now thread event.now).0) }
 {
     match event {
+        Event::GetVar { mid, name, raw } => get_var(machine, thread, *mid, name, *raw),
+        Event::SetVar { mid, raw, .. } => Ok(set_reply(machine, thread, *mid, *raw)),
+        _ => reply_any(machine, thread, event),
+    }
+}
+
+/// `reply`, for events of every kind; apart for the reason of `step_any`.
+fn reply_any(machine: &State, thread: u32, event: &Event) -> Result<Reply, NoMemory>
+    ensures { IfOk result (λ reply. reply ≡ (step machine.now thread event.now).0) }
+{
+    match event {
         Event::Ask(name) => ask_reply(machine, thread, name),
         Event::Take(name) => take_reply(machine, thread, name),
         Event::Wake => Ok(Reply::Woken),

@@ -22,6 +22,26 @@ pub fn step(machine: &mut State, thread: u32, event: Event) -> Result<Reply, NoM
     ensures err { OnErr result (machine.new ≡ machine.old) }
 {
     match event {
+        Event::GetVar { mid, name, raw } => get_var(machine, thread, mid, &name, raw),
+        Event::SetVar {
+            mid,
+            name,
+            value,
+            raw,
+        } => set_var(machine, thread, mid, name, value, raw),
+        other => step_any(machine, thread, other),
+    }
+}
+
+/// `step`, for events of every kind. It stands apart since a call clears the places of all locals
+/// of its function, and variables are read and set far more often than all else is done.
+fn step_any(machine: &mut State, thread: u32, event: Event) -> Result<Reply, NoMemory>
+    requires { IsTrue (allowed machine.old thread event) }
+    ensures reply { IfOk result (λ reply. reply ≡ (step machine.old thread event).0) }
+    ensures ok { OnOk result (machine.new ≡ (step machine.old thread event).1) }
+    ensures err { OnErr result (machine.new ≡ machine.old) }
+{
+    match event {
         Event::Ask(name) => ask(machine, thread, name),
         Event::Take(name) => take(machine, thread, name),
         Event::Wake => Ok(wake(machine, thread)),

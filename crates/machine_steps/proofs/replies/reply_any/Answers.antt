@@ -1,5 +1,5 @@
 -- The reply of a part that is the same whatever the rest of the event is.
-use Rattle.machine_steps.proofs.replies.reply.Goals as goal
+use Rattle.machine_steps.proofs.replies.reply_any.Goals as goal
 
 pub returns-in-Finish : goal.returns-in-Finish
 returns-in-Finish c = rw c.in-Finish.is (c.finish_reply.ensures c.args.thread)
