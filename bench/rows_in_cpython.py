@@ -388,19 +388,11 @@ def made_rows():
         yield name, line, f"modules {modules} scripts {scripts} {counts}"
 
 
-def language_rows():
-    return call_rows("language_rows")
-
-
-def tree_rows():
-    return call_rows("tree_rows")
-
-
 def main():
     if sys.version_info[:2] != (3, 12):
         sys.exit("this needs CPython 3.12")
     others = 0
-    for rows in (value_rows, source_rows, search_rows, run_rows, made_rows, language_rows, tree_rows):
+    for rows in (value_rows, source_rows, search_rows, run_rows, made_rows):
         count = 0
         for row, answer, answered in rows():
             if answered is None:

@@ -1,4 +1,5 @@
-//! Whole calls of `pyimport` over trees and sinks in memory.
+//! Whole calls of `pyimport` over trees and sinks in memory: of the program and its words, of scripts of each form of the
+//! language, and of trees of files and what imports make of them.
 #![tactic(auto)]
 
 use row_words::{Row, answer_rows_by};
