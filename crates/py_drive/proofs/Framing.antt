@@ -1,6 +1,5 @@
--- Which frame a way on comes to, and what a step leads to.
+-- Which frame a way on comes to.
 use Rattle.std.proofs.Common.{◌≡◌, ℕ, List, [], ◌∷◌, Option, Some, None, MatchOption, sym, ◌∙◌, ap}
-use Rattle.meanings.specs.Runs.{Run}
 use Rattle.py_value.specs.declared.value.Value.{Value}
 use Rattle.py_state.specs.declared.flow.Flow.{Flow}
 use Rattle.py_state.specs.declared.flow.Flow.TheVariants.{Went, Left}
@@ -12,11 +11,6 @@ use Rattle.py_frames.specs.Does.{rest, frame_does}
 use Rattle.py_frames.specs.Unwind.{unwound}
 use Rattle.py_frames.proofs.Passing.{rest_unwound}
 use Rattle.py_frames.specs.declared.work.Frame.{Frame}
-use Rattle.py_frames.specs.declared.want.Want.{Want}
-use Rattle.py_drive.specs.Turns.{Stepped, remains, ended}
-use Rattle.py_drive.specs.declared.course.Course.{Course}
-use Rattle.py_drive.specs.declared.course.Turn.TheVariants as turn
-use Rattle.py_drive.specs.declared.purse.Purse.{Purse}
 
 -- what a way on comes to: the end, or a frame
 abbrev pub Comes : Option Frame → List Frame → List Frame → Flow → Type 0
@@ -35,10 +29,3 @@ comes_left o old new flow leave is h = rw is (left_comes o old new leave h)
 
 pub comes_went : (o : Option Frame) (old new : List Frame) (flow : Flow) (v : Value) → flow ≡ Went v → MatchOption o ((old ≡ []) × (new ≡ [])) (λ frame. old ≡ frame ∷ new) → Comes o old new flow
 comes_went o old new flow v is h = rw is (went_comes o old new v h)
-
--- a step that pays nothing
-pub stepped : (purse : Purse) (after : Course) (run : Run) (w : Want) → after.purse ≡ purse → remains after w ≡ run → Stepped purse after run (turn.On w)
-stepped purse after run w same is = λ files faults faults' mine. record { moves = λ whole fuel a. rw is (rw same a); counts = tt }
-
-pub stepped_out : (purse : Purse) (after : Course) (run : Run) (flow : Flow) → after.purse ≡ purse → ended flow ≡ run → Stepped purse after run (turn.Came flow)
-stepped_out purse after run flow same is = λ files faults faults' mine. record { moves = λ whole fuel a. rw is (rw same a); counts = tt }

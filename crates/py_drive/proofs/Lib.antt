@@ -6,6 +6,7 @@ mod Framing
 mod Stepping
 mod Making
 mod Turning
+mod Leading
 mod Searching
 mod Looping
 mod Finding

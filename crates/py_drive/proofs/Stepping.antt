@@ -27,24 +27,6 @@ stepped purse after run w same is files faults faults' mine = record {
   counts = tt;
 }
 
--- the same after a payment
-pub stepped_paid : (purse : Purse) (after : Course) (run next : Run) (w : Want) → remains after w ≡ next
-    → ((files : Option Files) (whole : Run) (fuel : ℕ) (mine : List (Event × Reply)) → At files whole fuel mine purse run → At files whole fuel mine after.purse next)
-    → Stepped purse after run (turn.On w)
-stepped_paid purse after run next w is paid files faults faults' mine = record {
-  moves = λ whole fuel a. rw is (paid files whole fuel mine a);
-  counts = tt;
-}
-
--- a turn behind a payment
-pub stepped_behind : (purse paid : Purse) (after : Course) (run next : Run) (t : Turn)
-    → ((files : Option Files) (whole : Run) (fuel : ℕ) (mine : List (Event × Reply)) → At files whole fuel mine purse run → At files whole fuel mine paid next)
-    → Stepped paid after next t → Stepped purse after run t
-stepped_behind purse paid after run next t leads step files faults faults' mine = record {
-  moves = λ whole fuel a. (step files faults faults' mine).moves whole fuel (leads files whole fuel mine a);
-  counts = (step files faults faults' mine).counts;
-}
-
 -- a payment could not be made
 pub stepped_out : (purse : Purse) (after : Course) (run : Run)
     → ((files : Option Files) (whole : Run) (fuel : ℕ) (mine : List (Event × Reply)) → At files whole fuel mine purse run → IsSpent files whole fuel mine after.purse.budget)

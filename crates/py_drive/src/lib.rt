@@ -12,6 +12,7 @@ mod script;
 mod search;
 mod steps;
 mod turn;
+mod working;
 
 pub use course::{Course, Turn};
 pub use drive::{Over, run};

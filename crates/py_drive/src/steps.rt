@@ -1,4 +1,4 @@
-//! Turns that see neither a port nor a tree.
+//! What turns are made of that see neither a port nor a tree.
 ghost use Rattle.std.specs.Prelude.{◌≡◌, ℕ, List, IfOk, IsErrOf, MatchOption, Option};
 ghost use Rattle.machine_events.specs.declared.event.Event.{Event};
 ghost use Rattle.machine_events.specs.declared.event.Reply.{Reply};
@@ -7,25 +7,24 @@ ghost use Rattle.py_meaning.specs.Meaning.{ends};
 ghost use Rattle.py_sources.specs.Sources.{sources};
 ghost use Rattle.py_state.specs.declared.thread.State.{State};
 ghost use Rattle.py_frames.specs.Does.{rest, frame_does};
-ghost use Rattle.py_frames.specs.declared.want.Want.TheVariants as wants;
 ghost use Rattle.meanings.specs.Runs.{Run};
 ghost use Rattle.meanings.specs.Costs.{after_reply};
 ghost use Rattle.py_drive.specs.At.{At, AfterPay};
-ghost use Rattle.py_drive.specs.Turns.{Stepped, remains, feeds};
+ghost use Rattle.py_drive.specs.Turns.{Stepped, feeds};
 
 use crate::course::{Course, Turn};
 use crate::purse::Purse;
 use find_load::In;
 use machine_events::Reply;
 use py_costs::reply_units;
-use py_frames::{Frame, Item, OnReply, Procedure, Want, Work};
+use py_frames::{Frame, Procedure, Work};
 use py_state::Flow;
-use py_steps::{begin, fed, go_on, replied};
+use py_steps::fed;
 use script_port::Halt;
 use std::alloc::Global;
 
 /// What waits for a way on: no frame, or the first one that it does not pass.
-fn next_frame(work: &mut Work, flow: &Flow) -> Option<Frame>
+pub fn next_frame(work: &mut Work, flow: &Flow) -> Option<Frame>
     ensures { MatchOption result ((d : ℕ) (s : State) → rest sources work.old d flow.now s ≡ ends flow.now s)
         (λ frame. (d : ℕ) (s : State) → rest sources work.old d flow.now s
         ≡ frame_does sources d frame (rest sources work.new) flow.now s) }
@@ -33,73 +32,6 @@ fn next_frame(work: &mut Work, flow: &Flow) -> Option<Frame>
     match flow {
         Flow::Left(leave) => work.unwind(leave),
         Flow::Went(_) => work.pop(),
-    }
-}
-
-/// A way on comes to what waits for it.
-pub fn pass(alloc: Global, course: &mut Course, flow: Flow) -> Result<Turn, Halt>
-    ensures turned { IfOk result (Stepped course.old.purse course.new (remains course.old (wants.Go flow))) }
-    ensures held { course.new.held ≡ course.old.held }
-    ensures refused { IsErrOf result Halt.Refused → ⊥ }
-{
-    match next_frame(&mut course.work, &flow) {
-        None => Ok(Turn::Came(flow)),
-        Some(frame) => match go_on(alloc, frame, flow, &mut course.thread) {
-            Ok(want) => Ok(Turn::On(want)),
-            Err(_) => Err(Halt::NoMemory),
-        },
-    }
-}
-
-/// A piece of work begins.
-pub fn start(alloc: Global, course: &mut Course, item: Item) -> Result<Turn, Halt>
-    ensures turned { IfOk result (Stepped course.old.purse course.new (remains course.old (wants.Then item))) }
-    ensures held { course.new.held ≡ course.old.held }
-    ensures refused { IsErrOf result Halt.Refused → ⊥ }
-{
-    match begin(alloc, item, &mut course.thread) {
-        Ok(want) => Ok(Turn::On(want)),
-        Err(_) => Err(Halt::NoMemory),
-    }
-}
-
-/// Units are paid, and a piece of work begins.
-pub fn pay(
-    alloc: Global,
-    course: &mut Course,
-    of_tree: bool,
-    units: u64,
-    item: Item,
-) -> Result<Turn, Halt>
-    ensures turned { IfOk result (Stepped course.old.purse course.new
-        (remains course.old (wants.Pay of_tree units item))) }
-    ensures held { course.new.held ≡ course.old.held }
-    ensures refused { IsErrOf result Halt.Refused → ⊥ }
-{
-    if !course.purse.pay(of_tree, units) {
-        drop(item);
-        return Ok(Turn::Out);
-    }
-    start(alloc, course, item)
-}
-
-/// A piece of work begins, and a frame waits for it.
-pub fn start_under(
-    alloc: Global,
-    course: &mut Course,
-    item: Item,
-    frame: Frame,
-) -> Result<Turn, Halt>
-    ensures turned { IfOk result (Stepped course.old.purse course.new (remains course.old (wants.Both item frame))) }
-    ensures held { course.new.held ≡ course.old.held }
-    ensures refused { IsErrOf result Halt.Refused → ⊥ }
-{
-    match course.work.push(frame) {
-        Ok(()) => start(alloc, course, item),
-        Err(_) => {
-            drop(item);
-            Err(Halt::NoMemory)
-        }
     }
 }
 
@@ -113,23 +45,6 @@ pub fn pay_reply(purse: &mut Purse, reply: &Reply) -> bool
     match reply {
         Reply::Wait(_) => true,
         _ => purse.pay(false, reply_units(reply)),
-    }
-}
-
-/// The reply to an event is paid for, and comes to what waits for it.
-pub fn reply_to(alloc: Global, course: &mut Course, on: OnReply, reply: Reply) -> Result<Turn, Halt>
-    ensures turned { IfOk result (Stepped course.old.purse course.new (remains course.old (wants.Replied on reply))) }
-    ensures held { course.new.held ≡ course.old.held }
-    ensures refused { IsErrOf result Halt.Refused → ⊥ }
-{
-    if !pay_reply(&mut course.purse, &reply) {
-        drop(on);
-        drop(reply);
-        return Ok(Turn::Out);
-    }
-    match replied(alloc, on, reply, &mut course.thread) {
-        Ok(want) => Ok(Turn::On(want)),
-        Err(_) => Err(Halt::NoMemory),
     }
 }
 

@@ -8,7 +8,7 @@ use crate::course::{Course, Turn};
 use crate::find::find;
 use crate::looks::file;
 use crate::makes::{call, wait};
-use crate::steps::{pass, pay, reply_to, start, start_under};
+use crate::working::work_on;
 use py_frames::Want;
 use script_port::{Halt, Port};
 use std::alloc::Global;
@@ -36,16 +36,7 @@ pub fn give<P: Port, T: Tree>(
         (P.view port.new).mine) }
 {
     match want {
-        Want::Go(flow) => pass(alloc, course, flow),
-        Want::Then(item) => start(alloc, course, item),
-        Want::Both(item, frame) => start_under(alloc, course, item, frame),
-        Want::Pay {
-            of_tree,
-            units,
-            item,
-        } => pay(alloc, course, of_tree, units, item),
         Want::Call(event, on) => call(port, course, event, on),
-        Want::Replied(on, reply) => reply_to(alloc, course, on, reply),
         Want::Wait(item) => wait(port, course, item),
         Want::Find {
             name,
@@ -53,5 +44,6 @@ pub fn give<P: Port, T: Tree>(
             procedure,
         } => find(alloc, port, tree, course, name, path, procedure),
         Want::File(path, procedure) => file(alloc, tree, course, &path, procedure),
+        other => work_on(alloc, course, other),
     }
 }
