@@ -10,7 +10,7 @@ use Rattle.py_drive.specs.Turns.{remains}
 use Rattle.py_drive.specs.declared.course.Course.{Course}
 use Rattle.py_drive.specs.declared.purse.Purse.{Purse}
 use Rattle.py_drive.proofs.Stepping.{stepped_came, stepped_out}
-use Rattle.py_drive.proofs.Leading.{Moves, Leads, wanted, over_course, leads, moves_paid, moves_pushed, comes_to, hands_on}
+use Rattle.py_drive.proofs.Leading.{Leads, wanted, leads_on, leads_begun, leads_replied, moves_paid, moves_pushed, comes_to, hands_on}
 use Rattle.py_drive.proofs.working.work_on.Goals as goal
 use Rattle.py_drive.proofs.working.work_on.Goals.{in-Go+in-Some, in-Then, in-Both+in-Ok, in-Both+in-Err, in-Pay+else-not-pay, in-Replied+else-not-pay_reply}
 
@@ -51,37 +51,18 @@ turns-preserved c =
     let course = c.turns.course in
     let came = c.turns.invariant.moves in
     let led : Leads purse run c.match-want.course c.match-want.next = elim c.match-want.branch [
-      | in-Go+in-Some w ↦
-          let after : Course = record { purse = course.purse; held = course.held; thread = w.go_on.new.thread; work = w.next_frame.new.work } in
-          over_course purse run _ _ after w.course-is (leads purse run course after (wants.Go w.in-Go.flow) _ _ _ (wanted purse run course _ _ w.in-Go.is came) w.next-is
-          (λ files whole fuel mine a. a)
-          (IfOk-weaker w.go_on.result _ _ (λ want d. d.does (rest sources w.next_frame.new.work) ∙ sym (w.in-Some.ensures course.thread.left course.thread.state)) w.go_on.ensures))
-      | in-Then w ↦
-          let after : Course = record { purse = course.purse; held = course.held; thread = w.begin-next.new.thread; work = course.work } in
-          over_course purse run _ _ after w.course-is (leads purse run course after (wants.Then w.in-Then.item) _ _ _ (wanted purse run course _ _ w.in-Then.is came) w.next-is
-          (λ files whole fuel mine a. a)
-          (IfOk-weaker w.begin-next.result _ _ (λ want d. d.does (rest sources course.work)) w.begin-next.ensures))
+      | in-Go+in-Some w ↦ leads_on purse run course _ w.in-Go.flow w.in-Some.frame w.next_frame.new.work w.go_on.new.thread _ _ (wanted purse run course _ _ w.in-Go.is came) w.in-Some.ensures w.course-is w.next-is w.go_on.ensures
+      | in-Then w ↦ leads_begun purse run course _ w.in-Then.item w.begin-next.new.thread _ _ (wanted purse run course _ _ w.in-Then.is came) w.course-is w.next-is w.begin-next.ensures
       | in-Both+in-Ok w ↦
-          let under : Course = record { purse = course.purse; held = course.held; thread = course.thread; work = w.push.new.self } in
-          let after : Course = record { purse = course.purse; held = course.held; thread = w.begin.new.thread; work = w.push.new.self } in
-          over_course purse run _ _ after w.course-is (leads purse run under after (wants.Then w.in-Both.item) _ _ _
-          (moves_pushed purse run course w.push.new.self w.in-Both.item w.in-Both.frame (wanted purse run course _ _ w.in-Both.is came) w.in-Ok.ensures.ok) w.next-is
-          (λ files whole fuel mine a. a)
-          (IfOk-weaker w.begin.result _ _ (λ want d. d.does (rest sources w.push.new.self)) w.begin.ensures))
+          leads_begun purse run (record { purse = course.purse; held = course.held; thread = course.thread; work = w.push.new.self }) _ w.in-Both.item w.begin.new.thread _ _
+          (moves_pushed purse run course w.push.new.self w.in-Both.item w.in-Both.frame (wanted purse run course _ _ w.in-Both.is came) w.in-Ok.ensures.ok) w.course-is w.next-is w.begin.ensures
       | in-Both+in-Err w ↦ subst (λ (r : Result Want NoMemory). Leads purse run c.match-want.course r) (sym w.next-is) tt
       | in-Pay+else-not-pay w ↦
-          let paid : Course = record { purse = w.pay.new.self; held = course.held; thread = course.thread; work = course.work } in
-          let after : Course = record { purse = w.pay.new.self; held = course.held; thread = w.begin-next-in-Pay.new.thread; work = course.work } in
-          over_course purse run _ _ after w.course-is (leads purse run paid after (wants.Then w.in-Pay.item) _ _ _
-          (moves_paid purse run course w.pay.new.self w.in-Pay.of_tree w.in-Pay.units w.in-Pay.item (wanted purse run course _ _ w.in-Pay.is came) w.if-not-pay.ensures) w.next-is
-          (λ files whole fuel mine a. a)
-          (IfOk-weaker w.begin-next-in-Pay.result _ _ (λ want d. d.does (rest sources course.work)) w.begin-next-in-Pay.ensures))
+          leads_begun purse run (record { purse = w.pay.new.self; held = course.held; thread = course.thread; work = course.work }) _ w.in-Pay.item w.begin-next-in-Pay.new.thread _ _
+          (moves_paid purse run course w.pay.new.self w.in-Pay.of_tree w.in-Pay.units w.in-Pay.item (wanted purse run course _ _ w.in-Pay.is came) w.if-not-pay.ensures) w.course-is w.next-is w.begin-next-in-Pay.ensures
       | in-Replied+else-not-pay_reply w ↦
-          let after : Course = record { purse = w.pay_reply.new.purse; held = course.held; thread = w.replied-next.new.thread; work = course.work } in
-          over_course purse run _ _ after w.course-is (leads purse run course after (wants.Replied w.in-Replied.on w.in-Replied.reply)
-          (reply_does sources course.thread.left w.in-Replied.on (rest sources course.work) course.thread.state w.in-Replied.reply) _ _ (wanted purse run course _ _ w.in-Replied.is came) w.next-is
-          (λ files whole fuel mine a. w.if-not-pay_reply.ensures files whole fuel mine _ a)
-          (IfOk-weaker w.replied-next.result _ _ (λ want d. d.does (rest sources course.work)) w.replied-next.ensures))
+          leads_replied purse run course _ w.pay_reply.new.purse w.in-Replied.on w.in-Replied.reply w.replied-next.new.thread _ _
+          (wanted purse run course _ _ w.in-Replied.is came) w.if-not-pay_reply.ensures w.course-is w.next-is w.replied-next.ensures
     ] in
     let kept : c.match-want.course.held ≡ course.held = elim c.match-want.branch [
       | in-Go+in-Some w ↦ ap (λ (c : Course). c.held) w.course-is
