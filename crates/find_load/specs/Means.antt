@@ -1,7 +1,7 @@
 -- What an import does from each stage on.
 use Rattle.std.specs.Prelude.{◌≡◌, ℕ, List, [], Some, None, Bool, false}
 use Rattle.machine_events.specs.declared.event.Event.TheVariants as e
-use Rattle.meanings.specs.Runs.{Pays, Looks, Makes, StampOf}
+use Rattle.run_rules.specs.Runs.{Pays, Looks, Makes, StampOf}
 use Rattle.path_finder.specs.Steps.{searches}
 use Rattle.search_meaning.specs.Searches.{searches_in}
 use Rattle.py_faults.specs.declared.fault.Fault.TheVariants as fault

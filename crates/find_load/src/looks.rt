@@ -1,7 +1,7 @@
 //! The looks into the cache, with the parent's import between them.
 ghost use Rattle.std.specs.Prelude.{◌<◌, IfOk};
 ghost use Rattle.machine_events.specs.declared.event.Event.TheVariants as ev;
-ghost use Rattle.meanings.specs.Runs.{Makes};
+ghost use Rattle.run_rules.specs.Runs.{Makes};
 ghost use Rattle.py_meaning.specs.Imports.{answers, asks, halts, met, misses, takes};
 ghost use Rattle.find_load.specs.Means.{Goes};
 ghost use Rattle.find_load.specs.UnderWay.{again, does_at, within};

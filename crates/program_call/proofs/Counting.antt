@@ -8,8 +8,8 @@ use Rattle.machine_events.specs.declared.event.Event.{Event}
 use Rattle.machine_events.specs.declared.event.Reply.{Reply}
 use Rattle.machine_events.specs.declared.event.Outcome.{Outcome}
 use Rattle.thread_knowledge.specs.Own.{own}
-use Rattle.meanings.specs.Runs.{Run}
-use Rattle.meanings.specs.Lists.{lists_in, ends_in}
+use Rattle.run_rules.specs.Runs.{Run}
+use Rattle.run_rules.specs.Lists.{lists_in, ends_in}
 use Rattle.script_end.specs.declared.end.Ending.{Ending}
 use Rattle.script_end.specs.declared.end.Ending.TheVariants as ending
 use Rattle.script_end.specs.Ending.{Ended, IsRead, outcome}

@@ -8,7 +8,7 @@ use Rattle.machine_events.specs.declared.event.Reply.TheVariants.{Done}
 use Rattle.machine_events.specs.declared.event.Entry.{Entry}
 use Rattle.machine_events.specs.declared.event.Outcome.{Outcome}
 use Rattle.thread_knowledge.specs.Own.{own}
-use Rattle.meanings.specs.Lists.{ends, ends_in}
+use Rattle.run_rules.specs.Lists.{ends, ends_in}
 use Rattle.script_end.specs.Ending.{Ended, outcome}
 use Rattle.program_call.specs.Ends.{end_in, end_of, line_of, line_at, lines_from, number_of, number_at, status_of}
 use Rattle.program_call.specs.Results.{Came, lines_by, worst_by, AreWhole, AllEnded}

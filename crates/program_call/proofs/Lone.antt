@@ -17,8 +17,8 @@ use Rattle.machine_book.specs.Bound.{opened, CanOpen}
 use Rattle.machine_book.specs.declared.opening.Opening.{Opening}
 use Rattle.thread_knowledge.specs.Own.{own, Ready}
 use Rattle.thread_knowledge.specs.Shown.{shown_first}
-use Rattle.meanings.specs.Runs.{Run, Safe}
-use Rattle.meanings.specs.Follows.{Follows}
+use Rattle.run_rules.specs.Runs.{Run, Safe}
+use Rattle.run_rules.specs.Follows.{Follows}
 use Rattle.script_end.specs.declared.end.Ending.{Ending}
 use Rattle.script_end.specs.declared.end.Ending.TheVariants as ending
 use Rattle.script_end.specs.Ending.{Broken, in_run, at_read, IsRead, outcome}

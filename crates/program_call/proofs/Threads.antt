@@ -14,9 +14,9 @@ use Rattle.machine_state.specs.Opening.{round_starts}
 use Rattle.machine_book.specs.Bound.{BoundTo}
 use Rattle.machine_book.specs.Outgo.{Outgo, Pieces, Kept}
 use Rattle.thread_knowledge.specs.Own.{own}
-use Rattle.meanings.specs.Runs.{Run}
-use Rattle.meanings.specs.Follows.{Follows}
-use Rattle.meanings.proofs.Stand.{part, stands_start}
+use Rattle.run_rules.specs.Runs.{Run}
+use Rattle.run_rules.specs.Follows.{Follows}
+use Rattle.run_rules.proofs.Stand.{part, stands_start}
 use Rattle.script_end.specs.Ending.{Broken, in_run, at_read, outcome}
 use Rattle.round_run.specs.Ran.{Counts, Runs, AllRan, MayBegin, RoundRan}
 use Rattle.import_words.specs.declared.plan.RunPlan.{RunPlan}

@@ -5,7 +5,7 @@ use Rattle.tree_files.specs.Count.{Rose}
 use Rattle.machine_events.specs.declared.event.Entry.{Entry}
 use Rattle.machine_state.specs.declared.state.State.{State}
 use Rattle.machine_state.specs.Opening.{opening}
-use Rattle.meanings.specs.Runs.{Run}
+use Rattle.run_rules.specs.Runs.{Run}
 use Rattle.solo_history.specs.Made.{Turn}
 use Rattle.solo_history.specs.Solo.{IsSolo}
 use Rattle.import_words.specs.declared.plan.RunPlan.{RunPlan}

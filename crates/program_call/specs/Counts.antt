@@ -5,7 +5,7 @@ use Rattle.machine_events.specs.declared.event.Entry.{Entry}
 use Rattle.machine_events.specs.declared.event.Outcome.{Outcome}
 use Rattle.machine_events.specs.declared.event.Outcome.TheVariants as o
 use Rattle.thread_knowledge.specs.Own.{own}
-use Rattle.meanings.specs.Lists.{lists_in, ends_in}
+use Rattle.run_rules.specs.Lists.{lists_in, ends_in}
 use Rattle.program_call.specs.Ends.{end_of}
 
 -- whether a script ended by a failed call of the tree, counted

@@ -7,8 +7,8 @@ use Rattle.machine_events.specs.declared.event.Reply.{Reply}
 use Rattle.machine_events.specs.declared.event.Entry.{Entry}
 use Rattle.machine_events.specs.declared.event.Outcome.{Outcome}
 use Rattle.thread_knowledge.specs.Own.{own}
-use Rattle.meanings.specs.Runs.{Run}
-use Rattle.meanings.specs.Follows.{Follows}
+use Rattle.run_rules.specs.Runs.{Run}
+use Rattle.run_rules.specs.Follows.{Follows}
 use Rattle.script_end.specs.Ending.{Broken}
 use Rattle.round_run.specs.Ran.{Counts, Runs, AllRan, absorbed}
 use Rattle.program_call.specs.Statuses.{want_of_memory}

@@ -1,7 +1,7 @@
 //! What a call runs: scripts, each made of its text.
 ghost use Rattle.std.specs.Prelude.{◌≡◌, ℕ, List};
 ghost use Rattle.thread_knowledge.specs.Shown.{shown_first};
-ghost use Rattle.meanings.specs.Runs.{Safe};
+ghost use Rattle.run_rules.specs.Runs.{Safe};
 ghost use Rattle.program_call.specs.Alone.{Means};
 
 use base_types::Seq;

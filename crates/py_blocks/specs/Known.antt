@@ -14,7 +14,7 @@ use Rattle.py_faults.specs.declared.fault.Fault.TheVariants as fault
 use Rattle.py_state.specs.declared.flow.Flow.TheVariants.{Left}
 use Rattle.py_state.specs.declared.flow.Leave.TheVariants.{Break, Continue}
 use Rattle.py_state.specs.declared.thread.Thread.{Thread}
-use Rattle.meanings.specs.Runs.{Run}
+use Rattle.run_rules.specs.Runs.{Run}
 use Rattle.py_meaning.specs.Pieces.{Piece, fails, passes, with_one, with_two, with_three}
 use Rattle.py_meaning.specs.Entries.{sets_entry, deletes_entry}
 use Rattle.py_meaning.specs.Names.{stores, deletes, sets_member, deletes_member}

@@ -4,8 +4,8 @@ use Rattle.std.specs.Option.{ForSome}
 use Rattle.tree_files.specs.Files.{Files}
 use Rattle.machine_events.specs.declared.event.Event.{Event}
 use Rattle.machine_events.specs.declared.event.Reply.{Reply}
-use Rattle.meanings.specs.Runs.{Run, StandsIn}
-use Rattle.meanings.proofs.Stand.{in_some}
+use Rattle.run_rules.specs.Runs.{Run, StandsIn}
+use Rattle.run_rules.proofs.Stand.{in_some}
 use Rattle.path_finder.specs.Looking.{Suits}
 use Rattle.path_finder.specs.declared.look.Stage.{Stage}
 use Rattle.path_finder.specs.declared.look.Stage.TheVariants as stages

@@ -6,8 +6,8 @@ use Rattle.machine_events.specs.declared.event.Event.TheVariants as e
 use Rattle.machine_events.specs.declared.event.Reply.{Reply}
 use Rattle.thread_knowledge.specs.Shown.{Shown, Running, Waiting, Over, Doing, shown, holds}
 use Rattle.thread_knowledge.specs.Knowing.{IsShown}
-use Rattle.meanings.specs.Runs.{MayMake}
-use Rattle.meanings.proofs.Spends.{shown-snoc}
+use Rattle.run_rules.specs.Runs.{MayMake}
+use Rattle.run_rules.proofs.Spends.{shown-snoc}
 use Rattle.script_port.specs.View.{View, Stays, Gains}
 use Rattle.script_holds.specs.Holds.{held_in}
 use Rattle.script_holds.specs.declared.held.Held.{Held}

@@ -5,8 +5,8 @@ use Rattle.base_types.specs.declared.no_memory.NoMemory.{NoMemory}
 use Rattle.tree_files.specs.Files.{Files}
 use Rattle.machine_events.specs.declared.event.Event.{Event}
 use Rattle.machine_events.specs.declared.event.Reply.{Reply}
-use Rattle.meanings.specs.Runs.{Run, Pays}
-use Rattle.meanings.specs.Costs.{after_reply}
+use Rattle.run_rules.specs.Runs.{Run, Pays}
+use Rattle.run_rules.specs.Costs.{after_reply}
 use Rattle.py_state.specs.declared.flow.Flow.{Flow}
 use Rattle.py_state.specs.declared.thread.State.{State}
 use Rattle.py_state.specs.declared.thread.Thread.{Thread}

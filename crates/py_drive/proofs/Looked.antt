@@ -11,7 +11,7 @@ use Rattle.tree_files.specs.declared.tree.Stamp.TheVariants as stamps
 use Rattle.tree_files.specs.Files.{Files, node_at, stamp_of, bytes_of, is_file, IsFileAt}
 use Rattle.machine_events.specs.declared.event.Event.{Event}
 use Rattle.machine_events.specs.declared.event.Reply.{Reply}
-use Rattle.meanings.specs.Runs.{Run, Looks, looks, Question, Answer, StampOf, TextOf, IsTold, within_source}
+use Rattle.run_rules.specs.Runs.{Run, Looks, looks, Question, Answer, StampOf, TextOf, IsTold, within_source}
 use Rattle.py_drive.specs.At.{At, IsFileStamp}
 use Rattle.py_meaning.specs.Imports.{opens}
 use Rattle.py_drive.specs.Turns.{Turned, Looked}

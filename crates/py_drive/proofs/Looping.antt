@@ -3,7 +3,7 @@ use Rattle.std.proofs.Common.{◌≡◌, ◌≤◌, ℕ, List, Option, sym, subs
 use Rattle.tree_files.specs.Files.{Files}
 use Rattle.machine_events.specs.declared.event.Event.{Event}
 use Rattle.machine_events.specs.declared.event.Reply.{Reply}
-use Rattle.meanings.specs.Runs.{Run, StandsIn}
+use Rattle.run_rules.specs.Runs.{Run, StandsIn}
 use Rattle.path_finder.specs.Steps.{Search}
 use Rattle.path_finder.specs.declared.words.Found.{Found}
 use Rattle.path_finder.specs.declared.words.LookIn.{LookIn}

@@ -4,8 +4,8 @@ use Rattle.tree_files.specs.Files.{Files}
 use Rattle.machine_events.specs.declared.event.Event.{Event}
 use Rattle.machine_events.specs.declared.event.Event.TheVariants as e
 use Rattle.machine_events.specs.declared.event.Reply.{Reply}
-use Rattle.meanings.specs.Runs.{Run, Makes, StandsIn}
-use Rattle.meanings.proofs.Stand.{stands_made, in_some}
+use Rattle.run_rules.specs.Runs.{Run, Makes, StandsIn}
+use Rattle.run_rules.proofs.Stand.{stands_made, in_some}
 use Rattle.script_port.specs.View.{View, Stays, Gains}
 use Rattle.script_holds.specs.declared.held.Held.{Held}
 use Rattle.script_end.specs.Ending.{Holds}

@@ -4,8 +4,8 @@ use Rattle.tree_files.specs.Files.{Files}
 use Rattle.machine_events.specs.declared.event.Event.{Event}
 use Rattle.machine_events.specs.declared.event.Reply.{Reply}
 use Rattle.machine_events.specs.declared.event.Reply.TheVariants as r
-use Rattle.meanings.specs.Runs.{Run, Pays}
-use Rattle.meanings.specs.Costs.{reply_units, after_reply}
+use Rattle.run_rules.specs.Runs.{Run, Pays}
+use Rattle.run_rules.specs.Costs.{reply_units, after_reply}
 use Rattle.py_drive.specs.At.{At}
 use Rattle.py_drive.specs.declared.purse.Purse.{Purse}
 

@@ -5,10 +5,10 @@ use Rattle.machine_events.specs.declared.event.Event.{Event}
 use Rattle.machine_events.specs.declared.event.Reply.{Reply}
 use Rattle.machine_events.specs.declared.event.Reply.TheVariants as r
 use Rattle.thread_knowledge.specs.Shown.{Shown, shown}
-use Rattle.meanings.specs.Costs.{after_reply}
-use Rattle.meanings.specs.Lists.{lists_in}
-use Rattle.meanings.specs.Runs.{Run, Makes, Pays, Safe, keeps}
-use Rattle.meanings.proofs.Spends.{shown-snoc}
+use Rattle.run_rules.specs.Costs.{after_reply}
+use Rattle.run_rules.specs.Lists.{lists_in}
+use Rattle.run_rules.specs.Runs.{Run, Makes, Pays, Safe, keeps}
+use Rattle.run_rules.proofs.Spends.{shown-snoc}
 use Rattle.path_finder.specs.Looking.{wants, Suits, CountsLists}
 use Rattle.path_finder.specs.Steps.{Search, Reads, here, stamped_at, listed_at}
 use Rattle.path_finder.specs.declared.look.Stage.{Stage}

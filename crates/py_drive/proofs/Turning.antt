@@ -6,9 +6,9 @@ use Rattle.tree_files.specs.Files.{Files}
 use Rattle.machine_events.specs.declared.event.Event.{Event}
 use Rattle.machine_events.specs.declared.event.Reply.{Reply}
 use Rattle.thread_knowledge.specs.Shown.{shown_first}
-use Rattle.meanings.specs.Lists.{lists_in}
-use Rattle.meanings.specs.Runs.{Run, Safe, StandsIn}
-use Rattle.meanings.proofs.Stand.{stands_start, safe_stands, in_some}
+use Rattle.run_rules.specs.Lists.{lists_in}
+use Rattle.run_rules.specs.Runs.{Run, Safe, StandsIn}
+use Rattle.run_rules.proofs.Stand.{stands_start, safe_stands, in_some}
 use Rattle.script_port.specs.View.{View, Stays}
 use Rattle.script_port.specs.declared.port.Halt.{Halt}
 use Rattle.py_meaning.specs.Meaning.{meaning, first_state}

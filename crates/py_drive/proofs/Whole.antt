@@ -9,12 +9,12 @@ use Rattle.machine_events.specs.declared.event.Reply.TheVariants.{Done}
 use Rattle.machine_events.specs.declared.event.Outcome.TheVariants as o
 use Rattle.thread_knowledge.specs.Shown.{shown, shown_first}
 use Rattle.thread_knowledge.specs.Knowing.{IsShown}
-use Rattle.meanings.specs.Runs.{Run, Ended, Stands, StandsIn, IsSpent, IsUnread, Safe}
-use Rattle.meanings.specs.Follows.{Follows, Ends}
-use Rattle.meanings.specs.Lists.{lists_in, ends_in}
-use Rattle.meanings.proofs.Giving.{safe_spend}
-use Rattle.meanings.proofs.Once.{no_end}
-use Rattle.meanings.proofs.Stand.{whole_of, safe_stands, over_reached, part, part_given, all_given, spent_gives_up, unread_gives_up}
+use Rattle.run_rules.specs.Runs.{Run, Ended, Stands, StandsIn, IsSpent, IsUnread, Safe}
+use Rattle.run_rules.specs.Follows.{Follows, Ends}
+use Rattle.run_rules.specs.Lists.{lists_in, ends_in}
+use Rattle.run_rules.proofs.Giving.{safe_spend}
+use Rattle.run_rules.proofs.Once.{no_end}
+use Rattle.run_rules.proofs.Stand.{whole_of, safe_stands, over_reached, part, part_given, all_given, spent_gives_up, unread_gives_up}
 use Rattle.py_state.specs.declared.flow.Leave.TheVariants.{Raised, Return, Break, Continue}
 use Rattle.py_state.specs.declared.flow.Flow.{Flow}
 use Rattle.py_state.specs.declared.flow.Flow.TheVariants.{Went, Left}

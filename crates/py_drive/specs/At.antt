@@ -5,7 +5,7 @@ use Rattle.tree_files.specs.declared.tree.Stamp.{Stamp}
 use Rattle.tree_files.specs.declared.tree.Stamp.TheVariants as stamps
 use Rattle.machine_events.specs.declared.event.Event.{Event}
 use Rattle.machine_events.specs.declared.event.Reply.{Reply}
-use Rattle.meanings.specs.Runs.{Run, Stands, IsSpent, IsUnread}
+use Rattle.run_rules.specs.Runs.{Run, Stands, IsSpent, IsUnread}
 use Rattle.py_drive.specs.declared.purse.Purse.{Purse}
 
 abbrev pub MayBeUnread : Option Files → Run → ℕ → List (Event × Reply) → Option ℕ → Type 0

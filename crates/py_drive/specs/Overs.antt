@@ -4,7 +4,7 @@ use Rattle.tree_files.specs.Files.{Files}
 use Rattle.tree_files.specs.Count.{Rose}
 use Rattle.machine_events.specs.declared.event.Event.{Event}
 use Rattle.machine_events.specs.declared.event.Reply.{Reply}
-use Rattle.meanings.specs.Runs.{Run, Stands, IsSpent, IsUnread}
+use Rattle.run_rules.specs.Runs.{Run, Stands, IsSpent, IsUnread}
 use Rattle.script_port.specs.View.{View}
 use Rattle.script_holds.specs.Holds.{held_in}
 use Rattle.py_meaning.specs.Meaning.{first_state}

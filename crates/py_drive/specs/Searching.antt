@@ -5,8 +5,8 @@ use Rattle.tree_files.specs.Count.{Rose}
 use Rattle.machine_events.specs.declared.event.Event.{Event}
 use Rattle.machine_events.specs.declared.event.Reply.{Reply}
 use Rattle.thread_knowledge.specs.Shown.{Shown, Running, shown}
-use Rattle.meanings.specs.Lists.{lists_in}
-use Rattle.meanings.specs.Runs.{Run, IsSpent, IsUnread, Safe}
+use Rattle.run_rules.specs.Lists.{lists_in}
+use Rattle.run_rules.specs.Runs.{Run, IsSpent, IsUnread, Safe}
 use Rattle.path_finder.specs.Looking.{Await, want_kind, input_kind, wants}
 use Rattle.path_finder.specs.Steps.{Search}
 use Rattle.path_finder.specs.declared.words.Found.{Found}

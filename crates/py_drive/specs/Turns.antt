@@ -5,8 +5,8 @@ use Rattle.tree_files.specs.Count.{Rose}
 use Rattle.machine_events.specs.declared.event.Event.{Event}
 use Rattle.machine_events.specs.declared.event.Reply.{Reply}
 use Rattle.thread_knowledge.specs.Shown.{shown}
-use Rattle.meanings.specs.Lists.{lists_in}
-use Rattle.meanings.specs.Runs.{Run, Over, Ended, Makes, Stands, StandsIn, IsSpent, IsUnread, Safe}
+use Rattle.run_rules.specs.Lists.{lists_in}
+use Rattle.run_rules.specs.Runs.{Run, Over, Ended, Makes, Stands, StandsIn, IsSpent, IsUnread, Safe}
 use Rattle.script_port.specs.View.{View}
 use Rattle.script_holds.specs.declared.held.Held.{Held}
 use Rattle.py_state.specs.declared.flow.Flow.{Flow}

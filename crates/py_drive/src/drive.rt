@@ -1,7 +1,7 @@
 //! The loop that does the work of a script.
 ghost use Rattle.std.specs.Prelude.{◌≡◌, [], None, codes, IfOk, OnOk, OnErr, IsErrOf};
 ghost use Rattle.thread_knowledge.specs.Shown.{shown_first};
-ghost use Rattle.meanings.specs.Runs.{Safe, StandsIn};
+ghost use Rattle.run_rules.specs.Runs.{Safe, StandsIn};
 ghost use Rattle.script_port.specs.View.{View, Stays};
 ghost use Rattle.py_meaning.specs.Meaning.{meaning};
 ghost use Rattle.py_sources.specs.Sources.{sources};

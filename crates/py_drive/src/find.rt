@@ -3,7 +3,7 @@ ghost use Rattle.std.specs.Prelude.{◌≡◌, ℕ, List, IfOk, OnOk, OnErr, IsE
 ghost use Rattle.find_load.specs.declared.words.In.TheVariants as given;
 ghost use Rattle.machine_events.specs.declared.event.Event.{Event};
 ghost use Rattle.machine_events.specs.declared.event.Reply.{Reply};
-ghost use Rattle.meanings.specs.Runs.{Run};
+ghost use Rattle.run_rules.specs.Runs.{Run};
 ghost use Rattle.py_frames.specs.declared.want.Want.TheVariants as wants;
 ghost use Rattle.script_port.specs.View.{View, Stays};
 ghost use Rattle.script_end.specs.Ending.{Holds};

@@ -3,7 +3,7 @@ ghost use Rattle.std.specs.Prelude.{◌≡◌, ◌≤◌, ℕ, List, IfOk, IsErr
 ghost use Rattle.std.specs.Option.{ForSome};
 ghost use Rattle.tree_files.specs.Count.{Rose};
 ghost use Rattle.tree_files.specs.Files.{Files, IsFileAt};
-ghost use Rattle.meanings.specs.Runs.{Run, Pays, Looks, TextOf};
+ghost use Rattle.run_rules.specs.Runs.{Run, Pays, Looks, TextOf};
 ghost use Rattle.find_load.specs.declared.words.In.TheVariants as given;
 ghost use Rattle.py_meaning.specs.Imports.{opens};
 ghost use Rattle.py_frames.specs.declared.want.Want.TheVariants as wants;

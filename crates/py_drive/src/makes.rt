@@ -1,7 +1,7 @@
 //! Turns that make an event.
 ghost use Rattle.std.specs.Prelude.{◌≡◌, ◌≤◌, ℕ, List, Err, IfOk, OnOk, OnErr, IsErrOf, Option};
 ghost use Rattle.tree_files.specs.Files.{Files};
-ghost use Rattle.meanings.specs.Lists.{lists_in};
+ghost use Rattle.run_rules.specs.Lists.{lists_in};
 ghost use Rattle.py_frames.specs.declared.want.Want.TheVariants as wants;
 ghost use Rattle.script_port.specs.View.{View, Stays};
 ghost use Rattle.script_end.specs.Ending.{Holds};

@@ -3,7 +3,7 @@ ghost use Rattle.std.specs.Prelude.{◌≤◌, ◌<◌, ℕ, List, Option, Bool}
 ghost use Rattle.tree_files.specs.Files.{Files};
 ghost use Rattle.machine_events.specs.declared.event.Event.{Event};
 ghost use Rattle.machine_events.specs.declared.event.Reply.{Reply};
-ghost use Rattle.meanings.specs.Runs.{Run, Pays, Stands};
+ghost use Rattle.run_rules.specs.Runs.{Run, Pays, Stands};
 ghost use Rattle.py_drive.specs.At.{At, AfterPay, MayBeUnread};
 
 /// The budget that is left, and what was left before the last payment for a call of the tree, if no

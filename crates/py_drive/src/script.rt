@@ -3,9 +3,9 @@ ghost use Rattle.std.specs.Prelude.{◌≡◌, ◌≤◌, ◌+◌, Some, IfOk, O
 ghost use Rattle.tree_files.specs.Count.{Rose};
 ghost use Rattle.tree_files.specs.Files.{Files};
 ghost use Rattle.thread_knowledge.specs.Shown.{shown_first};
-ghost use Rattle.meanings.specs.Runs.{Safe};
-ghost use Rattle.meanings.specs.Follows.{Follows};
-ghost use Rattle.meanings.specs.Lists.{lists_in, ends_in};
+ghost use Rattle.run_rules.specs.Runs.{Safe};
+ghost use Rattle.run_rules.specs.Follows.{Follows};
+ghost use Rattle.run_rules.specs.Lists.{lists_in, ends_in};
 ghost use Rattle.script_port.specs.View.{View, Stays};
 ghost use Rattle.script_end.specs.Ending.{outcome, IsRead, Ended, Broken};
 ghost use Rattle.py_meaning.specs.Meaning.{meaning};

@@ -3,8 +3,8 @@ ghost use Rattle.std.specs.Prelude.{◌≡◌, ℕ, List, IfOk, OnOk, OnErr, IsE
 ghost use Rattle.std.specs.Option.{ForSome};
 ghost use Rattle.machine_events.specs.declared.event.Event.{Event};
 ghost use Rattle.machine_events.specs.declared.event.Reply.{Reply};
-ghost use Rattle.meanings.specs.Costs.{after_reply};
-ghost use Rattle.meanings.specs.Runs.{Run, Pays, Safe};
+ghost use Rattle.run_rules.specs.Costs.{after_reply};
+ghost use Rattle.run_rules.specs.Runs.{Run, Pays, Safe};
 ghost use Rattle.path_finder.specs.Looking.{Await, awaits, input_kind, means, Suits, ForListing, ForKeeping};
 ghost use Rattle.path_finder.specs.Steps.{Search, searches};
 ghost use Rattle.path_finder.specs.declared.look.Stage.TheVariants as stages;

@@ -7,8 +7,8 @@ ghost use Rattle.py_meaning.specs.Meaning.{ends};
 ghost use Rattle.py_sources.specs.Sources.{sources};
 ghost use Rattle.py_state.specs.declared.thread.State.{State};
 ghost use Rattle.py_frames.specs.Does.{rest, frame_does};
-ghost use Rattle.meanings.specs.Runs.{Run};
-ghost use Rattle.meanings.specs.Costs.{after_reply};
+ghost use Rattle.run_rules.specs.Runs.{Run};
+ghost use Rattle.run_rules.specs.Costs.{after_reply};
 ghost use Rattle.py_drive.specs.At.{At, AfterPay};
 ghost use Rattle.py_drive.specs.Turns.{Stepped, feeds};
 

@@ -5,7 +5,7 @@ use Rattle.py_value.specs.declared.value.Raised.{Raised as Error}
 use Rattle.py_value.specs.declared.value.Value.{Value}
 use Rattle.machine_events.specs.declared.event.Event.TheVariants as e
 use Rattle.machine_events.specs.declared.event.Reply.{Reply}
-use Rattle.meanings.specs.Runs.{Run, Pays, Looks, Makes, StampOf}
+use Rattle.run_rules.specs.Runs.{Run, Pays, Looks, Makes, StampOf}
 use Rattle.py_syntax.specs.declared.expr.Expr.{Expr, out-Expr}
 use Rattle.py_syntax.specs.declared.expr.Expr.TheOpen.{Expr-F}
 use Rattle.py_syntax.specs.declared.stmt.Alias.{Alias}

@@ -21,7 +21,7 @@ use Rattle.path_finder.specs.Steps as search
 use Rattle.path_finder.specs.declared.words.Found.{Found}
 use Rattle.path_finder.specs.declared.words.Found.TheVariants as found
 use Rattle.search_meaning.specs.Searches.{searches_in}
-use Rattle.meanings.specs.Runs.{Run, Pays, Looks, Makes, StampOf, TextOf}
+use Rattle.run_rules.specs.Runs.{Run, Pays, Looks, Makes, StampOf, TextOf}
 use Rattle.py_faults.specs.declared.fault.Fault.{Fault}
 use Rattle.py_faults.specs.declared.fault.Fault.TheVariants as fault
 use Rattle.py_state.specs.declared.flow.Flow.{Flow}

@@ -11,8 +11,8 @@ use Rattle.machine_events.specs.declared.event.Event.{Event}
 use Rattle.machine_events.specs.declared.event.Event.TheVariants as e
 use Rattle.machine_events.specs.declared.event.Reply.{Reply}
 use Rattle.machine_events.specs.declared.event.Reply.TheVariants as r
-use Rattle.meanings.specs.Runs.{Run}
-pub use Rattle.meanings.specs.Costs.{pay, at_most, units_of, text_units, texts_size, texts_units, reply_units, after_reply, calls}
+use Rattle.run_rules.specs.Runs.{Run}
+pub use Rattle.run_rules.specs.Costs.{pay, at_most, units_of, text_units, texts_size, texts_units, reply_units, after_reply, calls}
 use Rattle.py_faults.specs.Faults.{error_of}
 use Rattle.py_faults.specs.declared.fault.Fault.{Fault}
 use Rattle.py_faults.specs.declared.fault.Fault.TheVariants as fault

@@ -15,7 +15,7 @@ use Rattle.py_syntax.specs.declared.expr.Expr.TheOpen.{Expr-F}
 use Rattle.py_faults.specs.declared.fault.Fault.TheVariants as fault
 use Rattle.py_state.specs.declared.flow.Flow.TheVariants.{Went}
 use Rattle.py_state.specs.declared.thread.Thread.{Thread}
-use Rattle.meanings.specs.Runs.{Run}
+use Rattle.run_rules.specs.Runs.{Run}
 use Rattle.py_meaning.specs.Pieces.{Piece, pay, on_value, sized, atom, gathers, applied_on, operates, fails, gives}
 use Rattle.py_meaning.specs.Names.{member, stores}
 use Rattle.py_meaning.specs.Entries.{reads_entry, has_entry}

@@ -3,8 +3,8 @@ ghost use Rattle.std.specs.Prelude.{◌≡◌, ◌≤◌, ◌+◌, [], IfOk, OnO
 ghost use Rattle.tree_files.specs.Count.{Rose};
 ghost use Rattle.tree_files.specs.Files.{Files};
 ghost use Rattle.machine_book.specs.Sight.{Sight, IsReady, Continues};
-ghost use Rattle.meanings.specs.Follows.{Follows};
-ghost use Rattle.meanings.specs.Lists.{lists_in, ends_in};
+ghost use Rattle.run_rules.specs.Follows.{Follows};
+ghost use Rattle.run_rules.specs.Lists.{lists_in, ends_in};
 ghost use Rattle.script_end.specs.Ending.{Ended, Broken, IsRead, outcome};
 ghost use Rattle.py_meaning.specs.Meaning.{meaning};
 ghost use Rattle.py_sources.specs.Sources.{sources};

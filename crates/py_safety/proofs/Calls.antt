@@ -18,7 +18,7 @@ use Rattle.value_operators.specs.Texts.{str_of, repr_of}
 use Rattle.spec_core.specs.Identifiers.{is_dotted}
 use Rattle.machine_events.specs.declared.event.Event.TheVariants as e
 use Rattle.thread_knowledge.specs.Shown.{Shown, shown_more}
-use Rattle.meanings.specs.Runs.{Safe}
+use Rattle.run_rules.specs.Runs.{Safe}
 use Rattle.value_parts.specs.Laws.{KnowsApplied}
 use Rattle.value_parts.proofs.Parts.{plain}
 use Rattle.value_parts.proofs.Operators.{operators}

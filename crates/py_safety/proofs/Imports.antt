@@ -24,7 +24,7 @@ use Rattle.path_finder.specs.Entries as entries
 use Rattle.path_finder.specs.declared.words.Found.{Found}
 use Rattle.path_finder.specs.declared.words.Found.TheVariants as found
 use Rattle.search_meaning.specs.Searches.{IsNamed}
-use Rattle.meanings.specs.Runs.{Safe}
+use Rattle.run_rules.specs.Runs.{Safe}
 use Rattle.py_faults.specs.declared.fault.Fault.{Fault}
 use Rattle.py_faults.specs.declared.fault.Fault.TheVariants as fault
 use Rattle.py_state.specs.declared.flow.Flow.{Flow}

@@ -8,7 +8,7 @@ use Rattle.machine_events.specs.declared.event.Reply.TheVariants as r
 use Rattle.thread_knowledge.specs.Holdings.{Loading}
 use Rattle.thread_knowledge.specs.Shown.{Shown, Running, shown_more}
 use Rattle.thread_knowledge.specs.Knowing.{Has}
-use Rattle.meanings.specs.Runs.{Safe}
+use Rattle.run_rules.specs.Runs.{Safe}
 use Rattle.py_faults.specs.declared.fault.Fault.TheVariants as fault
 use Rattle.py_state.specs.declared.flow.Leave.{Leave}
 use Rattle.py_state.specs.declared.flow.Flow.{Flow}

@@ -12,7 +12,7 @@ use Rattle.machine_events.specs.declared.event.Reply.TheVariants as r
 use Rattle.thread_knowledge.specs.Shown.{Shown, Running, shown_more, holds, does}
 use Rattle.thread_knowledge.specs.Holdings.{Holding}
 use Rattle.thread_knowledge.specs.Knowing.{Has}
-use Rattle.meanings.specs.Runs.{Run, Safe, MayMake}
+use Rattle.run_rules.specs.Runs.{Run, Safe, MayMake}
 use Rattle.py_faults.specs.declared.fault.Fault.{Fault}
 use Rattle.py_faults.specs.declared.fault.Fault.TheVariants as fault
 use Rattle.py_state.specs.declared.flow.Flow.{Flow}

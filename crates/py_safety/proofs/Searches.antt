@@ -4,7 +4,7 @@ use Rattle.py_value.specs.declared.value.Value.{Value}
 use Rattle.thread_knowledge.specs.Shown.{Shown, Running}
 use Rattle.path_finder.specs.Steps.{searches}
 use Rattle.path_finder.specs.declared.words.Found.{Found}
-use Rattle.meanings.specs.Runs.{Run, Safe}
+use Rattle.run_rules.specs.Runs.{Run, Safe}
 use Rattle.search_meaning.specs.Searches.{searches_in, IsNamed, Same}
 use Rattle.search_meaning.proofs.Safety.{safe_search}
 use Rattle.py_safety.proofs.Growth.{Fits}

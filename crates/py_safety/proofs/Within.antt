@@ -15,7 +15,7 @@ use Rattle.thread_knowledge.specs.Knowing.{Has, HasMid}
 use Rattle.path_finder.specs.Steps.{searches}
 use Rattle.path_finder.specs.declared.words.Found.{Found}
 use Rattle.search_meaning.specs.Searches.{searches_in, IsNamed}
-use Rattle.meanings.specs.Runs.{Safe, MayMake, Makes}
+use Rattle.run_rules.specs.Runs.{Safe, MayMake, Makes}
 use Rattle.py_state.specs.declared.flow.Flow.{Flow}
 use Rattle.py_state.specs.declared.flow.Flow.TheVariants.{Went}
 use Rattle.py_state.specs.declared.thread.State.{State}

@@ -2,7 +2,7 @@
 ghost use Rattle.std.specs.Prelude.{◌≡◌, ◌<◌, IfOk};
 ghost use Rattle.machine_events.specs.declared.event.Event.TheVariants as ev;
 ghost use Rattle.machine_events.specs.declared.event.Reply.TheVariants as replies;
-ghost use Rattle.meanings.specs.Runs.{Makes};
+ghost use Rattle.run_rules.specs.Runs.{Makes};
 ghost use Rattle.py_faults.specs.declared.fault.Fault.TheVariants as faults;
 ghost use Rattle.find_load.specs.declared.words.In.TheVariants as ins;
 ghost use Rattle.py_meaning.specs.Pieces.{most, pay};

@@ -14,7 +14,7 @@ use Rattle.trace_book.specs.declared.place.Place.{Place}
 use Rattle.round_run.specs.Ran.{Results, Counts, counted, no_counts, Ran, Runs, MayBegin}
 use Rattle.round_run.specs.declared.worker.Worker.{Worker}
 use Rattle.round_run.specs.Workers.{Facts, facts, IsNew, AllNew, HasWorked, AllWork, Descends, IsFork, IsSeated, AllSeated, SeatedAt, RanAt, Works, Gathers, Gathered}
-use Rattle.meanings.specs.Runs.{Run}
+use Rattle.run_rules.specs.Runs.{Run}
 use Rattle.round_run.proofs.Places.{all-at, zip-length, descends-below, descends-all, descends-zip}
 
 -- the n-th of the threads that may begin

@@ -5,7 +5,7 @@ use Rattle.base_types.specs.declared.no_memory.NoMemory.{NoMemory}
 use Rattle.tree_files.specs.Files.{Files}
 use Rattle.machine_events.specs.declared.event.Entry.{Entry}
 use Rattle.thread_knowledge.specs.Own.{own}
-use Rattle.meanings.specs.Runs.{Run}
+use Rattle.run_rules.specs.Runs.{Run}
 use Rattle.script_end.specs.declared.end.Ending.{Ending}
 use Rattle.round_run.specs.Ran.{Counts, no_counts, Ran, Runs, AllRan}
 

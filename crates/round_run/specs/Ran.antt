@@ -10,9 +10,9 @@ use Rattle.machine_state.specs.Legal.{IsLegal}
 use Rattle.thread_knowledge.specs.Own.{own, Ready}
 use Rattle.machine_book.specs.Bound.{BoundTo}
 use Rattle.machine_book.specs.Outgo.{Outgo, Pieces}
-use Rattle.meanings.specs.Runs.{Run}
-use Rattle.meanings.specs.Follows.{Follows}
-use Rattle.meanings.specs.Lists.{lists_in, ends_in}
+use Rattle.run_rules.specs.Runs.{Run}
+use Rattle.run_rules.specs.Follows.{Follows}
+use Rattle.run_rules.specs.Lists.{lists_in, ends_in}
 use Rattle.script_end.specs.Ending.{Ended, Broken, IsRead, outcome}
 use Rattle.trace_book.specs.Views.{base_of}
 use Rattle.trace_book.specs.Rule.{Written}

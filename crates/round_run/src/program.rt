@@ -1,7 +1,7 @@
 //! What a thread runs.
 ghost use Rattle.std.specs.Prelude.{◌≡◌, ℕ, [], Result};
 ghost use Rattle.machine_book.specs.Sight.{Sight, IsReady, Continues};
-ghost use Rattle.meanings.specs.Runs.{Run};
+ghost use Rattle.run_rules.specs.Runs.{Run};
 ghost use Rattle.round_run.specs.Ran.{RanOver};
 
 use base_types::NoMemory;

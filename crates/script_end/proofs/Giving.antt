@@ -6,9 +6,9 @@ use Rattle.machine_events.specs.declared.event.Outcome.{Outcome}
 use Rattle.machine_events.specs.declared.event.Reply.{Reply}
 use Rattle.thread_knowledge.specs.Shown.{shown}
 use Rattle.thread_knowledge.specs.Knowing.{IsShown}
-use Rattle.meanings.specs.Lists.{lists_in}
-use Rattle.meanings.specs.Runs.{gives, keeps}
-use Rattle.meanings.proofs.Stand.{may_give, gives_more, held_more, runs_more}
+use Rattle.run_rules.specs.Lists.{lists_in}
+use Rattle.run_rules.specs.Runs.{gives, keeps}
+use Rattle.run_rules.proofs.Stand.{may_give, gives_more, held_more, runs_more}
 use Rattle.script_port.specs.View.{View, Stays, Gains}
 use Rattle.script_holds.specs.Holds.{holding_of, held_in}
 use Rattle.script_holds.specs.declared.held.Held.{Held}

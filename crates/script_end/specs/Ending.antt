@@ -9,8 +9,8 @@ use Rattle.machine_events.specs.declared.event.Reply.TheVariants.{Done}
 use Rattle.machine_events.specs.declared.event.Outcome.{Outcome}
 use Rattle.machine_events.specs.declared.event.Outcome.TheVariants as o
 use Rattle.thread_knowledge.specs.Shown.{shown, Running}
-use Rattle.meanings.specs.Runs.{Run, GivesUp}
-use Rattle.meanings.specs.Follows.{IsPart}
+use Rattle.run_rules.specs.Runs.{Run, GivesUp}
+use Rattle.run_rules.specs.Follows.{IsPart}
 use Rattle.script_port.specs.View.{View}
 use Rattle.script_holds.specs.Holds.{held_in}
 use Rattle.script_holds.specs.declared.held.Held.{Held}

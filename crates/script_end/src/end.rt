@@ -5,8 +5,8 @@ ghost use Rattle.machine_events.specs.declared.event.Outcome.TheVariants as outc
 ghost use Rattle.machine_events.specs.declared.event.Reply.TheVariants.{Done};
 ghost use Rattle.thread_knowledge.specs.Shown.{shown};
 ghost use Rattle.thread_knowledge.specs.Knowing.{IsShown};
-ghost use Rattle.meanings.specs.Lists.{lists_in};
-ghost use Rattle.meanings.specs.Runs.{gives};
+ghost use Rattle.run_rules.specs.Lists.{lists_in};
+ghost use Rattle.run_rules.specs.Runs.{gives};
 ghost use Rattle.script_port.specs.View.{View, Stays};
 ghost use Rattle.script_holds.specs.Holds.{holding_of, held_in};
 ghost use Rattle.py_meaning.specs.Meaning as meant;

@@ -22,8 +22,8 @@ use Rattle.path_finder.specs.declared.words.LookIn.{LookIn}
 use Rattle.path_finder.specs.declared.words.LookIn.TheVariants as given
 use Rattle.path_finder.specs.declared.words.LookWant.{LookWant}
 use Rattle.path_finder.specs.declared.words.LookWant.TheVariants as wanted
-use Rattle.meanings.specs.Runs.{Run, Looks, looks, Reaches, Question, Answer, StampOf, NamesOf, IsTold, Stands, due}
-use Rattle.meanings.specs.Lists.{lists_in, Listed}
+use Rattle.run_rules.specs.Runs.{Run, Looks, looks, Reaches, Question, Answer, StampOf, NamesOf, IsTold, Stands, due}
+use Rattle.run_rules.specs.Lists.{lists_in, Listed}
 use Rattle.search_meaning.specs.Searches.{searches_in}
 
 -- an answer that the tree gave is the told one, where its files are told

@@ -19,8 +19,8 @@ use Rattle.path_finder.specs.Steps.{Search, Onward, passes, module_tried, tries_
 use Rattle.path_finder.specs.Steps as search
 use Rattle.path_finder.specs.declared.words.Probe.{Probe}
 use Rattle.path_finder.specs.declared.words.Found.{Found}
-use Rattle.meanings.specs.Runs.{Run, Safe, due}
-use Rattle.meanings.specs.Costs.{after_reply}
+use Rattle.run_rules.specs.Runs.{Run, Safe, due}
+use Rattle.run_rules.specs.Costs.{after_reply}
 use Rattle.search_meaning.specs.Searches.{searches_in, probe_of, IsNamed, IsKeeping, KeepsAll, Same}
 use Rattle.search_meaning.proofs.Naming.{AllNamed, searches_named}
 

@@ -12,8 +12,8 @@ use Rattle.path_finder.specs.Steps as search
 use Rattle.path_finder.specs.declared.words.Probe.{Probe}
 use Rattle.path_finder.specs.declared.words.Found.{Found}
 use Rattle.path_finder.specs.declared.words.Found.TheVariants as found
-use Rattle.meanings.specs.Runs.{Run, Pays, Looks, Makes, StampOf, NamesOf}
-use Rattle.meanings.specs.Costs.{pay, texts_units, calls}
+use Rattle.run_rules.specs.Runs.{Run, Pays, Looks, Makes, StampOf, NamesOf}
+use Rattle.run_rules.specs.Costs.{pay, texts_units, calls}
 
 -- what a listing's reply tells; any other tells of none
 abbrev pub probe_of : Reply → Option Probe

@@ -13,8 +13,8 @@ ghost use Rattle.path_finder.specs.declared.look.Look.{Look};
 ghost use Rattle.path_finder.specs.declared.words.Found.{Found};
 ghost use Rattle.path_finder.specs.declared.words.LookIn.{LookIn};
 ghost use Rattle.path_finder.specs.declared.words.LookWant.{LookWant};
-ghost use Rattle.meanings.specs.Runs.{Run, Safe, Stands};
-ghost use Rattle.meanings.specs.Lists.{Listed};
+ghost use Rattle.run_rules.specs.Runs.{Run, Safe, Stands};
+ghost use Rattle.run_rules.specs.Lists.{Listed};
 ghost use Rattle.search_meaning.specs.Searches.{searches_in, IsNamed, Same};
 
 /// A search for a name on a path is safe where what follows it is, for an answer of that name.

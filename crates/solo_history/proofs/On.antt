@@ -15,9 +15,9 @@ use Rattle.machine_laws.specs.Begun.{Begun, first}
 use Rattle.thread_knowledge.specs.Holdings.{Holding}
 use Rattle.thread_knowledge.specs.Own.{own}
 use Rattle.thread_knowledge.specs.Shown.{shown, shown_first}
-use Rattle.meanings.specs.Runs.{Run, Over, Pays, Looks, Makes, How, Spent, Ending, told, spend, play, replies_of, gives, gives_up, Reaches, starts, pays, looks, makes, Answer, GivesUp}
-use Rattle.meanings.specs.Follows.{IsPart}
-use Rattle.meanings.proofs.Spends.{play_longer}
+use Rattle.run_rules.specs.Runs.{Run, Over, Pays, Looks, Makes, How, Spent, Ending, told, spend, play, replies_of, gives, gives_up, Reaches, starts, pays, looks, makes, Answer, GivesUp}
+use Rattle.run_rules.specs.Follows.{IsPart}
+use Rattle.run_rules.proofs.Spends.{play_longer}
 use Rattle.solo_history.specs.Made.{Turn, reply_of, state_after, pairs_from, how_from, budget_by, outcome_by, run_of, how_of, turn_pairs, turn_entries, entries_of, history_of, CanStopAt, CanStop, HaveNoStops}
 use Rattle.solo_history.specs.Solo.{AreAlone, IsSolo, IsBroken, Plays, PlayOrBreak, BreaksAt, AreToCome, AllSafe}
 use Rattle.solo_history.proofs.Parts.{Replied, replied, replied_front, replied_last, entries_append, replay_append, legal_front, legal_back}

@@ -14,10 +14,10 @@ use Rattle.machine_state.specs.Legal.{replay, IsLegal}
 use Rattle.machine_laws.specs.Begun.{Begun, first}
 use Rattle.thread_knowledge.specs.Own.{own}
 use Rattle.thread_knowledge.specs.Shown.{shown, shown_first}
-use Rattle.meanings.specs.Runs.{Run, Over, Pays, Looks, Makes, How, Ended, Spent, Stop, Came, Cut, Ending, told, spend, play, on_budget, replies_of}
-use Rattle.meanings.specs.Lists.{ends, ends_in}
-use Rattle.meanings.specs.Follows.{Follows, Ends}
-use Rattle.meanings.proofs.Spends.{play_longer}
+use Rattle.run_rules.specs.Runs.{Run, Over, Pays, Looks, Makes, How, Ended, Spent, Stop, Came, Cut, Ending, told, spend, play, on_budget, replies_of}
+use Rattle.run_rules.specs.Lists.{ends, ends_in}
+use Rattle.run_rules.specs.Follows.{Follows, Ends}
+use Rattle.run_rules.proofs.Spends.{play_longer}
 use Rattle.solo_history.specs.Made.{Turn, reply_of, state_after, pairs_from, how_from, budget_by, outcome_by, run_of, how_of, turn_pairs, turn_entries, entries_of, history_of, CanStopAt}
 use Rattle.solo_history.specs.Solo.{AreAlone, IsSolo, Plays, AllPlay, StopsBy}
 use Rattle.solo_history.proofs.Parts.{Replied, replied, replied_front, own_append, own_entries, own_others, replay_append, legal_front, legal_back, ended_back, has_end}

@@ -15,7 +15,7 @@ use Rattle.machine_state.specs.Legal.{replay, IsLegal}
 use Rattle.thread_knowledge.specs.Own.{own, IsEnd, HasEnded}
 use Rattle.thread_knowledge.specs.Shown.{Doing, Running, Waiting, Over, does, answered}
 use Rattle.machine_knowledge.proofs.Agreeing.{is_over}
-use Rattle.meanings.specs.Lists.{ends}
+use Rattle.run_rules.specs.Lists.{ends}
 use Rattle.solo_history.specs.Made.{reply_of, state_after, entries_of}
 
 abbrev paired : Entry → Event × Reply

@@ -18,12 +18,12 @@ use Rattle.thread_knowledge.specs.Shown.{Shown, Doing, Running, Waiting, shown, 
 use Rattle.thread_knowledge.specs.Knowing.{IsShown, Knows}
 use Rattle.machine_knowledge.proofs.Law.{knows_allowed}
 use Rattle.machine_knowledge.proofs.Lone.{lone_waits_not}
-use Rattle.meanings.specs.Runs.{Run, Over, Pays, Looks, Makes, How, Ended, Spent, Came, told, spend, play, replies_of, Safe, MayMake, IsLast}
-use Rattle.meanings.specs.Lists.{ends_in}
-use Rattle.meanings.specs.Follows.{Ends}
-use Rattle.meanings.proofs.Spends.{safe_looked, shown-snoc}
-use Rattle.meanings.proofs.Giving.{safe_spend}
-use Rattle.meanings.proofs.Once.{no_end_made, once_at_end}
+use Rattle.run_rules.specs.Runs.{Run, Over, Pays, Looks, Makes, How, Ended, Spent, Came, told, spend, play, replies_of, Safe, MayMake, IsLast}
+use Rattle.run_rules.specs.Lists.{ends_in}
+use Rattle.run_rules.specs.Follows.{Ends}
+use Rattle.run_rules.proofs.Spends.{safe_looked, shown-snoc}
+use Rattle.run_rules.proofs.Giving.{safe_spend}
+use Rattle.run_rules.proofs.Once.{no_end_made, once_at_end}
 use Rattle.solo_history.specs.Made.{Turn, reply_of, state_after, pairs_from, how_from, budget_by, outcome_by, run_of, how_of, turn_pairs, turn_entries, entries_of, history_of, CanStopAt, CanStop, HaveNoStops}
 use Rattle.solo_history.specs.Solo.{AreAlone, IsSolo, Plays, AllPlay, AllSafe, StopsBy}
 use Rattle.solo_history.proofs.Parts.{own_append, own_entries, own_others, replay_append, legal_append}

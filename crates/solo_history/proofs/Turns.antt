@@ -24,8 +24,8 @@ use Rattle.machine_knowledge.proofs.Grow.{at_some}
 use Rattle.machine_knowledge.proofs.Agreeing.{Agrees, is_over}
 use Rattle.machine_knowledge.proofs.First.{agrees_first}
 use Rattle.machine_knowledge.proofs.Along.{whole_first, agree_along, ended_along}
-use Rattle.meanings.specs.Lists.{ends}
-use Rattle.meanings.proofs.Spends.{shown-snoc}
+use Rattle.run_rules.specs.Lists.{ends}
+use Rattle.run_rules.proofs.Spends.{shown-snoc}
 use Rattle.solo_history.specs.Made.{reply_of, entries_of}
 use Rattle.solo_history.specs.Solo.{AreAlone}
 use Rattle.solo_history.proofs.Parts.{own_append, own_cons, own_other, own_entries, own_others, replay_append, legal_append, ended_front, ended_back, has_end, goes_on}

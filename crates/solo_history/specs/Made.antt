@@ -12,7 +12,7 @@ use Rattle.machine_state.specs.Step.{step}
 use Rattle.machine_state.specs.Legal.{replay}
 use Rattle.thread_knowledge.specs.Shown.{shown_first}
 use Rattle.tree_files.specs.Files.{Files}
-use Rattle.meanings.specs.Runs.{Run, Over, Pays, Looks, Makes, How, Ended, Spent, told, spend}
+use Rattle.run_rules.specs.Runs.{Run, Over, Pays, Looks, Makes, How, Ended, Spent, told, spend}
 
 -- what one script does in its round
 pub record Turn : Type 0 where

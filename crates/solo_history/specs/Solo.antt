@@ -9,8 +9,8 @@ use Rattle.machine_state.specs.declared.state.State.{State}
 use Rattle.machine_state.specs.Legal.{IsLegal}
 use Rattle.thread_knowledge.specs.Own.{own}
 use Rattle.thread_knowledge.specs.Shown.{shown_first}
-use Rattle.meanings.specs.Runs.{Safe, GivesUp}
-use Rattle.meanings.specs.Follows.{Follows, IsPart}
+use Rattle.run_rules.specs.Runs.{Safe, GivesUp}
+use Rattle.run_rules.specs.Follows.{Follows, IsPart}
 use Rattle.solo_history.specs.Made.{Turn}
 
 -- each round has one script: the first of a script's round is the script itself

@@ -1,7 +1,7 @@
 use Rattle.std.proofs.Common.{◌≡◌, ℕ, suc, ◌+◌, List, [], ◌∷◌, length, refl, ap, ◌∙◌}
 use Rattle.tree_files.specs.Files.{Files}
 use Rattle.thread_knowledge.specs.Shown.{shown_first}
-use Rattle.meanings.specs.Runs.{Safe}
+use Rattle.run_rules.specs.Runs.{Safe}
 use Rattle.solo_history.specs.Made.{HaveNoStops}
 use Rattle.solo_history.specs.Solo.{AllSafe}
 use Rattle.program_call.specs.Alone.{Means, turns_of}

@@ -1,6 +1,6 @@
 use Rattle.std.proofs.Common.{◌≡◌, Err, ap, subst}
-use Rattle.meanings.specs.Runs.{Run}
-use Rattle.meanings.proofs.Stand.{in_some}
+use Rattle.run_rules.specs.Runs.{Run}
+use Rattle.run_rules.proofs.Stand.{in_some}
 use Rattle.script_port.specs.declared.port.Halt.TheVariants.{Refused}
 use Rattle.script_port.proofs.Staying.{stays_refl, stays_trans}
 use Rattle.py_meaning.specs.Meaning.{meaning}

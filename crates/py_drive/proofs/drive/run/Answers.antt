@@ -1,4 +1,4 @@
-use Rattle.meanings.proofs.Stand.{in_some}
+use Rattle.run_rules.proofs.Stand.{in_some}
 use Rattle.script_port.proofs.Staying.{stays_refl}
 use Rattle.py_drive.proofs.Turning.{begins, asked_refl}
 use Rattle.py_drive.proofs.drive.run.Goals as goal

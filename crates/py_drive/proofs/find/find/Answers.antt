@@ -1,5 +1,5 @@
 use Rattle.std.proofs.Common.{◌≡◌, Option, Err, ap}
-use Rattle.meanings.specs.Runs.{Run}
+use Rattle.run_rules.specs.Runs.{Run}
 use Rattle.path_finder.specs.declared.words.Found.{Found}
 use Rattle.find_load.specs.declared.words.In.TheVariants as given
 use Rattle.script_port.specs.declared.port.Halt.TheVariants.{Refused}

@@ -2,7 +2,7 @@ use Rattle.std.proofs.Common.{Option, None, Some, Err, sym, subst, ap}
 use Rattle.std.specs.Option.{ForSome}
 use Rattle.std.proofs.lemmas.Result.{IfOk-weaker}
 use Rattle.tree_files.specs.Files.{Files, IsFileAt}
-use Rattle.meanings.specs.Runs.{StampOf}
+use Rattle.run_rules.specs.Runs.{StampOf}
 use Rattle.find_load.specs.declared.words.In.TheVariants as given
 use Rattle.py_meaning.specs.Imports.{opens}
 use Rattle.py_drive.specs.Turns.{feeds}

@@ -2,7 +2,7 @@ use Rattle.std.proofs.Common.{◌<◌, length, Some, None, IfSome, Err, ap}
 use Rattle.std.proofs.lemmas.Result.{IfOk-weaker}
 use Rattle.base_types.specs.declared.limits.TheConstants.{LONGEST_SOURCE}
 use Rattle.tree_files.specs.Files.{node_at, bytes_of}
-use Rattle.meanings.specs.Runs.{TextOf}
+use Rattle.run_rules.specs.Runs.{TextOf}
 use Rattle.find_load.specs.declared.words.In.TheVariants as given
 use Rattle.py_drive.specs.Turns.{feeds}
 use Rattle.py_drive.proofs.Looked.{at_looked, told_text, told_none, if_some}

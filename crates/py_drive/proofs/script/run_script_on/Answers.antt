@@ -4,8 +4,8 @@ use Rattle.machine_events.specs.declared.event.Event.TheVariants as ev
 use Rattle.machine_events.specs.declared.event.Reply.TheVariants.{Done}
 use Rattle.tree_files.specs.Files.{Files}
 use Rattle.machine_events.specs.declared.event.Outcome.TheVariants as o
-use Rattle.meanings.specs.Runs.{Run, Stands, StandsIn, IsSpent, IsUnread}
-use Rattle.meanings.proofs.Stand.{in_some}
+use Rattle.run_rules.specs.Runs.{Run, Stands, StandsIn, IsSpent, IsUnread}
+use Rattle.run_rules.proofs.Stand.{in_some}
 use Rattle.script_port.proofs.Staying.{stays_trans}
 use Rattle.script_end.specs.Ending.{GaveAll, Gave}
 use Rattle.script_end.proofs.Giving.{lists_grow}

@@ -1,6 +1,6 @@
 use Rattle.std.proofs.Common.{◌≡◌, Err, refl, ap}
 use Rattle.machine_events.specs.declared.event.Event.TheVariants as e
-use Rattle.meanings.specs.Costs.{pay, texts_units}
+use Rattle.run_rules.specs.Costs.{pay, texts_units}
 use Rattle.path_finder.specs.declared.words.LookIn.TheVariants as given
 use Rattle.search_meaning.specs.Searches.{searches_in}
 use Rattle.thread_knowledge.specs.Shown.{shown}

@@ -1,7 +1,7 @@
 use Rattle.std.proofs.Common.{◌≡◌, ℕ, Option, Err, refl, sym, ap, subst}
 use Rattle.std.specs.Option.{ForSome}
 use Rattle.tree_files.specs.Files.{Files}
-use Rattle.meanings.proofs.Stand.{in_some}
+use Rattle.run_rules.proofs.Stand.{in_some}
 use Rattle.path_finder.specs.Looking.{awaits, means, Suits}
 use Rattle.script_port.specs.declared.port.Halt.TheVariants.{Refused}
 use Rattle.script_port.proofs.Staying.{stays_refl, stays_trans}

@@ -1,6 +1,6 @@
 use Rattle.std.proofs.Common.{Err, refl, sym, ap, subst}
 use Rattle.std.proofs.lemmas.Result.{IfOk-weaker}
-use Rattle.meanings.proofs.Stand.{on_err}
+use Rattle.run_rules.proofs.Stand.{on_err}
 use Rattle.path_finder.specs.Looking.{Await, means, wants}
 use Rattle.thread_knowledge.specs.Shown.{shown}
 use Rattle.py_drive.specs.Searching.{Fits}

@@ -1,5 +1,5 @@
 use Rattle.std.proofs.Common.{subst}
-use Rattle.meanings.specs.Runs.{Run}
+use Rattle.run_rules.specs.Runs.{Run}
 use Rattle.py_drive.specs.At.{At}
 use Rattle.py_drive.proofs.Paying.{wait_free, owed}
 use Rattle.py_drive.proofs.steps.pay_reply.Goals as goal

@@ -1,7 +1,7 @@
 use Rattle.std.proofs.Common.{◌≡◌, Result, IfOk, refl, sym, subst, ap, ◌∙◌}
 use Rattle.std.proofs.lemmas.Result.{IfOk-weaker}
 use Rattle.base_types.specs.declared.no_memory.NoMemory.{NoMemory}
-use Rattle.meanings.specs.Runs.{Run}
+use Rattle.run_rules.specs.Runs.{Run}
 use Rattle.py_sources.specs.Sources.{sources}
 use Rattle.py_frames.specs.Does.{rest, reply_does}
 use Rattle.py_frames.specs.declared.want.Want.{Want}

@@ -1,7 +1,7 @@
 use Rattle.std.proofs.Common.{List, ℕ, refl, sym, ap, subst}
 use Rattle.machine_book.proofs.Keeping.{continues_refl}
-use Rattle.meanings.specs.Follows.{Follows}
-use Rattle.meanings.specs.Lists.{ends_in}
+use Rattle.run_rules.specs.Follows.{Follows}
+use Rattle.run_rules.specs.Lists.{ends_in}
 use Rattle.script_end.specs.Ending.{Broken, outcome}
 use Rattle.py_meaning.specs.Meaning.{meaning}
 use Rattle.py_sources.specs.Sources.{sources}

@@ -1,5 +1,5 @@
 use Rattle.std.proofs.Common.{◌≤◌, length}
-use Rattle.meanings.specs.Lists.{lists_in}
+use Rattle.run_rules.specs.Lists.{lists_in}
 use Rattle.script_port.specs.View.{Stays}
 use Rattle.script_holds.specs.Holds.{held_in}
 use Rattle.script_end.specs.Ending.{Idle, Gave}

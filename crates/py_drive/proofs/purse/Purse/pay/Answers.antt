@@ -1,5 +1,5 @@
 use Rattle.std.proofs.Common.{arith}
-use Rattle.meanings.proofs.Stand.{stands_paid}
+use Rattle.run_rules.proofs.Stand.{stands_paid}
 use Rattle.py_drive.proofs.purse.Purse.pay.Goals as goal
 
 pub returns : goal.returns

@@ -3,7 +3,7 @@ use Rattle.std.specs.Prelude.{ℕ, ◌+◌, ◌≤◌, List, [], ◌∷◌}
 use Rattle.machine_events.specs.declared.event.Event.{Event}
 use Rattle.machine_events.specs.declared.event.Event.TheVariants as e
 use Rattle.machine_events.specs.declared.event.Reply.{Reply}
-use Rattle.meanings.specs.Runs.{Run, keeps, due}
+use Rattle.run_rules.specs.Runs.{Run, keeps, due}
 
 -- the DirSet events
 abbrev pub lists_in : List (Event × Reply) → ℕ

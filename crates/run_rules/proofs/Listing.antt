@@ -4,8 +4,8 @@ use Rattle.base_types.specs.Path.{Path}
 use Rattle.machine_events.specs.declared.event.Event.{Event}
 use Rattle.machine_events.specs.declared.event.Reply.{Reply}
 use Rattle.thread_knowledge.specs.Shown.{Shown}
-use Rattle.meanings.specs.Runs.{Run, Over, Pays, Looks, Makes, How, NamesOf, Question, Answer, keeps, Safe}
-use Rattle.meanings.specs.Lists.{lists_in, Listed}
+use Rattle.run_rules.specs.Runs.{Run, Over, Pays, Looks, Makes, How, NamesOf, Question, Answer, keeps, Safe}
+use Rattle.run_rules.specs.Lists.{lists_in, Listed}
 
 pub lists_in-snoc : (pairs : List (Event × Reply)) (p : Event × Reply) → lists_in (pairs ++ p ∷ []) ≡ lists_in pairs + keeps p.0
 lists_in-snoc [] p = omega arith

@@ -6,7 +6,7 @@ use Rattle.machine_events.specs.declared.event.Event.{Event}
 use Rattle.machine_events.specs.declared.event.Reply.{Reply}
 use Rattle.tree_files.specs.Files.{Files}
 use Rattle.thread_knowledge.specs.Shown.{Shown, shown, shown_first, shown_more}
-use Rattle.meanings.specs.Runs.{Run, Over, Pays, Makes, spend, play, on_budget, replies_of, Reaches, starts, pays, looks, makes, Question, StampOf, TextOf, NamesOf, Answer, told, Looks, Safe}
+use Rattle.run_rules.specs.Runs.{Run, Over, Pays, Makes, spend, play, on_budget, replies_of, Reaches, starts, pays, looks, makes, Question, StampOf, TextOf, NamesOf, Answer, told, Looks, Safe}
 
 -- what one more pair shows
 pub shown-snoc : (t : ℕ) (pairs : List (Event × Reply)) (p : Event × Reply) → shown t (pairs ++ p ∷ []) ≡ shown_more (shown t pairs) p

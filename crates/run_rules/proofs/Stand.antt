@@ -10,13 +10,13 @@ use Rattle.machine_events.specs.declared.event.Outcome.{Outcome}
 use Rattle.tree_files.specs.Files.{Files}
 use Rattle.thread_knowledge.specs.Holdings.{Holding}
 use Rattle.thread_knowledge.specs.Shown.{Shown, Running, shown, shown_first, holds}
-use Rattle.meanings.specs.Runs.{Run, Over, Pays, Makes, How, Spent, gives_up, spend, play, on_budget, Ending, Came, replies_of, Reaches, starts, pays, makes, told, Looks, Stands, StandsIn, IsSpent, IsUnread, AfterPay, AfterAsk, gives, GivesUp, Safe}
-use Rattle.meanings.specs.Follows.{Follows, IsPart, Ends}
-use Rattle.meanings.specs.Lists.{ends_in}
-use Rattle.meanings.proofs.Spends.{on_budget_at, spend_reaches, played, safe_reaches, shown-snoc}
-use Rattle.meanings.proofs.Giving.{safe_spend}
-pub use Rattle.meanings.proofs.Giving.{given, still, may_give}
-use Rattle.meanings.proofs.Once.{no_end, once_at_end}
+use Rattle.run_rules.specs.Runs.{Run, Over, Pays, Makes, How, Spent, gives_up, spend, play, on_budget, Ending, Came, replies_of, Reaches, starts, pays, makes, told, Looks, Stands, StandsIn, IsSpent, IsUnread, AfterPay, AfterAsk, gives, GivesUp, Safe}
+use Rattle.run_rules.specs.Follows.{Follows, IsPart, Ends}
+use Rattle.run_rules.specs.Lists.{ends_in}
+use Rattle.run_rules.proofs.Spends.{on_budget_at, spend_reaches, played, safe_reaches, shown-snoc}
+use Rattle.run_rules.proofs.Giving.{safe_spend}
+pub use Rattle.run_rules.proofs.Giving.{given, still, may_give}
+use Rattle.run_rules.proofs.Once.{no_end, once_at_end}
 
 pub stands_start : {files : Option Files} (whole : Run) (fuel : ℕ) → Stands files whole fuel [] fuel whole
 stands_start whole fuel = record { paid = 0; sum = omega arith; reaches = starts }

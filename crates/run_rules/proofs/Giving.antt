@@ -6,7 +6,7 @@ use Rattle.machine_events.specs.declared.event.Reply.{Reply}
 use Rattle.thread_knowledge.specs.Holdings.{Holding, Taken, Loading, Reloading}
 use Rattle.thread_knowledge.specs.Shown.{Shown, Doing, Running, holds, does, shown_more}
 use Rattle.thread_knowledge.specs.Knowing.{Has, IsShown}
-use Rattle.meanings.specs.Runs.{Run, Over, Pays, Makes, Looks, StampOf, TextOf, NamesOf, due, gives, gives_up, spend, Safe, MayMake}
+use Rattle.run_rules.specs.Runs.{Run, Over, Pays, Makes, Looks, StampOf, TextOf, NamesOf, due, gives, gives_up, spend, Safe, MayMake}
 
 -- after it was given up, the first thing that was held is held no more
 same_name : (n : List ℕ) → pointwise nat_eq n n ≡ true

@@ -7,9 +7,9 @@ use Rattle.machine_events.specs.declared.event.Reply.TheVariants.{Done}
 use Rattle.machine_events.specs.declared.event.Outcome.{Outcome}
 use Rattle.tree_files.specs.Files.{Files}
 use Rattle.thread_knowledge.specs.Shown.{Shown, Running, Waiting, Over as Ended, shown, shown_first, shown_more}
-use Rattle.meanings.specs.Runs.{Run, Over, Pays, Looks, Makes, StampOf, TextOf, NamesOf, Reaches, starts, pays, looks, makes, Safe}
-use Rattle.meanings.specs.Lists.{ends, ends_in}
-use Rattle.meanings.proofs.Spends.{safe_reaches}
+use Rattle.run_rules.specs.Runs.{Run, Over, Pays, Looks, Makes, StampOf, TextOf, NamesOf, Reaches, starts, pays, looks, makes, Safe}
+use Rattle.run_rules.specs.Lists.{ends, ends_in}
+use Rattle.run_rules.proofs.Spends.{safe_reaches}
 
 not_running : (s : Shown) → s.doing ≡ Ended → s.doing ≡ Running → ⊥
 not_running s ended runs = cc

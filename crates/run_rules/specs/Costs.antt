@@ -7,7 +7,7 @@ use Rattle.py_value.specs.declared.value.Value.TheVariants as values
 use Rattle.machine_events.specs.declared.event.Event.{Event}
 use Rattle.machine_events.specs.declared.event.Reply.{Reply}
 use Rattle.machine_events.specs.declared.event.Reply.TheVariants as r
-use Rattle.meanings.specs.Runs.{Run, Pays, Makes}
+use Rattle.run_rules.specs.Runs.{Run, Pays, Makes}
 
 -- units that are no payment for a call of the tree
 abbrev pub pay : ℕ → Run → Run

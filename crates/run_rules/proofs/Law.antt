@@ -6,9 +6,9 @@ use Rattle.machine_events.specs.declared.event.Event.{Event}
 use Rattle.machine_events.specs.declared.event.Reply.{Reply}
 use Rattle.tree_files.specs.Files.{Files}
 use Rattle.thread_knowledge.specs.Shown.{shown}
-use Rattle.meanings.specs.Runs.{Run, Over, Pays, Makes, gives_up, spend, play, Ending, replies_of, Reaches, starts, pays, makes, Looks, looks, told}
-use Rattle.meanings.specs.Follows.{BudgetLaw}
-use Rattle.meanings.proofs.Spends.{on_budget_at, play_longer}
+use Rattle.run_rules.specs.Runs.{Run, Over, Pays, Makes, gives_up, spend, play, Ending, replies_of, Reaches, starts, pays, makes, Looks, looks, told}
+use Rattle.run_rules.specs.Follows.{BudgetLaw}
+use Rattle.run_rules.proofs.Spends.{on_budget_at, play_longer}
 
 law_at : (f₀ : Files) (t : ℕ) {whole : Run} (rest : Run) {paid : ℕ} {pairs : List (Event × Reply)} (k f budget fuel : ℕ) (replies more : List Reply) → Reaches (Some f₀) whole paid pairs rest → budget ≡ paid + k → fuel ≡ paid + f → k ≤ f → replies ≡ replies_of pairs ++ more → BudgetLaw f₀ t whole budget fuel replies
 law_at f₀ t (Over how) k f budget fuel replies more r small great le begin =

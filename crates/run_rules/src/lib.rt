@@ -6,8 +6,8 @@ ghost use Rattle.std.specs.Prelude.{◌≡◌, ◌≤◌, ℕ, List, Some};
 ghost use Rattle.tree_files.specs.Files.{Files, IsListing};
 ghost use Rattle.base_types.specs.Path.{Path};
 ghost use Rattle.machine_events.specs.declared.event.Reply.{Reply};
-ghost use Rattle.meanings.specs.Runs.{Run, IsTold, NamesOf};
-ghost use Rattle.meanings.specs.Follows.{BudgetLaw};
+ghost use Rattle.run_rules.specs.Runs.{Run, IsTold, NamesOf};
+ghost use Rattle.run_rules.specs.Follows.{BudgetLaw};
 
 /// A smaller budget makes the events of a greater one, up to the first payment that it cannot make.
 pub fn budget_law()

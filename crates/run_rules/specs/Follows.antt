@@ -8,8 +8,8 @@ use Rattle.machine_events.specs.declared.event.Outcome.{Outcome}
 use Rattle.machine_events.specs.declared.event.Outcome.TheVariants as o
 use Rattle.tree_files.specs.Files.{Files}
 use Rattle.thread_knowledge.specs.Shown.{shown}
-use Rattle.meanings.specs.Lists.{ends_in}
-use Rattle.meanings.specs.Runs.{Run, Pays, How, Ended, Spent, Came, play, on_budget, gives_up, replies_of, Reaches}
+use Rattle.run_rules.specs.Lists.{ends_in}
+use Rattle.run_rules.specs.Runs.{Run, Pays, How, Ended, Spent, Came, play, on_budget, gives_up, replies_of, Reaches}
 
 -- with this fuel the script ends in this way, after what was paid
 abbrev pub Ends : ℕ → Outcome → ℕ → How → Type 0
