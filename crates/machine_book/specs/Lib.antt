@@ -3,3 +3,4 @@ pub mod Outgo
 pub mod StartCode
 pub mod Sight
 pub mod Bound
+pub mod Reads

@@ -6,9 +6,10 @@ ghost use Rattle.machine_laws.specs.Begun.{Begun, first};
 ghost use Rattle.machine_book.specs.Bound.{opened, CanOpen};
 ghost use Rattle.machine_book.specs.Outgo.{Kept};
 
+use crate::answered::answered;
 use crate::opening::Opening;
 use crate::outlet::Outlet;
-use base_types::{Exact, NoMemory, Seq};
+use base_types::{NoMemory, Seq};
 use import_machine::Machine;
 use machine_events::{Entry, Event, Reply};
 use std::marker::Model;
@@ -92,15 +93,8 @@ impl<O: Outlet> Book<O> {
         ensures legal { IfOk result (λ reply. IsLegal self.new.opening self.new.history) }
         ensures err { OnErr result (self.new ≡ self.old) }
     {
-        let written = event.copy()?;
-        let answer = self.machine.reply(thread, &written)?;
         self.history.reserve(1)?;
-        let reply = self.machine.step(thread, event)?;
-        let entry = Entry {
-            thread,
-            event: written,
-            reply: answer,
-        };
+        let (entry, reply) = answered(&mut self.machine, thread, event)?;
         self.outlet.put(&entry);
         self.history.push_reserved(entry);
         Ok(reply)

@@ -2,6 +2,7 @@
 //! its events on a book.
 #![tactic(auto)]
 
+mod answered;
 mod book;
 mod desk;
 mod opening;

@@ -9,6 +9,7 @@ use Rattle.spec_core.specs.declared.spec.SpecKind.TheVariants as kinds
 use Rattle.py_value.specs.declared.value.NsState.{NsState}
 use Rattle.module_table.specs.Vars.{with_var}
 
+-- only packages have a `__path__`, and a namespace has `__file__` None (`importlib._bootstrap._init_module_attrs`)
 abbrev pub kind_vars : SpecKind → List (List ℕ × Value) → List (List ℕ × Value)
 kind_vars kinds.Builtin vars = vars
 kind_vars (kinds.Source file) vars = with_var vars (codes "__file__") (values.Text file)
@@ -22,6 +23,7 @@ restarted spec vars =
     kind_vars spec.kind
     (with_var (with_var vars (codes "__name__") (values.Text spec.name)) (codes "__package__") (values.Text (package_of spec.name spec.kind)))
 
+-- a new module has the variables of its spec and no others
 abbrev pub start_vars : Spec → List (List ℕ × Value)
 start_vars spec = restarted spec []
 

@@ -34,9 +34,11 @@ new_table path = record { cache = empty; objects = []; loads = []; path = path; 
 abbrev pub object_of : Spec → Phase → Option ℕ → Object
 object_of spec phase load = record { spec = spec; phase = phase; vars = start_vars spec; ns = start_ns spec.kind; load = load }
 
+-- the object goes last, so its number is how many there were
 abbrev pub with_object : Table → Object → Table
 with_object table object = record table { objects = table.objects ++ object ∷ [] }
 
+-- the load goes last, so its number is how many there were
 abbrev pub with_load : Table → Load → Table
 with_load table load = record table { loads = table.loads ++ load ∷ [] }
 
@@ -48,33 +50,43 @@ with_unit table spec phase kind thread text stage = record table {
   cache = insert table.cache spec.name (slots.Module (module_of spec (length table.objects)));
 }
 
+-- the module is this far now
 abbrev pub with_phase : Table → ℕ → Phase → Table
 with_phase table mid phase = record table { objects = changed (λ object. record object { phase = phase }) table.objects mid }
 
+-- one variable of the module is set
 abbrev pub with_set : Table → ℕ → List ℕ → Value → Table
 with_set table mid name value = record table { objects = changed (λ object. record object { vars = with_var object.vars name value }) table.objects mid }
 
+-- one variable of the module is deleted, if it is there
 abbrev pub with_deleted : Table → ℕ → List ℕ → Table
 with_deleted table mid name = record table { objects = changed (λ object. record object { vars = without_var object.vars name }) table.objects mid }
 
+-- the module has these variables in place of those that it had
 abbrev pub with_vars : Table → ℕ → List (List ℕ × Value) → Table
 with_vars table mid vars = record table { objects = changed (λ object. record object { vars = vars }) table.objects mid }
 
+-- this is kept of the module's search as a namespace, in place of what was
 abbrev pub with_ns : Table → ℕ → NsState → Table
 with_ns table mid state = record table { objects = changed (λ object. record object { ns = Some state }) table.objects mid }
 
+-- the body of the load begins, and the load is this thread's, whoever added it
 abbrev pub with_open : Table → ℕ → ℕ → Table
 with_open table load thread = record table { loads = changed (λ load. record load { stage = stages.Open; thread = thread }) table.loads load }
 
+-- the body of the load has ended
 abbrev pub with_end : Table → ℕ → Table
 with_end table load = record table { loads = changed (λ load. record load { stage = stages.Ended }) table.loads load }
 
+-- the load has this text in place of the one that it had
 abbrev pub with_text : Table → ℕ → List ℕ → Table
 with_text table load text = record table { loads = changed (λ load. record load { text = text }) table.loads load }
 
+-- the cache has this slot at the name, whatever it had there
 abbrev pub with_entry : Table → List ℕ → Slot → Table
 with_entry table name slot = record table { cache = insert table.cache name slot }
 
+-- the cache has nothing at the name; a module that was there stays among the objects
 abbrev pub without_entry : Table → List ℕ → Table
 without_entry table name = record table { cache = remove table.cache name }
 
@@ -87,12 +99,15 @@ abbrev pub path_added : Table → Option ℤ → Value → Table
 path_added table at value =
     if nat_lt (length table.path) 4096 then with_path_item table (place_from (length table.path) at) value else table
 
+-- this is the reload that runs under the name, in place of any other
 abbrev pub with_reload : Table → List ℕ → Reload → Table
 with_reload table name reload = record table { reloading = insert table.reloading name reload }
 
+-- no reload runs under the name
 abbrev pub without_reload : Table → List ℕ → Table
 without_reload table name = record table { reloading = remove table.reloading name }
 
+-- the thread is one of those that have ended
 abbrev pub with_ended : Table → ℕ → Table
 with_ended table thread = record table { ended = insert table.ended thread tt }
 
@@ -105,6 +120,7 @@ abbrev pub ns_or : Option NsState → Option NsState → Option NsState
 ns_or old None = old
 ns_or old (Some new) = Some new
 
+-- a module that is loaded again has these variables, and keeps its spec, its first load and how far it is
 abbrev pub restarted_with : List (List ℕ × Value) → Option NsState → Object → Object
 restarted_with vars ns o = record o { vars = vars; ns = ns_or o.ns ns }
 
@@ -117,6 +133,7 @@ abbrev pub reload_opened : Table → List ℕ → ℕ → Option Reload → Tabl
 reload_opened table n load None = table
 reload_opened table n load (Some r) = with_reload table n (record r { load = Some load })
 
+-- the same, of the reload that is found under the name
 abbrev pub with_reload_load : Table → List ℕ → ℕ → Table
 with_reload_load table n load = reload_opened table n load (get table.reloading n)
 
@@ -127,6 +144,7 @@ with_reloaded table t mid spec text = record (with_reload_load table spec.name (
   loads = table.loads ++ record { kind = load_kinds.Reload; thread = t; mid = mid; text = text; stage = stages.Open } ∷ [];
 }
 
+-- a source and a package set `__file__`; else what was there stays
 abbrev pub with_file : SpecKind → List (List ℕ × Value) → List (List ℕ × Value)
 with_file kinds.Builtin vars = vars
 with_file (kinds.Source file) vars = with_var vars (codes "__file__") (values_.Text file)

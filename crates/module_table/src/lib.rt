@@ -1,6 +1,7 @@
 //! The modules, their loads and variables, the cache, and what is kept of the search.
 #![tactic(auto)]
 
+mod cache;
 mod loads;
 mod module;
 mod objects;
@@ -11,6 +12,7 @@ mod table;
 mod units;
 mod vars;
 
+pub use cache::Cache;
 pub use loads::Loads;
 pub use module::{Load, LoadKind, LoadStage, Object, Phase, Reload};
 pub use objects::Objects;

@@ -29,6 +29,7 @@ impl Model for Loads {
 }
 
 impl Loads {
+    /// No load. It takes no memory.
     pub fn new(alloc: Global) -> Loads
         ensures { result ≡ [] }
     {
@@ -37,18 +38,21 @@ impl Loads {
         }
     }
 
+    /// How many loads there are, which is the number of the next one.
     pub fn len(&self) -> usize
         ensures { result ≡ length self.now }
     {
         self.items.len()
     }
 
+    /// The load with this number. None exactly where there is none.
     pub fn get(&self, at: u32) -> Option<&Load>
         ensures { option_copied result ≡ slice_get self.now at }
     {
         self.items.get(at as usize)
     }
 
+    /// The load with this number, where there must be one.
     pub fn at(&self, at: u32) -> &Load
         requires { at < length self.now }
         ensures { slice_get self.now at ≡ Some result.now }
@@ -101,6 +105,7 @@ impl Loads {
         }
     }
 
+    /// All loads in the order of their numbers.
     pub fn as_slice(&self) -> &[Load]
         ensures { result.now ≡ self.now }
     {

@@ -32,6 +32,7 @@ impl Model for Objects {
 }
 
 impl Objects {
+    /// No module. It takes no memory.
     pub fn new(alloc: Global) -> Objects
         ensures { result ≡ [] }
     {
@@ -40,18 +41,21 @@ impl Objects {
         }
     }
 
+    /// How many modules there are, which is the number of the next one.
     pub fn len(&self) -> usize
         ensures { result ≡ length self.now }
     {
         self.items.len()
     }
 
+    /// The module with this number. None exactly where there is none.
     pub fn get(&self, at: u32) -> Option<&Object>
         ensures { option_copied result ≡ slice_get self.now at }
     {
         self.items.get(at as usize)
     }
 
+    /// The module with this number, where there must be one.
     pub fn at(&self, at: u32) -> &Object
         requires { at < length self.now }
         ensures { slice_get self.now at ≡ Some result.now }

@@ -6,6 +6,7 @@ ghost use Rattle.std.specs.Option.{option_copied};
 ghost use Rattle.module_table.specs.Vars.{var_of};
 ghost use Rattle.module_table.specs.Tables.{new_table, object_of, with_object, with_load, with_phase, with_set, with_deleted, with_ns, with_open, with_end, with_text, with_entry, without_entry, with_path_item, with_reload, without_reload, with_ended, reloads};
 
+use crate::cache::Cache;
 use crate::loads::Loads;
 use crate::module::{Load, Object, Phase, Reload};
 use crate::objects::Objects;
@@ -20,7 +21,7 @@ use std::alloc::Global;
 /// and the threads that have ended.
 #[derive(Drop)]
 pub struct Table {
-    pub(crate) cache: NameMap<Slot>,
+    pub(crate) cache: Cache,
     pub(crate) objects: Objects,
     pub(crate) loads: Loads,
     pub(crate) path: Items,
@@ -36,7 +37,7 @@ impl Table {
     {
         let alloc = path.alloc();
         Table {
-            cache: NameMap::new(alloc),
+            cache: Cache::new(alloc),
             objects: Objects::new(alloc),
             loads: Loads::new(alloc),
             path,
@@ -46,6 +47,7 @@ impl Table {
         }
     }
 
+    /// The allocator of the table, which is that of its search path.
     pub fn alloc(&self) -> Global {
         self.path.alloc()
     }
@@ -109,12 +111,14 @@ impl Table {
         self.loads.as_slice()
     }
 
+    /// The search path, its items in order.
     pub fn path(&self) -> &Items
         ensures { result.now ≡ self.now.path }
     {
         &self.path
     }
 
+    /// The epoch: 0 at first, and one more each time that all kept listings are dropped.
     pub fn epoch(&self) -> u64
         ensures { result ≡ self.now.epoch }
     {

@@ -29,6 +29,7 @@ impl Model for Vars {
 }
 
 impl Vars {
+    /// No variable is set. It takes no memory.
     pub fn new(alloc: Global) -> Vars
         ensures { result ≡ [] }
     {
@@ -37,12 +38,14 @@ impl Vars {
         }
     }
 
+    /// The value of the variable with this name. None exactly where it is not set.
     pub fn get(&self, name: &Text) -> Option<&Value>
         ensures { option_copied result ≡ var_of self.now name.now }
     {
         self.map.get(name)
     }
 
+    /// Sets a variable. A present name keeps its place, and a new one goes last. An `Err` changes nothing.
     pub fn set(&mut self, name: Text, value: Value) -> Result<(), NoMemory>
         ensures ok { OnOk result (self.new ≡ with_var self.old name value) }
         ensures err { OnErr result (self.new ≡ self.old) }

@@ -29,6 +29,7 @@ keywords =
     ∷ codes "from" ∷ codes "global" ∷ codes "if" ∷ codes "import" ∷ codes "in" ∷ codes "is" ∷ codes "lambda" ∷ codes "nonlocal" ∷ codes "not"
     ∷ codes "or" ∷ codes "pass" ∷ codes "raise" ∷ codes "return" ∷ codes "try" ∷ codes "while" ∷ codes "with" ∷ codes "yield" ∷ []
 
+-- whether the text is one of them, byte for byte
 unfoldable pub is_keyword : List ℕ → Bool
 is_keyword text = list_any (bytes_eq text) keywords
 

@@ -4,6 +4,7 @@ use Rattle.spec_core.specs.Names.{parent_of}
 use Rattle.spec_core.specs.declared.spec.SpecKind.{SpecKind}
 use Rattle.spec_core.specs.declared.spec.SpecKind.TheVariants as kinds
 
+-- a name without a parent is in no package, which is the empty text
 abbrev pub front_or_none : Option (List ℕ) → List ℕ
 front_or_none None = []
 front_or_none (Some front) = front

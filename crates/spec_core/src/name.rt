@@ -2,6 +2,9 @@
 ghost use Rattle.std.specs.Prelude.{◌≡◌, ◌↔◌, IsTrue, IsFalse, IfOk, MatchOption, None, Some, refl, nat_eq};
 ghost use Rattle.std.specs.Cmp.{partial_equiv_from_equiv};
 ghost use Rattle.std.specs.Cmp.Lexicographic.{pointwise, slice_cmp, nat_list_eq_equiv, nat_list_cmp_total, texts_po, texts_ties};
+ghost use Rattle.std.specs.Cmp.Rules.{hashing};
+ghost use Rattle.std.specs.Hash as fed;
+ghost use Rattle.std.proofs.Common.{rules};
 ghost use Rattle.std.specs.Ordering.{nat_cmp};
 ghost use Rattle.spec_core.specs.Identifiers.{is_dotted};
 ghost use Rattle.spec_core.specs.Known.{known_text};
@@ -13,6 +16,7 @@ use crate::view::DottedView;
 use base_types::{Exact, NoMemory, Same, Text};
 use std::alloc::{AllocError, Global};
 use std::cmp::Ordering;
+use std::hash::{Hash, Hasher};
 use std::marker::Model;
 
 /// A dotted name: identifiers joined by single dots, each in its own normal form NFKC and none a keyword. Contracts
@@ -179,5 +183,15 @@ impl Ord for Dotted {
 
     fn cmp(&self, other: &Dotted) -> Ordering {
         self.text.cmp(&other.text)
+    }
+}
+
+impl Hash for Dotted {
+    ghost hash_input = { fed.str };
+
+    ghost respects_eq = { Prim.search (hashing, rules) };
+
+    fn hash<H: Hasher>(&self, state: &mut H) {
+        self.text.hash(state);
     }
 }
