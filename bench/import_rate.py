@@ -8,10 +8,12 @@ without.
 
 Makes real folders: flat modules, packages of modules, a chain, modules at the end of a long path, and one module that is
 imported again and again. The time of a script is that of its process without that of an empty script; CPython is timed
-inside its process, without its start and with the script compiled before. Prints the times, how many times CPython's each
-is, and what a module costs as there are more of them. Ends with status 1 where four times the modules take more than
-MOST_GROWTH times the time.
+inside its process, without its start and with the script compiled before. Beside them stand the bare calls of the system
+without which no import goes: the file of each module is looked at, opened, read to its end and closed, by this Python.
+Prints the times, how many times CPython's each is, and what a module costs as there are more of them. Ends with status 1
+where four times the modules take more than MOST_GROWTH times the time.
 """
+import os
 import pathlib
 import subprocess
 import sys
@@ -28,6 +30,7 @@ PACKAGES, IN_A_PACKAGE = 40, 40
 CHAIN = 95
 ENTRIES, AT_THE_END = 64, 500
 AGAIN = 20_000
+A_READ = 65_536
 
 TIMED = """import sys, time
 sys.path[:] = sys.argv[1].split(":")
@@ -119,6 +122,22 @@ def in_cpython(folder, path, is_kept):
     return min(float(measure(words, folder)[1]) for _ in range(ROUNDS))
 
 
+def bare_calls(folder, files):
+    """The least time of the calls that a search and a load of these files need, in seconds."""
+    paths = [str(folder / name) for name in files if name != "main.py" and "other" not in name]
+    times = []
+    for _ in range(ROUNDS):
+        began = time.perf_counter()
+        for path in paths:
+            os.stat(path)
+            opened = os.open(path, os.O_RDONLY)
+            while os.read(opened, A_READ):
+                pass
+            os.close(opened)
+        times.append(time.perf_counter() - began)
+    return min(times)
+
+
 def report(program, top):
     """Measures each kind of work, prints it, and gives the seconds of each."""
     empty = top / "empty"
@@ -134,7 +153,8 @@ def report(program, top):
         seconds[name] = spent
         print(f"{name}: {spent * 1e3:.1f} ms, {spent / count * 1e6:.1f} us each;", end=" ")
         print(f"CPython {kept * 1e3:.1f} ms with bytecode files ({spent / kept:.2f} times),", end=" ")
-        print(f"{without * 1e3:.1f} ms without ({spent / without:.2f} times)")
+        print(f"{without * 1e3:.1f} ms without ({spent / without:.2f} times);", end=" ")
+        print(f"the bare calls {bare_calls(folder, files) * 1e3:.1f} ms")
     return seconds
 
 

@@ -1,8 +1,11 @@
 #!/usr/bin/env python3.12
 """How long scripts take, beside the Python that runs this file (CPython 3.12) and beside the import machine alone.
 
-Builds the program and the one of `machine_rate.py` in a scratch repository with `rt run` (which proves the crates, an hour
-on a new machine). Each script does one kind of work, once and twice as often; its time is that of its process without
+    python3.12 bench/run_rate.py                     builds the program and that of `machine_rate.py` in scratch repositories
+                                                     with `rt run`, which proves the crates, an hour on a new machine
+    python3.12 bench/run_rate.py PROGRAM [MACHINE]   measures these; without the second, the machine is not measured
+
+Each script does one kind of work, once and twice as often; its time is that of its process without
 that of an empty script. CPython is timed inside its process, without its start. Ends with status 1 where a bound of the
 table below is passed, where twice the work takes more than 2.4 times the time, or where an event takes too much memory.
 """
@@ -106,15 +109,23 @@ def compare(program, folder, empty):
     return passed
 
 
+def programs(top):
+    """The program and that of the machine, which may be missing: those of the words, or built here."""
+    if sys.argv[1:]:
+        given = [pathlib.Path(word).resolve() for word in sys.argv[1:]]
+        return given[0], given[1] if given[1:] else None
+    for part in ("machine", "program"):
+        (top / part).mkdir()
+    crate, _ = scratch.run(top / "machine", "machine_rate", machine_rate.PROGRAM, ["import_machine"])
+    return scratch.build(top / "program", "pyimport_main"), crate / "out" / "machine_rate"
+
+
 def main():
     with tempfile.TemporaryDirectory() as top:
         top = pathlib.Path(top)
-        for part in ("machine", "program", "scripts"):
-            (top / part).mkdir()
-        crate, _ = scratch.run(top / "machine", "machine_rate", machine_rate.PROGRAM, ["import_machine"])
-        machine = crate / "out" / "machine_rate"
-        program = scratch.build(top / "program", "pyimport_main")
+        program, machine = programs(top)
         folder = top / "scripts"
+        folder.mkdir()
         write_scripts(folder)
         empty, least, _ = best([program, "run", "empty.py"], folder)
         python, _, _ = best([sys.executable, "empty.py"], folder)
@@ -123,11 +134,13 @@ def main():
         passed += compare(program, folder, empty)
         spent, most, _ = best([program, "run", FUEL, "s0_2.py"], folder)
         events = 2 * TURNS * 3
-        rate, alone = events / (spent - empty), events_a_second(machine)
-        size = (most - least) * 1024 / events
-        print(f"{rate:.0f} events a second, the machine alone {alone:.0f}; {size:.0f} bytes an event")
-        if rate < LEAST_PART_OF_THE_MACHINE * alone:
-            passed.append("events a second")
+        rate, size = events / (spent - empty), (most - least) * 1024 / events
+        print(f"{rate:.0f} events a second; {size:.0f} bytes an event")
+        if machine:
+            alone = events_a_second(machine)
+            print(f"the machine alone: {alone:.0f} events a second")
+            if rate < LEAST_PART_OF_THE_MACHINE * alone:
+                passed.append("events a second")
         if size > MOST_BYTES_OF_AN_EVENT:
             passed.append("memory")
     if passed:
