@@ -29,6 +29,7 @@ impl<T> Boxed<T> {
         Box::into_inner(inner)
     }
 
+    /// The value, to be looked at.
     pub fn get(&self) -> &T
         ensures { result.now ≡ self.now }
     {
@@ -37,6 +38,7 @@ impl<T> Boxed<T> {
 }
 
 impl<T: Drop> Boxed<T> {
+    /// Puts a value on the heap. An `Err` comes for want of memory alone, and drops the value.
     pub fn new(alloc: Global, value: T) -> Result<Boxed<T>, NoMemory>
         ensures { IfOk result (λ it. it ≡ value) }
     {

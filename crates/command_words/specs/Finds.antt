@@ -10,9 +10,11 @@ abbrev pub IsFlag : Option Word → Bool → Type 0
 IsFlag text on =
     (text ≡ None → on ≡ false) × (text ≡ Some (codes "true") → on ≡ true) × (text ≡ Some (codes "false") → on ≡ false)
 
+-- the words behind the options are the values that `clap` found for `words`; where it found none there are no words
 abbrev pub words_in : Found → List Word
 words_in f = unwrap_or (option_map raw_values (matched_of f (codes "words"))) []
 
+-- what is read is what `clap` found: an option's first value, what a flag's text says, and the words behind
 pub record Finds (f : Found) (it : Front) : Type 0 where
   pub path : it.settings.path ≡ first_value f (codes "path")
   pub fuel : it.settings.fuel ≡ first_value f (codes "fuel")

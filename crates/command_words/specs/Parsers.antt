@@ -23,25 +23,32 @@ abbrev pub bare_app : Text → App
 bare_app name =
     on_top (λ s. record s { no_binary_name = true; disable_help_flag = true; disable_version_flag = true }) (new_app name)
 
+-- the rules are added one after another, the first of them first
 abbrev pub with_rules : App → List Rule → App
 with_rules a [] = a
 with_rules a (r ∷ rs) = with_rules (with_rule a r) rs
 
+-- `--path LIST`
 abbrev pub path_rule : Rule
 path_rule = value_rule (codes "path")
 
+-- `--fuel N`
 abbrev pub fuel_rule : Rule
 fuel_rule = value_rule (codes "fuel")
 
+-- `--rounds FILE`
 abbrev pub rounds_rule : Rule
 rounds_rule = value_rule (codes "rounds")
 
+-- `--bundles`, which has no value
 abbrev pub bundles_rule : Rule
 bundles_rule = flag_rule (codes "bundles")
 
+-- `--trace`, which has no value
 abbrev pub trace_rule : Rule
 trace_rule = flag_rule (codes "trace")
 
+-- each command is told of its own options alone, so another's is unknown to it; each takes the words behind them
 abbrev pub app_for : Command → App
 app_for command.Run =
     with_rules (bare_app (codes "run"))

@@ -8,6 +8,7 @@ use Rattle.command_words.specs.declared.command.Command.TheVariants as command
 use Rattle.command_words.specs.declared.found.Settings.{Settings}
 use Rattle.command_words.specs.declared.found.Front.{Front}
 
+-- the five options that there are, without their values
 pub data Key : Type 0 where
   path : Key
   fuel : Key
@@ -15,6 +16,7 @@ pub data Key : Type 0 where
   bundles : Key
   trace : Key
 
+-- what stands behind the `--` of the option
 abbrev pub name_of : Key → Word
 name_of path = codes "path"
 name_of fuel = codes "fuel"
@@ -22,9 +24,11 @@ name_of rounds = codes "rounds"
 name_of bundles = codes "bundles"
 name_of trace = codes "trace"
 
+-- each option once
 abbrev pub all_keys : List Key
 all_keys = path ∷ fuel ∷ rounds ∷ bundles ∷ trace ∷ []
 
+-- `run` has all; `check` has no flag, `module` no `--rounds`, `report` `--path` alone, and the others have none
 abbrev pub keys_of : Command → List Key
 keys_of command.Run = all_keys
 keys_of command.Check = path ∷ fuel ∷ rounds ∷ []
@@ -48,10 +52,12 @@ is_given trace s = s.trace
 abbrev pub allows : List Key → Settings → Bool
 allows keys s = list_all (λ k. has keys k || not (is_given k s)) all_keys
 
+-- what was found counts as refused where another option than these stood
 abbrev pub only : List Key → Option Front → Option Front
 only keys found = option_and_then (λ it. if allows keys it.settings then Some it else None) found
 
--- the options that stand in front of a command's other words, and those words; None where one of them is no option of the
+-- the options that stand in front of a command's other words, and those words; None where one of them is no option of
+-- the
 -- command
 abbrev pub taken : Command → List Word → Option Front
 taken of words = only (keys_of of) (options no_settings words)

@@ -9,9 +9,11 @@ use Rattle.command_words.specs.Setting as setting
 use Rattle.command_words.specs.declared.found.Settings.{Settings}
 use Rattle.command_words.specs.declared.found.Front.{Front}
 
+-- a word is its bytes
 abbrev pub Word : Type 0
 Word = List ℕ
 
+-- two words are the same where they have the same bytes in the same order
 abbrev pub same_text : Word → Word → Bool
 same_text = pointwise nat_eq
 
@@ -19,6 +21,7 @@ same_text = pointwise nat_eq
 abbrev pub refused_words : List Word
 refused_words = [] ∷ codes "-" ∷ codes "--" ∷ codes "--path=" ∷ codes "--fuel=" ∷ codes "--rounds=" ∷ []
 
+-- the word as a whole is one of these
 abbrev pub is_refused : Word → Bool
 is_refused word = list_any (same_text word) refused_words
 
@@ -48,6 +51,7 @@ apart word value =
     else if same_text word (codes "--rounds") then Some (setting.Rounds value)
     else None
 
+-- no option stood
 abbrev pub no_settings : Settings
 no_settings = record { path = None; fuel = None; rounds = None; bundles = false; trace = false }
 
@@ -59,6 +63,7 @@ added (setting.Rounds file) s = if is_some s.rounds then None else Some (record 
 added setting.Bundles s = if s.bundles then None else Some (record s { bundles = true })
 added setting.Trace s = if s.trace then None else Some (record s { trace = true })
 
+-- the options are at their end: those that stood, and the words that are left
 abbrev pub front : List Word → Settings → Option Front
 front rest settings = Some (record { settings = settings; rest = rest })
 

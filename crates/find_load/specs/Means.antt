@@ -41,6 +41,7 @@ goes inside again n (stage.Released f) (given.Replied r) = fails f
 goes inside again n (stage.Left flow) (given.Replied r) = λ s k. k flow s
 goes inside again n other input = fails fault.NotInProfile
 
+-- the import of n, with so many turns left: its first look may be that of a parent, and later looks are not
 abbrev pub does : Inside → ℕ → List ℕ → Stage → In → Piece
 does inside turns n (stage.Begins is_parent) given.Start = asks inside turns is_parent n
 does inside turns n other input = goes inside (asks inside turns false n) n other input
@@ -49,6 +50,7 @@ does inside turns n other input = goes inside (asks inside turns false n) n othe
 abbrev pub lazily : Bool → Inside → Inside
 lazily is_lazy inside = record { body = inside.body; parent = inside.parent; is_lazy = is_lazy }
 
+-- an import that is under way goes on by what it is fed, with its own name, turns, stage and laziness
 abbrev pub means : Inside → Importer → In → Piece
 means inside p = does (lazily p.is_lazy inside) p.turns p.name p.stage
 
@@ -70,5 +72,6 @@ wants inside (want.End flow) go = λ s k. k flow s
 abbrev pub GoesOn : (Inside → Piece) → (Inside → In → Piece) → Want → Type 0
 GoesOn run after w = (inside : Inside) (s : State) (k : Onward) → wants inside w (after inside) s k ≡ run inside s k
 
+-- the run goes on by what is wanted, from what the import means after it
 pub record Goes (run : Inside → Piece) (after : Importer) (w : Want) : Type 0 where
   pub goes : GoesOn run (λ inside. means inside after) w

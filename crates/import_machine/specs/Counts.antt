@@ -48,6 +48,7 @@ has_begun (replies.Load load mid) = true
 has_begun (replies.Yours load text) = true
 has_begun _ = false
 
+-- the name counts one more
 abbrev pub raised : FinMap (slice_cmp nat_cmp) ℕ → List ℕ → FinMap (slice_cmp nat_cmp) ℕ
 raised counts n = insert counts n (count_of counts n + 1)
 
@@ -55,10 +56,12 @@ raised counts n = insert counts n (count_of counts n + 1)
 abbrev pub lowered : FinMap (slice_cmp nat_cmp) ℕ → List ℕ → FinMap (slice_cmp nat_cmp) ℕ
 lowered counts n = if nat_le (count_of counts n) 1 then remove counts n else insert counts n (count_of counts n - 1)
 
+-- the same, where a name is given; else nothing changes
 abbrev pub raised_at : FinMap (slice_cmp nat_cmp) ℕ → Option (List ℕ) → FinMap (slice_cmp nat_cmp) ℕ
 raised_at counts None = counts
 raised_at counts (Some n) = raised counts n
 
+-- the name counts one less, where one is given; else nothing changes
 abbrev pub lowered_at : FinMap (slice_cmp nat_cmp) ℕ → Option (List ℕ) → FinMap (slice_cmp nat_cmp) ℕ
 lowered_at counts None = counts
 lowered_at counts (Some n) = lowered counts n

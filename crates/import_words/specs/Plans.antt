@@ -15,6 +15,7 @@ use Rattle.import_words.specs.declared.plan.RunPlan.{RunPlan}
 use Rattle.import_words.specs.declared.plan.WordsError.{WordsError}
 use Rattle.import_words.specs.declared.plan.WordsError.TheVariants as error
 
+-- a search path of more than 4,096 entries is refused
 abbrev pub few_entries : List Word → Option (List Word)
 few_entries entries = if nat_le (length entries) 4096 then Some entries else None
 
@@ -28,9 +29,11 @@ abbrev pub digits_of : ℕ → Word → Option ℕ
 digits_of most word =
     if list_all is_ascii_digit word && (nat_le 1 (length word) && nat_le (length word) most) then Some (digits_value 10 word) else None
 
+-- a number outside the bounds is refused; the bounds themselves are inside
 abbrev pub within : ℕ → ℕ → ℕ → Option ℕ
 within low high n = if nat_le low n && nat_le n high then Some n else None
 
+-- the number that one to so many ASCII digits spell, in these bounds
 abbrev pub number_of : ℕ → ℕ → ℕ → Word → Option ℕ
 number_of most low high word = option_and_then (within low high) (digits_of most word)
 
@@ -44,6 +47,7 @@ abbrev pub before_last_slash : Word → Option Word
 before_last_slash [] = None
 before_last_slash (b ∷ bs) = option_or (option_map (λ front. b ∷ front) (before_last_slash bs)) (if b == 47 then Some [] else None)
 
+-- the empty text where there is none
 abbrev pub or_empty : Option Word → Word
 or_empty (Some text) = text
 or_empty None = []
@@ -68,6 +72,7 @@ abbrev pub run_of : Settings → List Word → Option RunPlan
 run_of s [] = if is_some s.rounds then run_with s [] [] else None
 run_of s (script ∷ scripts) = if not (is_some s.rounds) && are_scripts (script ∷ scripts) then run_with s (folder_of script) (script ∷ scripts) else None
 
+-- `run` has the options and words of a run, and nothing beside
 abbrev pub run_plan : Settings → List Word → Option Plan
 run_plan s scripts = option_map plan.Run (run_of s scripts)
 
@@ -80,6 +85,7 @@ check_plan s (trace_file ∷ words) = if s.trace || s.bundles then None else opt
 abbrev pub module_plan : Settings → List Word → Option Plan
 module_plan s names = if not (is_some s.rounds) && (are_scripts names && list_all is_dotted names) then option_map plan.Module (run_with s [] names) else None
 
+-- no option stood but `--path`, which may be missing too
 abbrev pub has_path_alone : Settings → Bool
 has_path_alone s = not (is_some s.fuel) && (not (is_some s.rounds) && (not s.trace && not s.bundles))
 
@@ -88,6 +94,7 @@ abbrev pub report_plan : Settings → List Word → Option Plan
 report_plan s (dir ∷ []) = if has_path_alone s then option_map (λ path. plan.Report path dir) (path_of s.path dir) else None
 report_plan s words = None
 
+-- a made workload needs all three numbers
 abbrev pub gen_with : Option ℕ → Option ℕ → Option ℕ → Option Plan
 gen_with (Some seed) (Some modules) (Some scripts) = Some (plan.Gen seed modules scripts)
 gen_with seed modules scripts = None
@@ -106,6 +113,7 @@ only_word words = None
 abbrev pub behind_options : (Settings → List Word → Option Plan) → List Word → Option Plan
 behind_options made words = option_and_then (λ it. made it.settings it.rest) (options no_settings words)
 
+-- the seven words that name a command, spelled in full and in lower case
 abbrev pub command_of : Word → Option Command
 command_of word =
     if same_text word (codes "run") then Some command.Run
@@ -117,6 +125,7 @@ command_of word =
     else if same_text word (codes "bundle") then Some command.Bundle
     else None
 
+-- a first word that names no command has no plan; `gen`, `convert` and `bundle` have no options
 abbrev pub plan_by : Option Command → List Word → Option Plan
 plan_by None words = None
 plan_by (Some command.Run) words = behind_options run_plan words

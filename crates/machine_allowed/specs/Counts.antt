@@ -8,6 +8,7 @@ use Rattle.module_lock.specs.Table.{owner_of, holds}
 use Rattle.machine_state.specs.declared.state.State.{State}
 use Rattle.machine_state.specs.Allowed.{is_open_of, counts_for}
 
+-- what has no count counts 0
 abbrev pub count_at : Option ℕ → ℕ
 count_at None = 0
 count_at (Some k) = k
@@ -16,6 +17,7 @@ count_at (Some k) = k
 abbrev pub count_of : FinMap (slice_cmp nat_cmp) ℕ → List ℕ → ℕ
 count_of counts n = count_at (get counts n)
 
+-- the counts tell of a state what the test of an event asks of all its loads
 pub record AreTold (s : State) (counts : FinMap (slice_cmp nat_cmp) ℕ) : Type 0 where
   -- the open loads of a name whose lock is owned, Main aside, are its owner's, and as many as is counted
   pub owned : (t : ℕ) (n : List ℕ) → owner_of s.locks n ≡ Some t → count_of counts n ≡ count_by (counts_for s.table t n) s.table.loads

@@ -64,10 +64,12 @@ abbrev pub IsNames : Reply → Type 0
 IsNames (r.Names names) = Unit {0}
 IsNames reply = ⊥
 
+-- to Source: the module and the text of the load
 abbrev pub IsLoaded : Reply → Type 0
 IsLoaded (r.Loaded m text) = Unit {0}
 IsLoaded reply = ⊥
 
+-- to PathGet: the items of the search path
 abbrev pub IsPath : Reply → Type 0
 IsPath (r.Path items) = Unit {0}
 IsPath reply = ⊥
@@ -94,11 +96,13 @@ abbrev pub IsEntry : Reply → Type 0
 IsEntry (r.Slot slot) = Unit {0}
 IsEntry reply = ⊥
 
+-- to TabSet: a name that is fixed is not set
 abbrev pub IsEntered : Reply → Type 0
 IsEntered r.Fixed = Unit {0}
 IsEntered r.Done = Unit {0}
 IsEntered reply = ⊥
 
+-- to TabDel: what the entry was, unless the name is fixed
 abbrev pub IsDropped : Reply → Type 0
 IsDropped r.Fixed = Unit {0}
 IsDropped (r.Was slot) = Unit {0}
@@ -113,6 +117,7 @@ IsBegun raw (r.Busy m) = Unit {0}
 IsBegun raw (r.Begun epoch) = Unit {0}
 IsBegun raw reply = ⊥
 
+-- to ReloadTake: only where a load is given does the body begin
 abbrev pub IsReloading : Reply → Type 0
 IsReloading r.Deadlock = Unit {0}
 IsReloading (r.Wait n) = Unit {0}
@@ -120,6 +125,7 @@ IsReloading r.NotThere = Unit {0}
 IsReloading (r.Load load mid) = Unit {0}
 IsReloading reply = ⊥
 
+-- to a ReloadEnd with a load: the entry of the name, which may be lost
 abbrev pub IsReloaded : Reply → Type 0
 IsReloaded r.Lost = Unit {0}
 IsReloaded (r.Kept slot) = Unit {0}
@@ -130,6 +136,7 @@ abbrev pub IsModule : Reply → Type 0
 IsModule (r.Module m) = Unit {0}
 IsModule reply = ⊥
 
+-- to Rouse: nothing is to run, or the asker runs the body, or it waits for another's, unless that closes a cycle
 abbrev pub IsRoused : Reply → Type 0
 IsRoused r.Ready = Unit {0}
 IsRoused (r.Cycle m) = Unit {0}
@@ -138,6 +145,7 @@ IsRoused r.Deadlock = Unit {0}
 IsRoused (r.Wait n) = Unit {0}
 IsRoused reply = ⊥
 
+-- each event by its own row; a ReloadEnd without a load is answered Done
 abbrev pub Fits : Event → Reply → Type 0
 Fits (e.Ask n) reply = IsAsked reply
 Fits (e.Take n) reply = IsTaken reply

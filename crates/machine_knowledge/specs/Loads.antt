@@ -7,6 +7,7 @@ use Rattle.module_table.specs.declared.module.LoadKind.{LoadKind}
 use Rattle.module_table.specs.declared.module.LoadKind.TheVariants as load_kinds
 use Rattle.machine_state.specs.Parts.{is_main}
 
+-- what each load is for, in the order of their numbers
 abbrev pub kinds_of : List Load → List LoadKind
 kinds_of loads = map (λ l. l.kind) loads
 

@@ -1,4 +1,5 @@
--- What the facts on all states speak of: who owns and awaits which lock, how far each module and each load is, and which
+-- What the facts on all states speak of: who owns and awaits which lock, how far each module and each load is, and
+-- which
 -- threads have ended.
 use Rattle.std.specs.Prelude.{ℕ, ◌==◌, ◌&&◌, not, count_by, nat_eq, Bool, false, List, Option, Some, None, map, slice_get, if◌then◌else◌}
 use Rattle.std.specs.Ordering.{nat_cmp}
@@ -38,12 +39,15 @@ pub record Bones : Type 0 where
   pub ended : FinMap nat_cmp (Unit {0})
   pub rounds : List ℕ
 
+-- a module without its variables, the kind of its spec and the state of its search
 abbrev pub module_bone : Object → Module
 module_bone o = record { name = o.spec.name; phase = o.phase; load = o.load }
 
+-- a load without its text
 abbrev pub body_bone : Load → Body
 body_bone l = record { kind = l.kind; thread = l.thread; mid = l.mid; stage = l.stage }
 
+-- a state without its cache, its search path with the epoch, and its listings
 abbrev pub bones : State → Bones
 bones s = record {
   locks = s.locks;
@@ -54,6 +58,7 @@ bones s = record {
   rounds = s.rounds;
 }
 
+-- the module exists and has this name
 abbrev pub is_named : Option Module → List ℕ → Bool
 is_named None n = false
 is_named (Some m) n = pointwise nat_eq m.name n
@@ -71,5 +76,6 @@ abbrev pub held_by : ℕ → Option Lock → ℕ
 held_by t None = 0
 held_by t (Some lock) = if lock.owner == t then lock.count else 0
 
+-- the same, by the name of the lock
 abbrev pub held : Table → ℕ → List ℕ → ℕ
 held table t n = held_by t (lock_of table n)

@@ -30,6 +30,7 @@ Begins stages.Resting = ⊥
 Begins stages.Open = Unit {0}
 Begins stages.Ended = Unit {0}
 
+-- an imported module's load is the one that it was made with, and tells how far it is; any other load has begun
 abbrev pub FitsKind : ℕ → Body → Module → LoadKind → Type 0
 FitsKind i l m load_kinds.Main = Begins l.stage
 FitsKind i l m load_kinds.Plain = IsMadeBy i l m
@@ -44,11 +45,13 @@ FitsModule b i l = (m : Module) × (slice_get b.modules l.mid ≡ Some m) × Fit
 abbrev pub HasBody : Bones → ℕ → Module → Type 0
 HasBody b mid m = (i : ℕ) × (l : Body) × (m.load ≡ Some i) × (slice_get b.bodies i ≡ Some l) × (l.mid ≡ mid) × (is_imported l.kind ≡ true)
 
+-- a module that is not ready has the load that will make it so; of a ready one nothing is asked
 abbrev pub FitsPhase : Bones → ℕ → Module → Phase → Type 0
 FitsPhase b mid m phases.Ready = Unit {0}
 FitsPhase b mid m phases.Initialising = HasBody b mid m
 FitsPhase b mid m phases.Lazy = HasBody b mid m
 
+-- the load of a reload is open, of kind Reload, and by the thread and of the module of the reload; it may have none yet
 abbrev pub FitsLoad : Bones → Reload → Option ℕ → Type 0
 FitsLoad b r None = Unit {0}
 FitsLoad b r (Some i) = slice_get b.bodies i ≡ Some (record { kind = load_kinds.Reload; thread = r.thread; mid = r.mid; stage = stages.Open })
@@ -64,6 +67,7 @@ pub record IsRunning (b : Bones) (t : ℕ) : Type 0 where
   pub going : is_some (get b.ended t) ≡ false
   pub earlier : (u : ℕ) → u < first → is_some (get b.ended u) ≡ true
 
+-- the facts that hold at the opening and that each legal event keeps
 pub record AreSound (b : Bones) : Type 0 where
   -- there are at most 16 scripts
   pub few : length b.rounds ≤ 16
@@ -80,5 +84,6 @@ pub record AreSound (b : Bones) : Type 0 where
   -- a thread that has ended has no open load but its Main
   pub alive : (i : ℕ) (l : Body) → slice_get b.bodies i ≡ Some l → is_open l.stage ≡ true → is_main l.kind ≡ false → is_some (get b.ended l.thread) ≡ false
 
+-- they hold of a state where they hold of its bones
 abbrev pub IsSound : State → Type 0
 IsSound s = AreSound (bones s)

@@ -22,9 +22,11 @@ use Rattle.machine_state.specs.declared.state.State.{State}
 use Rattle.machine_state.specs.Parts.{is_open, is_main, is_imported}
 use Rattle.machine_state.specs.Known.{names_modules, slot_names_module}
 
+-- the rounds have one entry for each thread, and each thread runs one script
 abbrev pub scripts : State → ℕ
 scripts s = length s.rounds
 
+-- the thread has made its End, and may make no event more
 abbrev pub has_ended : State → ℕ → Bool
 has_ended s t = is_some (get s.table.ended t)
 
@@ -42,6 +44,7 @@ is_due_from s (Some first) = all_ended s first
 abbrev pub is_due : State → ℕ → Bool
 is_due s t = is_due_from s (slice_get s.rounds t)
 
+-- the module exists, and was first loaded under this name
 abbrev pub has_name : Option Object → List ℕ → Bool
 has_name None n = false
 has_name (Some o) n = pointwise nat_eq o.spec.name n
@@ -54,6 +57,7 @@ is_open_of t l = is_open l.stage && (l.thread == t) && not (is_main l.kind)
 abbrev pub counts_for : Table → ℕ → List ℕ → Load → Bool
 counts_for table t n l = is_open_of t l && has_name (slice_get table.objects l.mid) n
 
+-- the lock is t's, and its count is above this number of open loads; a lock that nobody owns has none to spare
 abbrev pub spare_of : ℕ → ℕ → Option Lock → Bool
 spare_of t opens None = false
 spare_of t opens (Some lock) = (lock.owner == t) && nat_lt opens lock.count
@@ -69,12 +73,14 @@ has_text (kinds.Source file) text = true
 has_text (kinds.Package file path) text = true
 has_text (kinds.Namespace path) text = length text == 0
 
+-- only a source or a package has a body that can wait for the first use
 abbrev pub has_body : SpecKind → Bool
 has_body kinds.Builtin = false
 has_body (kinds.Source file) = true
 has_body (kinds.Package file path) = true
 has_body (kinds.Namespace path) = false
 
+-- only a module of one file runs as a program, and no package
 abbrev pub is_source : SpecKind → Bool
 is_source kinds.Builtin = false
 is_source (kinds.Source file) = true
@@ -86,9 +92,11 @@ abbrev pub can_finish : ℕ → Option Load → Bool
 can_finish t None = false
 can_finish t (Some l) = is_open l.stage && (l.thread == t) && is_imported l.kind
 
+-- modules are numbered from 0 on in the order in which they were made, and none is ever taken away
 abbrev pub has_object : State → ℕ → Bool
 has_object s mid = nat_lt mid (length s.table.objects)
 
+-- the value that stands for the path of a namespace, which no SetVar may set
 abbrev pub is_ns_path : Value → Bool
 is_ns_path values.NsPath = true
 is_ns_path _ = false
@@ -100,15 +108,18 @@ is_path_item values.SysPath = false
 is_path_item values.NsPath = false
 is_path_item _ = true
 
+-- absence cannot be set as an entry; the entry None, which halts an import, can
 abbrev pub is_absent : Slot → Bool
 is_absent slots.Absent = true
 is_absent slots.Halted = false
 is_absent (slots.Module m) = false
 
+-- the module exists, and has the state of a namespace's search
 abbrev pub has_ns : Option Object → Bool
 has_ns None = false
 has_ns (Some o) = is_some o.ns
 
+-- both are none, or both are the same number
 abbrev pub is_number : Option ℕ → Option ℕ → Bool
 is_number None None = true
 is_number None (Some y) = false
@@ -120,10 +131,12 @@ abbrev pub is_reload : ℕ → ℕ → Option ℕ → Option Reload → Bool
 is_reload t mid load None = false
 is_reload t mid load (Some r) = (r.thread == t) && (r.mid == mid) && is_number r.load load
 
+-- the same, of the reload that runs under the module's name; what is no module is not reloaded
 abbrev pub reloads_object : State → ℕ → ℕ → Option ℕ → Option Object → Bool
 reloads_object s t mid load None = false
 reloads_object s t mid load (Some o) = is_reload t mid load (get s.table.reloading o.spec.name)
 
+-- the same, of the module with this number
 abbrev pub is_reloading : State → ℕ → ℕ → Option ℕ → Bool
 is_reloading s t mid load = reloads_object s t mid load (slice_get s.table.objects mid)
 
@@ -164,6 +177,7 @@ fits s t (events.Rouse mid) = has_object s mid
 fits s t (events.Main spec text) = is_source spec.kind
 fits s t (events.End outcome spent) = can_end s t
 
+-- the one event of a thread that waits
 abbrev pub is_wake : Event → Bool
 is_wake events.Wake = true
 is_wake _ = false

@@ -13,12 +13,16 @@ use Rattle.machine_state.specs.Parts.{entry_of}
 abbrev pub is_fixed : List ℕ → Bool
 is_fixed n = pointwise nat_eq n (codes "sys") || pointwise nat_eq n (codes "importlib") || pointwise nat_eq n (codes "pyimport")
 
+-- an item of `sys.modules` is read; a name without an entry is answered Absent, and the entry None Halted
 abbrev pub tab_get : State → List ℕ → Reply × State
 tab_get s n = (replies.Slot (entry_of (get s.table.cache n)), s)
 
+-- an item of `sys.modules` is set, to a module or None, unless its name is fixed (Language Reference 5.3.1)
 abbrev pub tab_set : State → List ℕ → Slot → Reply × State
 tab_set s n slot = if is_fixed n then (replies.Fixed, s) else (replies.Done, record s { table = with_entry s.table n slot })
 
+-- an item of `sys.modules` is deleted and answered, unless its name is fixed; a module lives on without its entry
+-- (Language Reference 5.3.1)
 abbrev pub tab_del : State → List ℕ → Reply × State
 tab_del s n =
     if is_fixed n then (replies.Fixed, s)

@@ -5,6 +5,7 @@ use Rattle.machine_events.specs.declared.event.Event.{Event}
 use Rattle.machine_events.specs.declared.event.Event.TheVariants as events
 use Rattle.machine_state.specs.declared.state.State.{State}
 
+-- the name that a module was first loaded under, which is that of its lock
 abbrev pub name_of : State → ℕ → Option (List ℕ)
 name_of s mid = option_map (λ o. o.spec.name) (slice_get s.table.objects mid)
 

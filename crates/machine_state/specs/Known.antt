@@ -15,16 +15,19 @@ use Rattle.machine_events.specs.declared.module.Slot.TheVariants as slots
 use Rattle.module_table.specs.declared.module.Object.{Object}
 use Rattle.module_table.specs.declared.table.Table.{Table}
 
+-- the place is a file, and this one
 abbrev pub is_file : List ℕ → Place → Bool
 is_file file (places.File other) = pointwise nat_eq file other
 is_file file places.BuiltIn = false
 is_file file places.Namespace = false
 
+-- the place of a namespace package, which is no file (PEP 420)
 abbrev pub is_namespace : Place → Bool
 is_namespace (places.File other) = false
 is_namespace places.BuiltIn = false
 is_namespace places.Namespace = true
 
+-- the place of a module that the machine has from the start
 abbrev pub is_built_in_there : Place → Bool
 is_built_in_there (places.File other) = false
 is_built_in_there places.BuiltIn = true
@@ -42,6 +45,7 @@ abbrev pub is_module_of : ModRef → Option Object → Bool
 is_module_of m None = false
 is_module_of m (Some o) = pointwise nat_eq o.spec.name m.name && is_place_of o.spec.kind m.place
 
+-- the same, of the object with the module's number
 abbrev pub is_module : Table → ModRef → Bool
 is_module table m = is_module_of m (slice_get table.objects m.mid)
 
@@ -57,6 +61,7 @@ names_modules_at table _ = true
 abbrev pub names_modules : Table → Value → Bool
 names_modules table = fold-Value Bool (names_modules_at table)
 
+-- only an entry that is a module names one
 abbrev pub slot_names_module : Table → Slot → Bool
 slot_names_module table slots.Absent = true
 slot_names_module table slots.Halted = true

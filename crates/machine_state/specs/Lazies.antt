@@ -30,12 +30,15 @@ open_lazy s t mid n load (Some l) = (
   record s { table = with_phase (with_open s.table load t) mid phases.Initialising; locks = got s.locks t n },
 )
 
+-- the body begins where the lock is free for t; else t waits for it, and where that closes a cycle, it is a deadlock
 abbrev pub rouse_lazy : State → ℕ → ℕ → List ℕ → Option ℕ → Reply × State
 rouse_lazy s t mid n None = (replies.Ready, s)
 rouse_lazy s t mid n (Some load) =
     if is_free s.locks t n then open_lazy s t mid n load (slice_get s.table.loads load)
     else wait_on s t n replies.Deadlock
 
+-- a ready module has nothing to run; one that is initialising is as ready as it gets for who owns its lock, and any
+-- other waits for it or is given it as far as it is; a lazy one is to run its body
 abbrev pub rouse_phase : State → ℕ → ℕ → Object → Phase → Reply × State
 rouse_phase s t mid o phases.Ready = (replies.Ready, s)
 rouse_phase s t mid o phases.Initialising =
@@ -43,9 +46,11 @@ rouse_phase s t mid o phases.Initialising =
     else wait_on s t o.spec.name (replies.Cycle (module_of o.spec mid))
 rouse_phase s t mid o phases.Lazy = rouse_lazy s t mid o.spec.name o.load
 
+-- what is no module has nothing to run
 abbrev pub rouse_on : State → ℕ → ℕ → Option Object → Reply × State
 rouse_on s t mid None = (replies.Ready, s)
 rouse_on s t mid (Some o) = rouse_phase s t mid o o.phase
 
+-- the first use of a module that may be lazy (`LazyLoader` of `importlib.util`; the locking is this project's own)
 abbrev pub rouse : State → ℕ → ℕ → Reply × State
 rouse s t mid = rouse_on s t mid (slice_get s.table.objects mid)

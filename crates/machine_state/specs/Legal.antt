@@ -6,6 +6,7 @@ use Rattle.machine_state.specs.declared.state.State.{State}
 use Rattle.machine_state.specs.Step.{step}
 use Rattle.machine_state.specs.Allowed.{allowed}
 
+-- the test of the event is passed
 abbrev pub Allowed : State → ℕ → Event → Type 0
 Allowed s t e = IsTrue (allowed s t e)
 

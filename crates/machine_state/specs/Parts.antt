@@ -15,22 +15,26 @@ use Rattle.module_table.specs.declared.module.LoadStage.TheVariants as stages
 use Rattle.module_table.specs.declared.module.Phase.{Phase}
 use Rattle.module_table.specs.declared.module.Phase.TheVariants as phases
 
+-- the body is running, as `__spec__._initializing` tells in `importlib._bootstrap`
 abbrev pub is_initialising : Phase → Bool
 is_initialising phases.Ready = false
 is_initialising phases.Initialising = true
 is_initialising phases.Lazy = false
 
+-- the body has begun and has not ended
 abbrev pub is_open : LoadStage → Bool
 is_open stages.Resting = false
 is_open stages.Open = true
 is_open stages.Ended = false
 
+-- the body of a script itself, for which no lock is owned
 abbrev pub is_main : LoadKind → Bool
 is_main load_kinds.Main = true
 is_main load_kinds.Plain = false
 is_main load_kinds.Lazy = false
 is_main load_kinds.Reload = false
 
+-- the body of a module that was made to run it at the first use, before, at and after that
 abbrev pub is_lazy : LoadKind → Bool
 is_lazy load_kinds.Main = false
 is_lazy load_kinds.Plain = false
@@ -44,12 +48,14 @@ is_imported load_kinds.Plain = true
 is_imported load_kinds.Lazy = true
 is_imported load_kinds.Reload = false
 
+-- a module that the machine has from the start: it has no text, and nothing changes its variables
 abbrev pub is_built_in : SpecKind → Bool
 is_built_in kinds.Builtin = true
 is_built_in (kinds.Source file) = false
 is_built_in (kinds.Package file path) = false
 is_built_in (kinds.Namespace path) = false
 
+-- the same, told by where the module comes from
 abbrev pub is_built_in_place : Place → Bool
 is_built_in_place (places.File file) = false
 is_built_in_place places.BuiltIn = true

@@ -34,6 +34,8 @@ enter s t mid n (Some r) = (busy_of r.mid (slice_get s.table.objects r.mid), s)
 enter s t mid n None =
     (replies.Begun s.table.epoch, record s { table = with_reload s.table n (record { thread = t; mid = mid; load = None }) })
 
+-- a built-in module is fixed, and one that sleeps is to be roused first; then the module must be the entry of its name
+-- (`importlib.reload`: `sys.modules.get(name) is not module`)
 abbrev pub reload_begin_on : State → ℕ → ℕ → Bool → Option Object → Reply × State
 reload_begin_on s t mid raw None = (replies.NotThere, s)
 reload_begin_on s t mid raw (Some o) =
@@ -42,6 +44,7 @@ reload_begin_on s t mid raw (Some o) =
     else (if is_entry mid (get s.table.cache o.spec.name) then enter s t mid o.spec.name (get s.table.reloading o.spec.name)
     else (replies.NotThere, s)))
 
+-- how `importlib.reload` begins, before it searches; what is no module is not there
 abbrev pub reload_begin : State → ℕ → ℕ → Bool → Reply × State
 reload_begin s t mid raw = reload_begin_on s t mid raw (slice_get s.table.objects mid)
 
@@ -52,12 +55,15 @@ reload_start s t mid spec text = (
   record s { table = with_reloaded s.table t mid spec text; locks = got s.locks t spec.name },
 )
 
+-- under the lock of its name the module must still be the entry (`importlib._bootstrap._exec`); a lock that another
+-- owns is waited for
 abbrev pub reload_take : State → ℕ → ℕ → Spec → List ℕ → Reply × State
 reload_take s t mid spec text =
     if is_free s.locks t spec.name
     then (if is_entry mid (get s.table.cache spec.name) then reload_start s t mid spec text else (replies.NotThere, s))
     else wait_on s t spec.name replies.Deadlock
 
+-- a reload gives the entry that the cache has at its end, for the body may have replaced or dropped it
 abbrev pub kept_or_lost : Option Slot → Reply
 kept_or_lost None = replies.Lost
 kept_or_lost (Some slot) = replies.Kept slot
@@ -70,9 +76,11 @@ reload_leave s t n (Some load) = (
   record s { table = with_end (without_reload s.table n) load; locks = given s.locks t n },
 )
 
+-- the reload under the module's name is left; what is no module changes nothing
 abbrev pub reload_end_on : State → ℕ → Option ℕ → Option Object → Reply × State
 reload_end_on s t load None = (replies.Done, s)
 reload_end_on s t load (Some o) = reload_leave s t o.spec.name load
 
+-- how `importlib.reload` ends, also by an error: with the load of its body, or with none where that never began
 abbrev pub reload_end : State → ℕ → ℕ → Option ℕ → Reply × State
 reload_end s t mid load = reload_end_on s t load (slice_get s.table.objects mid)

@@ -13,6 +13,7 @@ use Rattle.machine_state.specs.Cache.{tab_get, tab_set, tab_del}
 use Rattle.machine_state.specs.Reloads.{reload_begin, reload_take, reload_end}
 use Rattle.machine_state.specs.Lazies.{add_lazy, rouse}
 
+-- each event by its own row; a Print changes nothing, since its text stands in the history
 abbrev pub step : State → ℕ → Event → Reply × State
 step s t (events.Ask n) = ask s t n
 step s t (events.Take n) = take_name s t n

@@ -22,6 +22,7 @@ abbrev pub runs_elsewhere : ℕ → Option Load → Bool
 runs_elsewhere t None = false
 runs_elsewhere t (Some l) = is_lazy l.kind && is_open l.stage && not (l.thread == t)
 
+-- nobody finds a ready module asleep, and all a lazy one; while a lazy body runs, its own thread alone finds it awake
 abbrev pub asleep_in : State → ℕ → Option ℕ → Phase → Bool
 asleep_in s t load phases.Ready = false
 asleep_in s t load phases.Initialising = runs_elsewhere t (load_of s load)
@@ -31,20 +32,25 @@ asleep_in s t load phases.Lazy = true
 abbrev pub asleep : State → ℕ → Object → Bool
 asleep s t o = asleep_in s t o.load o.phase
 
+-- an event that asks raw finds every module awake
 abbrev pub sleeping : State → ℕ → Bool → Object → Bool
 sleeping s t raw o = if raw then false else asleep s t o
 
+-- where a name is absent, the reply tells whether the module is initialising, for the text of an error depends on it
 abbrev pub value_reply : Object → Option Value → Reply
 value_reply o None = replies.Unset (is_initialising o.phase)
 value_reply o (Some v) = replies.Value v
 
+-- a module asleep tells nothing of its variables; what is no module has none
 abbrev pub get_reply : State → ℕ → List ℕ → Bool → Option Object → Reply
 get_reply s t x raw None = replies.Unset false
 get_reply s t x raw (Some o) = if sleeping s t raw o then replies.Sleeping else value_reply o (var_of o.vars x)
 
+-- a variable is read, and nothing changes
 abbrev pub get_var : State → ℕ → ℕ → List ℕ → Bool → Reply × State
 get_var s t mid x raw = (get_reply s t x raw (slice_get s.table.objects mid), s)
 
+-- a built-in module is fixed, and one asleep is to be roused first; else the variable is set
 abbrev pub set_on : State → ℕ → ℕ → List ℕ → Value → Bool → Option Object → Reply × State
 set_on s t mid x v raw None = (replies.Done, s)
 set_on s t mid x v raw (Some o) =
@@ -52,13 +58,16 @@ set_on s t mid x v raw (Some o) =
     else (if sleeping s t raw o then (replies.Sleeping, s)
     else (replies.Done, record s { table = with_set s.table mid x v }))
 
+-- the same, of the module with this number; where there is none, nothing changes
 abbrev pub set_var : State → ℕ → ℕ → List ℕ → Value → Bool → Reply × State
 set_var s t mid x v raw = set_on s t mid x v raw (slice_get s.table.objects mid)
 
+-- only a variable that is there can be deleted; of another the reply tells what a read would be told
 abbrev pub del_found : State → ℕ → List ℕ → Object → Option Value → Reply × State
 del_found s mid x o None = (replies.Unset (is_initialising o.phase), s)
 del_found s mid x o (Some v) = (replies.Done, record s { table = with_deleted s.table mid x })
 
+-- a built-in module is fixed, and one asleep is to be roused first; else the variable is looked for
 abbrev pub del_on : State → ℕ → ℕ → List ℕ → Bool → Option Object → Reply × State
 del_on s t mid x raw None = (replies.Done, s)
 del_on s t mid x raw (Some o) =
@@ -66,12 +75,15 @@ del_on s t mid x raw (Some o) =
     else (if sleeping s t raw o then (replies.Sleeping, s)
     else del_found s mid x o (var_of o.vars x))
 
+-- the same, of the module with this number; where there is none, nothing changes
 abbrev pub del_var : State → ℕ → ℕ → List ℕ → Bool → Reply × State
 del_var s t mid x raw = del_on s t mid x raw (slice_get s.table.objects mid)
 
+-- the names in their order, asleep or not; what is no module has none
 abbrev pub names_reply : Option Object → Reply
 names_reply None = replies.Names []
 names_reply (Some o) = replies.Names (map (λ p. p.0) o.vars)
 
+-- the names of a module's variables are read, and nothing changes
 abbrev pub names : State → ℕ → Reply × State
 names s mid = (names_reply (slice_get s.table.objects mid), s)

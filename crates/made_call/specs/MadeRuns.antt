@@ -33,6 +33,7 @@ pub record Workload : Type 0 where
   pub modules : ℕ
   pub scripts : ℕ
 
+-- the three numbers in the order in which `gen` is given them
 abbrev pub workload_of : ℕ → ℕ → ℕ → Workload
 workload_of seed modules scripts = record { seed = seed; modules = modules; scripts = scripts }
 
@@ -83,6 +84,7 @@ pub record Quiet (means : Means) (made : Workload) (old new : At) (ran : Finishe
   pub is : (ran.status ≡ want_of_memory)
       ⊎ (ran.status ≡ status_by (status_of made.scripts ran.history) sink_fault Open flow)
 
+-- memory was wanted before a history was begun, and nothing has changed; or the scripts were run, without the line yet
 abbrev pub QuietGives : Means → Workload → At → At → Left → Type 0
 QuietGives means made old new left = MatchOption left.history ((left.status ≡ want_of_memory) × (new ≡ old))
     (λ history. Quiet means made old new (finished history left.status))

@@ -4,6 +4,7 @@ use Rattle.machine_events.specs.declared.event.Entry.{Entry}
 use Rattle.machine_events.specs.declared.event.Outcome.{Outcome}
 use Rattle.program_call.specs.Ends.{end_in, number_of}
 
+-- an entry that is no End leaves the number as it was; an End has its own
 abbrev pub number_or : ℕ → Option Outcome → ℕ
 number_or number None = number
 number_or number (Some outcome) = number_of outcome

@@ -10,9 +10,11 @@ use Rattle.module_lock.specs.Table.{waiters_in}
 abbrev pub queue_of : FinMap (slice_cmp nat_cmp) (List ℕ) → List ℕ → List ℕ
 queue_of queues n = unwrap_or (get queues n) []
 
+-- the others keep their order
 abbrev pub without : ℕ → List ℕ → List ℕ
 without t threads = filter (λ u. not (u == t)) threads
 
+-- the thread leaves the queue that was found; a name without one stays without
 abbrev pub shortened_by : FinMap (slice_cmp nat_cmp) (List ℕ) → List ℕ → ℕ → Option (List ℕ) → FinMap (slice_cmp nat_cmp) (List ℕ)
 shortened_by queues n t None = queues
 shortened_by queues n t (Some threads) = insert queues n (without t threads)

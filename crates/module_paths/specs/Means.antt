@@ -52,6 +52,7 @@ does inside turns m (stage.Searched state epoch path) (given.Found answer) = kee
 does inside turns m (stage.Kept state) (given.Replied r) = has_portions state
 does inside turns m other input = fails fault.NotInProfile
 
+-- a reading of a path that is under way goes on by what it is fed, with its own module, turns and stage
 abbrev pub means : Inside → PathReader → In → Piece
 means inside p = does inside p.turns p.module p.stage
 

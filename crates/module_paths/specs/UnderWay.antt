@@ -20,17 +20,20 @@ does_at p at input inside = does inside p.turns p.module at input
 abbrev pub paths_of : PathReader → Inside → ModRef → Piece
 paths_of p inside = above inside p.turns
 
--- the path of a namespace below a path, below what the cache has for its parent's name, and below that name
+-- the portions of a namespace are searched on a path, whatever is kept of them
 abbrev pub searched_below : PathReader → Namespace → List Value → Inside → Piece
 searched_below p namespace path inside = computes_again (named p.module namespace) namespace.state namespace.epoch path
 
+-- the portions that are kept, where they were computed from this path at this epoch; else they are searched on it again
 abbrev pub below_path : PathReader → Namespace → List Value → Inside → Piece
 below_path p namespace path inside = below (named p.module namespace) namespace.state namespace.epoch path
 
+-- below the path of the module that stands there; where none stands, or it has no path, the portions stay as kept
 abbrev pub below_entry : PathReader → Namespace → Slot → Inside → Piece
 below_entry p namespace slot inside =
     below_slot (paths_of p inside) (named p.module namespace) namespace.state namespace.epoch slot
 
+-- below the search path where its own name has no parent, else below what the cache has for the parent
 abbrev pub below_name : PathReader → Namespace → Option (List ℕ) → Inside → Piece
 below_name p namespace parent inside =
     below_parent (paths_of p inside) (named p.module namespace) namespace.state namespace.epoch parent

@@ -13,5 +13,6 @@ portions_after old (Some (found.Portions portions)) = portions
 portions_after old (Some (found.Spec spec)) = old
 portions_after old None = old
 
+-- the parent path and the epoch of the search are kept whatever it found: while they stay, none is made again
 abbrev pub recomputed : NsState → List Value → ℕ → Option Found → NsState
 recomputed state parent_path epoch found = record { parent_path = parent_path; epoch = epoch; portions = portions_after state.portions found }

@@ -18,13 +18,16 @@ pieces text = if length text == 0 then [] else (if pointwise nat_eq text (codes 
 unfoldable pub path_of : List ℕ → Option Path
 path_of text = if list_all is_part (pieces text) then Some (pieces text) else None
 
+-- only a text is one (`PathFinder._get_spec` of `importlib._bootstrap_external`: "if not isinstance(entry, str)")
 abbrev pub text_in : Value-F Value → Option (List ℕ)
 text_in (Value-F.Text text) = Some text
 text_in _ = None
 
+-- the text that an entry is, if it is one
 abbrev pub text_of : Value → Option (List ℕ)
 text_of entry = text_in (out-Value entry)
 
+-- where there is no text there is no path
 abbrev pub path_by : Option (List ℕ) → Option Path
 path_by (Some text) = path_of text
 path_by None = None
@@ -33,11 +36,13 @@ path_by None = None
 abbrev pub entry_path : Value → Option Path
 entry_path entry = path_by (text_of entry)
 
+-- a directory is given with its time; a file and what is absent are no directory
 abbrev pub timed : Path → Option Node → Option (Path × ℕ)
 timed dir (Some (Dir time)) = Some (dir, time)
 timed dir (Some (File bytes)) = None
 timed dir None = None
 
+-- the directory that stands at the path; where there is no path there is none
 abbrev pub directory_at : Files → Option Path → Option (Path × ℕ)
 directory_at files (Some dir) = timed dir (node_at files dir)
 directory_at files None = None

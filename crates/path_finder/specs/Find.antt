@@ -25,12 +25,15 @@ below dir name = dir ++ name ∷ []
 abbrev pub folder : Path → List ℕ → Path
 folder dir part = below dir part
 
+-- the file that makes a folder a regular package (Language Reference 5.2.1)
 abbrev pub first_file : Path → List ℕ → Path
 first_file dir part = below (folder dir part) (codes "__init__.py")
 
+-- the one suffix of source files (`SOURCE_SUFFIXES` of `importlib._bootstrap_external`); others are not looked for
 abbrev pub with_suffix : List ℕ → List ℕ
 with_suffix part = part ++ codes ".py"
 
+-- the file of a module that is no package
 abbrev pub module_file : Path → List ℕ → Path
 module_file dir part = below dir (with_suffix part)
 
@@ -49,12 +52,15 @@ abbrev pub listed : Files → Path × ℕ → List ℕ → Option Probe → List
 listed files dir part (Some probe) = if probe.time == dir.1 then record { bare = probe.bare; file = probe.file } else listed_in_tree files dir.0 part
 listed files dir part None = listed_in_tree files dir.0 part
 
+-- the part is listed, and a directory stands there now
 abbrev pub has_folder : Files → Path → List ℕ → Listed → Bool
 has_folder files dir part l = l.bare && is_dir (node_at files (folder dir part))
 
+-- such a folder that has the file of a package now, which need not be listed
 abbrev pub has_package : Files → Path → List ℕ → Listed → Bool
 has_package files dir part l = has_folder files dir part l && is_file (node_at files (first_file dir part))
 
+-- the part with `.py` is listed, and a file stands there now
 abbrev pub has_module : Files → Path → List ℕ → Listed → Bool
 has_module files dir part l = l.file && is_file (node_at files (module_file dir part))
 
@@ -62,6 +68,7 @@ has_module files dir part l = l.file && is_file (node_at files (module_file dir 
 abbrev pub package_in : Path → List ℕ → SpecKind
 package_in dir part = kinds.Package (joined (first_file dir part)) (joined (folder dir part) ∷ [])
 
+-- a module has its file and no path
 abbrev pub module_in : Path → List ℕ → SpecKind
 module_in dir part = kinds.Source (joined (module_file dir part))
 
@@ -70,6 +77,7 @@ pub record Offer : Type 0 where
   pub decides : Option SpecKind
   pub portion : Option (List ℕ)
 
+-- a regular package goes before a module; a folder is a portion in any case, which counts only where no entry decides
 abbrev pub offer : Files → Path → List ℕ → Listed → Offer
 offer files dir part l = record {
   decides = if has_package files dir part l then Some (package_in dir part) else (if has_module files dir part l then Some (module_in dir part) else None);
@@ -88,6 +96,7 @@ answer name (kind ∷ more) portions = Some (found.Spec (record { name = name; k
 answer name [] (portion ∷ more) = Some (found.Portions (portion ∷ more))
 answer name [] [] = None
 
+-- what all entries have, those that decide and the portions each in the order of the path
 abbrev pub answer_of : List ℕ → List Offer → Option Found
 answer_of name all = answer name (filter_map (λ o. o.decides) all) (filter_map (λ o. o.portion) all)
 

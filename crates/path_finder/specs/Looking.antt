@@ -27,6 +27,7 @@ pub data Await : Type 0 where
   ForKeeping : Await
   ForNothing : Await
 
+-- each stage waits for one kind of input; before an entry, a listing and the probes that is the payment
 abbrev pub awaits : Stage → Await
 awaits at.Fresh = ForStart
 awaits at.Passing = ForPayment
@@ -37,12 +38,14 @@ awaits (at.Keeping dir bare file) = ForKeeping
 awaits (at.Probing dir bare file) = ForPayment
 awaits at.Over = ForNothing
 
+-- the input fits a search that waits for this
 abbrev pub input_kind : LookIn → Await
 input_kind given.Start = ForStart
 input_kind given.Paid = ForPayment
 input_kind (given.Listed reply) = ForListing
 input_kind given.Kept = ForKeeping
 
+-- what a search waits for after this want; after its answer it waits for nothing
 abbrev pub want_kind : LookWant → Await
 want_kind (wanted.Pay of_tree) = ForPayment
 want_kind (wanted.DirGet dir part) = ForListing
@@ -79,6 +82,7 @@ does look (at.Keeping dir bare file) reply = probes look.sought.name dir bare fi
 does look (at.Probing dir bare file) reply = tries look.sought.name dir bare file look.portions (behind look)
 does look at.Over reply = Ends None
 
+-- what the search does next with this input, at the stage where it stands
 abbrev pub means : Look → LookIn → Search
 means look input = means_at look look.stage input
 
@@ -95,6 +99,7 @@ stands_in (at.Asking dir time) = Some dir
 stands_in (at.Listing dir time) = Some dir
 stands_in _ = None
 
+-- a directory whose kept listing is asked for, or that is to be listed, is a directory of these files
 abbrev pub Suits : Stage → Files → Type 0
 Suits stage files = IfSome (stands_in stage) (λ dir. IsDirAt files dir)
 
@@ -105,7 +110,8 @@ is_quiet (wanted.Pay of_tree) = Unit {0}
 is_quiet (wanted.DirGet dir part) = Unit {0}
 is_quiet (wanted.Done found) = Unit {0}
 
--- how a call counts as one that listed: it lists where it answers that a listing is to be kept, and may have where it wanted memory
+-- how a call counts as one that listed: it lists where it answers that a listing is to be kept, and may have where it
+-- wanted memory
 abbrev pub CountsLists : Result LookWant TreeFault → ℕ → ℕ → Type 0
 CountsLists (Ok (wanted.DirSet dir listing)) old new = new ≡ raised old 1
 CountsLists (Ok (wanted.Pay of_tree)) old new = new ≡ old
@@ -116,6 +122,8 @@ CountsLists (Err fault.Failed) old new = new ≡ old
 
 -- ---- the replies that came
 
+-- given the input that it waits for, the search comes to this answer with these replies; where it waits for a listing,
+-- the first of the replies is that input; a search that is over comes to nothing more
 abbrev pub Remains_at : Files → Look → Await → List (Option Probe) → Option Found → Type 0
 Remains_at files look ForStart replies found = Leads files (means look given.Start) replies found
 Remains_at files look ForPayment replies found = Leads files (means look given.Paid) replies found
@@ -132,12 +140,14 @@ Remains files look replies found = Remains_at files look (awaits look.stage) rep
 abbrev pub Came : Files → Look → List (Option Probe) → Type 0
 Came files look replies = (more : List (Option Probe)) (found : Option Found) → Remains files look more found → found ≡ find files look.sought.name look.path (replies ++ more)
 
+-- what the kept listing says, where the input is that
 abbrev pub reply_of : LookIn → Option Probe
 reply_of (given.Listed reply) = reply
 reply_of given.Start = None
 reply_of given.Paid = None
 reply_of given.Kept = None
 
+-- the input as a reply among those that came: one that says that nothing is kept is a reply too, other inputs are none
 abbrev pub reply_in : LookIn → List (Option Probe)
 reply_in (given.Listed reply) = reply ∷ []
 reply_in given.Start = []

@@ -16,6 +16,7 @@ use Rattle.path_finder.specs.declared.words.Probe.{Probe}
 use Rattle.path_finder.specs.declared.words.Found.{Found}
 use Rattle.path_finder.specs.declared.words.Found.TheVariants as found
 
+-- a search from here on: what it does next, and what it is then, by each thing that it may learn
 pub data Search : Type 0 where
   -- the search is over
   Ends : (answer : Option Found) → Search
@@ -34,11 +35,13 @@ pub data Search : Type 0 where
 abbrev pub Onward : Type 0
 Onward = List (List ℕ) → Search
 
+-- whether a directory stands there; a file is none, and neither is what is absent
 abbrev pub is_dir_stamp : Stamp → Bool
 is_dir_stamp stamp.Absent = false
 is_dir_stamp (stamp.File size) = false
 is_dir_stamp (stamp.Dir time) = true
 
+-- whether a file stands there; a directory is none, and neither is what is absent
 abbrev pub is_file_stamp : Stamp → Bool
 is_file_stamp stamp.Absent = false
 is_file_stamp (stamp.File size) = true
@@ -49,6 +52,7 @@ abbrev pub passes : List ℕ → Path → Bool → List (List ℕ) → Onward �
 passes name dir true portions go = go (portions ++ joined (folder dir (tail_of name)) ∷ [])
 passes name dir false portions go = go portions
 
+-- the entry decides: what was found is a module of this kind under the whole name
 abbrev pub ends_with : List ℕ → SpecKind → Search
 ends_with name kind = Ends (Some (found.Spec (record { name = name; kind = kind })))
 
@@ -57,6 +61,7 @@ abbrev pub module_tried : List ℕ → Path → Bool → List (List ℕ) → Onw
 module_tried name dir portion portions go true = ends_with name (module_in dir (tail_of name))
 module_tried name dir portion portions go false = passes name dir portion portions go
 
+-- the file is looked at where it is listed, and else the entry does not decide
 abbrev pub tries_module : List ℕ → Path → Bool → Bool → List (List ℕ) → Onward → Search
 tries_module name dir portion true portions go = Stamps (module_file dir (tail_of name)) (λ s. module_tried name dir portion portions go (is_file_stamp s))
 tries_module name dir portion false portions go = passes name dir portion portions go
@@ -66,6 +71,7 @@ abbrev pub package_tried : List ℕ → Path → Bool → List (List ℕ) → On
 package_tried name dir file portions go true = ends_with name (package_in dir (tail_of name))
 package_tried name dir file portions go false = tries_module name dir true file portions go
 
+-- only where the part is a directory is the file of a package looked for, and only then is it a portion
 abbrev pub folder_tried : List ℕ → Path → Bool → List (List ℕ) → Onward → Bool → Search
 folder_tried name dir file portions go true = Stamps (first_file dir (tail_of name)) (λ s. package_tried name dir file portions go (is_file_stamp s))
 folder_tried name dir file portions go false = tries_module name dir false file portions go
@@ -75,6 +81,7 @@ abbrev pub tries : List ℕ → Path → Bool → Bool → List (List ℕ) → O
 tries name dir true file portions go = Stamps (folder dir (tail_of name)) (λ s. folder_tried name dir file portions go (is_dir_stamp s))
 tries name dir false file portions go = tries_module name dir false file portions go
 
+-- one unit is paid for all looks at the names in a directory
 abbrev pub probes : List ℕ → Path → Bool → Bool → List (List ℕ) → Onward → Search
 probes name dir bare file portions go = Pays true (tries name dir bare file portions go)
 
@@ -83,6 +90,7 @@ abbrev pub keeps : List ℕ → Path → ℕ → List (List ℕ) → Onward → 
 keeps name dir time portions go names =
     Keeps dir (record { time = time; names = names }) (probes name dir (has_name names (tail_of name)) (has_name names (with_suffix (tail_of name))) portions go)
 
+-- one unit is paid for listing a directory, of which no listing is kept that may be used
 abbrev pub lists : List ℕ → Path → ℕ → List (List ℕ) → Onward → Search
 lists name dir time portions go = Pays true (Lists dir (keeps name dir time portions go))
 

@@ -21,6 +21,7 @@ pub struct Sought {
 }
 
 impl Sought {
+    /// A name with its last part and that part with `.py`. An `Err` comes for want of memory alone.
     pub fn of(name: Dotted) -> Result<Sought, NoMemory>
         ensures { IfOk result (λ it. it.name ≡ name) }
     {

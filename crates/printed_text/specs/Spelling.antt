@@ -7,6 +7,7 @@ use Rattle.py_syntax.specs.declared.lexeme.Lexeme.TheVariants as token
 
 -- Each of these is empty for the lexemes that it does not name.
 
+-- keywords of expressions (Language Reference 2.3.1)
 abbrev pub word_of_expression : Lexeme → List ℕ
 word_of_expression token.And = codes "and"
 word_of_expression token.False = codes "False"
@@ -18,6 +19,7 @@ word_of_expression token.Or = codes "or"
 word_of_expression token.True = codes "True"
 word_of_expression t = []
 
+-- keywords of simple statements, with `as`, which handlers have too
 abbrev pub word_of_line : Lexeme → List ℕ
 word_of_line token.As = codes "as"
 word_of_line token.Break = codes "break"
@@ -31,6 +33,7 @@ word_of_line token.Raise = codes "raise"
 word_of_line token.Return = codes "return"
 word_of_line t = []
 
+-- keywords of compound statements
 abbrev pub word_of_block : Lexeme → List ℕ
 word_of_block token.Def = codes "def"
 word_of_block token.Elif = codes "elif"
@@ -42,6 +45,7 @@ word_of_block token.Try = codes "try"
 word_of_block token.While = codes "while"
 word_of_block t = []
 
+-- comparisons and arithmetic operators (Language Reference 2.5)
 abbrev pub sign_of_operator : Lexeme → List ℕ
 sign_of_operator token.EqEq = codes "=="
 sign_of_operator token.NotEq = codes "!="
@@ -56,6 +60,7 @@ sign_of_operator token.SlashSlash = codes "//"
 sign_of_operator token.Percent = codes "%"
 sign_of_operator t = []
 
+-- assignments, plain and augmented, which are delimiters (Language Reference 2.6)
 abbrev pub sign_of_assignment : Lexeme → List ℕ
 sign_of_assignment token.Assign = codes "="
 sign_of_assignment token.PlusEq = codes "+="
@@ -65,6 +70,7 @@ sign_of_assignment token.SlashSlashEq = codes "//="
 sign_of_assignment token.PercentEq = codes "%="
 sign_of_assignment t = []
 
+-- brackets, and the marks between (Language Reference 2.6)
 abbrev pub mark : Lexeme → List ℕ
 mark token.OpenParen = codes "("
 mark token.CloseParen = codes ")"

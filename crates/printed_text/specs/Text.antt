@@ -1,10 +1,12 @@
--- The text of lexemes: four blanks for each open level stand before a line, a blank before each other lexeme, and a line
+-- The text of lexemes: four blanks for each open level stand before a line, a blank before each other lexeme, and a
+-- line
 -- end (10) behind each line.
 use Rattle.std.specs.Prelude.{ℕ, zero, suc, ◌-◌, Bool, true, false, if◌then◌else◌, List, [], ◌∷◌, ◌++◌, codes}
 use Rattle.py_syntax.specs.declared.lexeme.Lexeme.{Lexeme}
 use Rattle.py_syntax.specs.declared.lexeme.Lexeme.TheVariants as token
 use Rattle.printed_text.specs.Spelling.{spelled}
 
+-- four blanks for each open level
 abbrev pub indentation : ℕ → List ℕ
 indentation zero = []
 indentation (suc n) = codes "    " ++ indentation n
@@ -22,5 +24,6 @@ rendered depth is_first (token.Dedent ∷ ts) = rendered (depth - 1) is_first ts
 rendered depth is_first (token.End ∷ ts) = rendered depth is_first ts
 rendered depth is_first (t ∷ ts) = lead depth is_first ++ (spelled t ++ rendered depth false ts)
 
+-- the text of a whole script: a line begins, and no level is open
 abbrev pub text_of : List Lexeme → List ℕ
 text_of ts = rendered 0 true ts

@@ -23,6 +23,7 @@ abbrev pub separated : Lexeme → List (List Lexeme) → List Lexeme
 separated sep [] = []
 separated sep (first ∷ others) = first ++ flat_map (λ ts. sep ∷ ts) others
 
+-- between an opening and a closing bracket
 abbrev pub enclosed : Lexeme → List Lexeme → Lexeme → List Lexeme
 enclosed opening ts closing = opening ∷ (ts ++ closing ∷ [])
 
@@ -42,6 +43,7 @@ prefixed n sign a = record { strength = n; tokens = sign ∷ operand n a }
 abbrev pub closed : List Lexeme → Printed
 closed ts = record { strength = 8; tokens = ts }
 
+-- how a comparison is spelled (Language Reference 6.10): `not in` and `is not` are two lexemes each
 abbrev pub comparator : Comparison → List Lexeme
 comparator comparing.Eq = token.EqEq ∷ []
 comparator comparing.Ne = token.NotEq ∷ []
@@ -54,9 +56,11 @@ comparator comparing.NotIn = token.Not ∷ token.In ∷ []
 comparator comparing.Is = token.Is ∷ []
 comparator comparing.IsNot = token.Is ∷ token.Not ∷ []
 
+-- what is compared are sums, since chains are left out: all that binds less, a comparison too, stands in parentheses
 abbrev pub compared : Comparison → Printed → Printed → Printed
 compared c a b = record { strength = 4; tokens = operand 5 a ++ (comparator c ++ operand 5 b) }
 
+-- `*`, `//` and `%` bind more strongly than `+` and `-` (Language Reference 6.17)
 abbrev pub op_strength : BinaryOp → ℕ
 op_strength op.Add = 5
 op_strength op.Sub = 5
@@ -64,6 +68,7 @@ op_strength op.Mul = 6
 op_strength op.FloorDiv = 6
 op_strength op.Mod = 6
 
+-- the sign of each operator of two operands (Language Reference 6.7)
 abbrev pub op_sign : BinaryOp → Lexeme
 op_sign op.Add = token.Plus
 op_sign op.Sub = token.Minus
@@ -71,9 +76,11 @@ op_sign op.Mul = token.Star
 op_sign op.FloorDiv = token.SlashSlash
 op_sign op.Mod = token.Percent
 
+-- each of these operators groups to the left (Language Reference 6.17): `a - (b - c)` keeps its parentheses
 abbrev pub binary : BinaryOp → Printed → Printed → Printed
 binary o a b = grouped (op_strength o) (op_sign o) a b
 
+-- expressions with commas between: none needs parentheses, and none has a comma behind the last
 abbrev pub items : List Printed → List Lexeme
 items [] = []
 items (first ∷ others) = first.tokens ++ flat_map (λ p. token.Comma ∷ p.tokens) others
@@ -103,8 +110,10 @@ printed_at (Expr-F.Not p) = prefixed 3 token.Not p
 printed_at (Expr-F.And a b) = grouped 2 token.And a b
 printed_at (Expr-F.Or a b) = grouped 1 token.Or a b
 
+-- a whole expression, each part printed before the form that it stands in
 abbrev pub print_of : Expr → Printed
 print_of = fold-Expr Printed printed_at
 
+-- where any expression may stand: it needs no parentheses around it
 abbrev pub expr_tokens : Expr → List Lexeme
 expr_tokens e = (print_of e).tokens

@@ -37,11 +37,13 @@ pub record Setting : Type 0 where
   pub new_faults : ℕ
   pub status : ℕ
 
+-- the fuel is that of each script, and `old` and `new` are the faults that the tree counted before and after
 abbrev pub setting : Files → ℕ → ℕ → ℕ → ℕ → Setting
 setting files fuel old new status =
     record { files = files; fuel = fuel; old_faults = old; new_faults = new; status = status }
 
--- the history of one script over these files: the one that it has alone, with a stop only where a call of the tree failed;
+-- the history of one script over these files: the one that it has alone, with a stop only where a call of the tree
+-- failed;
 -- at want of memory a beginning of such a one
 pub data IsRun (under : Setting) (opened : State) (run : Run) (history : List Entry) : Type 0 where
   whole : (stop : Option ℕ) → IsSolo opened (turn_of under.files run stop ∷ []) under.fuel history

@@ -19,6 +19,7 @@ use Rattle.program_call.specs.declared.report.Left.{Left}
 abbrev pub is_built : RunPlan → Bool
 is_built run = not run.bundles && not (is_some run.rounds)
 
+-- the run where it is done here, and else none
 abbrev pub run_if : Bool → RunPlan → Option RunPlan
 run_if true run = Some run
 run_if false run = None

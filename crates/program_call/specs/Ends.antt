@@ -11,6 +11,7 @@ use Rattle.machine_events.specs.declared.event.Outcome.TheVariants as o
 use Rattle.thread_knowledge.specs.Own.{own}
 use Rattle.program_call.specs.Statuses.{normal_end, error_end, spent_budget, tree_fault}
 
+-- the End event alone tells how a script ended
 abbrev pub end_in : Event → Option Outcome
 end_in (e.End outcome k) = Some outcome
 end_in event = None
@@ -32,6 +33,7 @@ line_of script (o.Raised error) = script ++ codes ": " ++ kind_name error.kind +
 line_of script o.Fuel = script ++ codes ": fuel spent" ++ 10 ∷ []
 line_of script o.Read = script ++ codes ": file fault" ++ 10 ∷ []
 
+-- a script that has no end has no line
 abbrev pub line_at : List ℕ → Option Outcome → List ℕ
 line_at script None = []
 line_at script (Some outcome) = line_of script outcome
@@ -52,6 +54,7 @@ number_of (o.Raised error) = error_end
 number_of o.Fuel = spent_budget
 number_of o.Read = tree_fault
 
+-- a script that has no end counts as one that ended normally
 abbrev pub number_at : Option Outcome → ℕ
 number_at None = normal_end
 number_at (Some outcome) = number_of outcome

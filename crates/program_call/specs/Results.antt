@@ -12,19 +12,23 @@ use Rattle.program_call.specs.Ends.{line_of, number_of}
 abbrev pub Came : Type 0
 Came = Result Ending NoMemory
 
+-- the line about the end of a script; there is none where memory was wanting
 abbrev pub line_by : List ℕ → Came → List ℕ
 line_by script (Ok ending) = line_of script (outcome ending)
 line_by script (Err e) = []
 
+-- the status that the end of a script has; where memory was wanting that of a normal end, so that it weighs nothing
 abbrev pub number_by : Came → ℕ
 number_by (Ok ending) = number_of (outcome ending)
 number_by (Err e) = normal_end
 
+-- the lines about all ends, in the order of the scripts, as far as both lists go
 abbrev pub lines_by : List (List ℕ) → List Came → List ℕ
 lines_by [] results = []
 lines_by (script ∷ scripts) [] = []
 lines_by (script ∷ scripts) (result ∷ results) = line_by script result ++ lines_by scripts results
 
+-- the greatest status over all ends, and that of a normal end where there is none
 abbrev pub worst_by : List Came → ℕ
 worst_by [] = normal_end
 worst_by (result ∷ results) = max (number_by result) (worst_by results)

@@ -12,6 +12,7 @@ pub record At : Type 0 where
   pub written : Option (List ℕ)
   pub faults : ℕ
 
+-- a sink, by what it tells of its bytes and by its count of faults
 abbrev pub at : {K : Type 0} → (K → Option (List ℕ)) → (K → ℕ) → K → At
 at written faults sink = record { written = written sink; faults = faults sink }
 
@@ -28,11 +29,13 @@ pub record Moment : Type 0 where
   pub out : At
   pub err : At
 
+-- a tree, by what it tells of its files and by its two counts, and what both sinks have at that moment
 abbrev pub moment : {T : Type 0} → (T → Option Files) → (T → ℕ) → (T → ℕ) → T → At → At → Moment
 moment files faults lists tree out err =
     record { files = files tree; faults = faults tree; lists = lists tree; out = out; err = err }
 
--- from one moment to a later one the files are as they were, and no count of faults has fallen, neither the tree's nor one
+-- from one moment to a later one the files are as they were, and no count of faults has fallen, neither the tree's nor
+-- one
 -- of a sink
 pub record Passes (old new : Moment) : Type 0 where
   pub files : new.files ≡ old.files

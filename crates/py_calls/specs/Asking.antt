@@ -8,10 +8,12 @@ use Rattle.py_meaning.specs.Calls.{member_named, telling, defaulting}
 use Rattle.py_meaning.specs.Meaning.{World}
 use Rattle.py_calls.specs.Around.{access_at}
 
+-- `hasattr`: whether the attribute is there; only an AttributeError says that it is not, and any other error goes on
 abbrev pub asks_whether : World → ℕ → Option (Value × Value) → Piece
 asks_whether w d None = fails (fault.ArgumentCount natives.HasAttr)
 asks_whether w d (Some p) = λ s k. member_named (access_at w d) p.0 p.1 s (telling k)
 
+-- `getattr` without a default: the attribute, or the error of its read
 abbrev pub asks_for : World → ℕ → Option (Value × Value) → Piece
 asks_for w d None = fails (fault.ArgumentCount natives.GetAttr)
 asks_for w d (Some p) = member_named (access_at w d) p.0 p.1

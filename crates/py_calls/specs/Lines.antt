@@ -20,6 +20,7 @@ abbrev pub continued : List ℕ → List Value → Result (List ℕ) Error
 continued line [] = Ok line
 continued line (v ∷ vs) = behind (str_of v) (λ text. continued (line ++ 32 ∷ text) vs)
 
+-- the line end comes behind the last text; an error stays as it is
 abbrev pub ended : Result (List ℕ) Error → Result (List ℕ) Error
 ended (Ok line) = Ok (line ++ 10 ∷ [])
 ended (Err error) = Err error
@@ -29,6 +30,7 @@ abbrev pub printed : List Value → Result (List ℕ) Error
 printed [] = Ok (10 ∷ [])
 printed (v ∷ vs) = ended (behind (str_of v) (λ text. continued text vs))
 
+-- a line is printed; where a text raised an error, that goes on and nothing is printed
 abbrev pub writes_or_fails : Result (List ℕ) Error → Piece
 writes_or_fails (Ok line) = writes line
 writes_or_fails (Err error) = λ s k. k (Left (Raised error)) s

@@ -41,6 +41,7 @@ abbrev pub CountsSought : ℕ → ℕ → Sought → Type 0
 CountsSought old new (sought.Unread left) = Rose old new
 CountsSought old new it = Unit {0}
 
+-- the same of a step; one behind which the search goes on claims nothing
 abbrev pub CountsStep : ℕ → ℕ → Step → Type 0
 CountsStep old new (step.On input) = Unit {0}
 CountsStep old new (step.Over it) = CountsSought old new it
@@ -90,6 +91,7 @@ Keeps old new = (held : Held) → Holds old held → Holds new held
 abbrev pub GiveParted : List (Event × Reply) → List (Event × Reply) → Purse → LookWant → Type 0
 GiveParted mine mine' purse want = (files : Option Files) (go : LookIn → Search) (k : Option Found → Run) → Parted files mine mine' purse (searches_in (wants want go) k)
 
+-- whatever script was to be given this stands at an event that the port refused
 abbrev pub GiveRefused : {S : Type 0} → View S → List (Event × Reply) → Purse → LookWant → Type 0
 GiveRefused v mine purse want = (files : Option Files) (go : LookIn → Search) (k : Option Found → Run) → Refused v files mine purse (searches_in (wants want go) k)
 
@@ -108,5 +110,6 @@ pub record Searched (files : Option Files) (faults faults' : ℕ) (mine mine' : 
 abbrev pub SearchParted : Option Files → List (Event × Reply) → List (Event × Reply) → Purse → Search → Type 0
 SearchParted files mine mine' purse before = (k : Option Found → Run) → Parted files mine mine' purse (searches_in before k)
 
+-- whatever script was to search so stands at an event that the port refused
 abbrev pub SearchRefused : {S : Type 0} → View S → Option Files → List (Event × Reply) → Purse → Search → Type 0
 SearchRefused v files mine purse before = (k : Option Found → Run) → Refused v files mine purse (searches_in before k)

@@ -47,7 +47,8 @@ abbrev pub Counts : ℕ → ℕ → Turn → Type 0
 Counts old new (turn.Unread left) = Rose old new
 Counts old new t = Unit {0}
 
--- a turn from `run` on: whatever script stood there stands where the turn leads; and how the tree's count of faults went
+-- a turn from `run` on: whatever script stood there stands where the turn leads; and how the tree's count of faults
+-- went
 pub record Turned (files : Option Files) (faults faults' : ℕ) (mine mine' : List (Event × Reply)) (purse : Purse) (after : Course) (run : Run) (t : Turn) : Type 0 where
   pub moves : (whole : Run) (fuel : ℕ) → At files whole fuel mine purse run → After files whole fuel mine' after t
   pub counts : Counts faults faults' t
@@ -87,5 +88,6 @@ Parted files mine mine' purse run = (whole : Run) (fuel : ℕ) → At files whol
 abbrev pub RefusedAt : {S : Type 0} → View S → Option Files → Run → ℕ → Type 0
 RefusedAt v files whole fuel = (event : Event) × (budget : ℕ) × (next : Reply → Run) × v.refuses event × Stands files whole fuel v.mine budget (Makes event next)
 
+-- whatever script stood at `run` stands at an event that the port refused
 abbrev pub Refused : {S : Type 0} → View S → Option Files → List (Event × Reply) → Purse → Run → Type 0
 Refused v files mine purse run = (whole : Run) (fuel : ℕ) → At files whole fuel mine purse run → RefusedAt v files whole fuel

@@ -22,6 +22,7 @@ import_error text name = record { kind = kinds.ImportError; text = text; name = 
 abbrev pub not_found : List ℕ → List ℕ → Raised
 not_found text name = record { kind = kinds.ModuleNotFoundError; text = text; name = Some name }
 
+-- a module lacks the attribute; one that is still initialising is called partially initialized, as in CPython 3.12
 abbrev pub no_attribute : Bool → List ℕ → List ℕ → List ℕ
 no_attribute false m x = codes "module '" ++ m ++ codes "' has no attribute '" ++ x ++ codes "'"
 no_attribute true m x =
@@ -32,6 +33,8 @@ abbrev pub source_of : Bool → List ℕ → List ℕ
 source_of false m = codes "' from '" ++ m ++ codes "' ("
 source_of true m = codes "' from partially initialized module '" ++ m ++ codes "' (most likely due to a circular import) ("
 
+-- a file is told, and whether its module is initialising; without a file the location is unknown, and neither is told
+-- (`import_from` of CPython 3.12)
 abbrev pub looked_in : Place → Bool → List ℕ → List ℕ
 looked_in (places.File file) init m = source_of init m ++ file ++ codes ")"
 looked_in place init m = codes "' from '" ++ m ++ codes "' (unknown location)"
@@ -40,6 +43,7 @@ looked_in place init m = codes "' from '" ++ m ++ codes "' (unknown location)"
 abbrev pub not_package : List ℕ → List ℕ
 not_package p = codes "'; '" ++ p ++ codes "' is not a package"
 
+-- the error that each fault is, with a name only where an import or a reload failed; one that is given stays as it is
 abbrev pub error_of : Fault → Raised
 error_of (fault.NotDefined x) = raised kinds.NameError (codes "name '" ++ x ++ codes "' is not defined")
 error_of (fault.Unbound x) =

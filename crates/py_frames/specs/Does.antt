@@ -64,6 +64,7 @@ abbrev pub operands_of_stmt : Option Stmt → List Expr
 operands_of_stmt None = []
 operands_of_stmt (Some s) = stmt_operands_at (out-Stmt s)
 
+-- that statement on the values of its operands; where none stands there, ProfileError is raised
 abbrev pub performs : Around → Option Stmt → List Value → Piece
 performs around None vs = fails fault.NotInProfile
 performs around (Some s) vs = performs_at around.access (out-Stmt s) vs
@@ -73,20 +74,26 @@ abbrev pub arguments_at : Expr-F Expr → List Expr
 arguments_at (Expr-F.Call callee es) = es
 arguments_at form = []
 
+-- the name behind the dot of an attribute; any other form has the empty one
 abbrev pub attribute_name : Expr-F Expr → List ℕ
 attribute_name (Expr-F.Attribute object x) = x
 attribute_name form = []
 
+-- the name of the attribute that a call has as its callee; empty where a form is no call, or its callee no attribute
 abbrev pub method_name_at : Expr-F Expr → List ℕ
 method_name_at (Expr-F.Call callee es) = attribute_name (out-Expr callee)
 method_name_at form = []
 
+-- the arguments of an expression that is a call, by its outermost form; any other has none
 abbrev pub arguments_of : Expr → List Expr
 arguments_of e = arguments_at (out-Expr e)
 
+-- the name of the attribute that an expression calls, by its outermost form; empty where it calls none
 abbrev pub method_name : Expr → List ℕ
 method_name e = method_name_at (out-Expr e)
 
+-- whose values a form is applied to: the operands of an expression, those of the statement at a place, or the arguments
+-- of a method, whose object has its value already
 abbrev pub operands_of : Form → List Expr
 operands_of (Expression e) = operands_at (out-Expr e)
 operands_of (Statement stmts at) = operands_of_stmt (slice_get stmts at)
@@ -104,6 +111,8 @@ calls_callee around e object = calls_member around (method_name e) (map (eval ar
 
 -- ---- an operand in whose place a list comes
 
+-- the piece of work with this value as its operand at the place; of work on an entry that is the key, of `and` and `or`
+-- the left operand, whatever the place; any other work stays as it is
 abbrev pub with_operand : Item → ℕ → Value → Item
 with_operand (it.Apply e vs) at v = it.Apply e (slice_set vs at v)
 with_operand (it.Augment x o vs) at v = it.Augment x o (slice_set vs at v)
@@ -123,17 +132,21 @@ chooses_at around (Expr-F.And a b) v = conjoins (eval around b) v
 chooses_at around (Expr-F.Or a b) v = disjoins (eval around b) v
 chooses_at around form v = fails fault.NotInProfile
 
+-- the same of an expression, by its outermost form (Language Reference 6.11)
 abbrev pub chooses : Around → Expr → Value → Piece
 chooses around e v = chooses_at around (out-Expr e) v
 
+-- what an `import` statement imports, in order; any other statement, a `from` too, has no such list
 abbrev pub aliases_at : Stmt-F Stmt Branch FuncDef Handler → List Alias
 aliases_at (Stmt-F.Import items) = items
 aliases_at stmt = []
 
+-- the same of a statement that may be missing; where it is, there is nothing
 abbrev pub aliases_of : Option Stmt → List Alias
 aliases_of None = []
 aliases_of (Some s) = aliases_at (out-Stmt s)
 
+-- one module of an `import`, with its binding (Language Reference 7.11); where it is missing, ProfileError is raised
 abbrev pub imports_some : Around → Option Alias → Piece
 imports_some around None = fails fault.NotInProfile
 imports_some around (Some a) = imports_one around a
@@ -143,14 +156,18 @@ abbrev pub fronts_parts : Around → List (List ℕ) → Option (List ℕ) → P
 fronts_parts around [] bound = fails fault.NotInProfile
 fronts_parts around (x ∷ cs) bound = imports_front around x cs bound
 
+-- the same of one module of an `import`; where it is missing, ProfileError is raised
 abbrev pub fronts_some : Around → Option Alias → Piece
 fronts_some around None = fails fault.NotInProfile
 fronts_some around (Some a) = fronts_parts around a.parts a.bound
 
+-- the value of the first part is bound to that part, or, with `as`, followed to its last part, which is bound
+-- (Language Reference 7.11)
 abbrev pub binds_parts : Around → List (List ℕ) → Option (List ℕ) → Value → Piece
 binds_parts around [] bound v = fails fault.NotInProfile
 binds_parts around (x ∷ cs) bound v = binds_import around x cs bound v
 
+-- the same of one module of an `import`; where it is missing, ProfileError is raised
 abbrev pub binds_some_import : Around → Option Alias → Value → Piece
 binds_some_import around None v = fails fault.NotInProfile
 binds_some_import around (Some a) v = binds_parts around a.parts a.bound v
@@ -160,6 +177,7 @@ abbrev pub follows_bound : Around → List (List ℕ) → Option (List ℕ) → 
 follows_bound around parts None v = fails fault.NotInProfile
 follows_bound around parts (Some x) v = follows_parts around parts x v
 
+-- the same of one module of an `import`; where it is missing, or has no `as`, ProfileError is raised
 abbrev pub follows_some : Around → ℕ → Option Alias → Value → Piece
 follows_some around part None v = fails fault.NotInProfile
 follows_some around part (Some a) v = follows_bound around (drop part a.parts) a.bound v
@@ -169,6 +187,7 @@ abbrev pub from_at : Around → Stmt-F Stmt Branch FuncDef Handler → Piece
 from_at around (Stmt-F.From dots parts names) = from_import around dots parts names
 from_at around stmt = fails fault.NotInProfile
 
+-- the same of a statement that may be missing; where it is, ProfileError is raised
 abbrev pub from_some : Around → Option Stmt → Piece
 from_some around None = fails fault.NotInProfile
 from_some around (Some s) = from_at around (out-Stmt s)
@@ -178,6 +197,7 @@ abbrev pub names_at : Around → Stmt-F Stmt Branch FuncDef Handler → ModRef �
 names_at around (Stmt-F.From dots parts names) m = imported_names around names m
 names_at around stmt m = fails fault.NotInProfile
 
+-- the same of a statement that may be missing; where it is, ProfileError is raised
 abbrev pub names_some : Around → Option Stmt → ModRef → Piece
 names_some around None m = fails fault.NotInProfile
 names_some around (Some s) m = names_at around (out-Stmt s) m
@@ -188,29 +208,36 @@ relative_at around (Stmt-F.From dots parts names) reply =
     from_resolved around (imported_names around names) (resolved (package_in reply) dots (optional_name parts))
 relative_at around stmt reply = fails fault.NotInProfile
 
+-- the same of a statement that may be missing; where it is, ProfileError is raised
 abbrev pub relative_some : Around → Option Stmt → Reply → Piece
 relative_some around None reply = fails fault.NotInProfile
 relative_some around (Some s) reply = relative_at around (out-Stmt s) reply
 
+-- the items that are listed behind `import`; a star lists none
 abbrev pub listed_in : ImportedNames → List Alias
 listed_in names.All = []
 listed_in (names.Listed items) = items
 
+-- the items of a `from` statement, in order; any other statement has none
 abbrev pub items_at : Stmt-F Stmt Branch FuncDef Handler → List Alias
 items_at (Stmt-F.From dots parts names) = listed_in names
 items_at stmt = []
 
+-- the same of a statement that may be missing; where it is, there are none
 abbrev pub items_of : Option Stmt → List Alias
 items_of None = []
 items_of (Some s) = items_at (out-Stmt s)
 
+-- one item of a `from` statement is bound from the module; where it is missing, ProfileError is raised
 abbrev pub binds_some_item : Around → ModRef → Option Alias → Piece
 binds_some_item around m None = fails fault.NotInProfile
 binds_some_item around m (Some a) = binds_item around m a
 
+-- the branches of an `if`, in order: of each its test and its block
 abbrev pub branches : Around → List Branch → List BranchPiece
 branches around bs = map (branch around) bs
 
+-- the handlers of a `try`, in order: of each its kinds, its name and its block
 abbrev pub handlers : Around → List Handler → List HandlerPiece
 handlers around hs = map (handler around) hs
 
@@ -219,6 +246,7 @@ abbrev pub tries_at : Around → Stmt-F Stmt Branch FuncDef Handler → Piece
 tries_at around (Stmt-F.Try body hs otherwise last) = tries (run_all around body) (handlers around hs) (run_all around otherwise)
 tries_at around stmt = fails fault.NotInProfile
 
+-- the same of a statement that may be missing; where it is, ProfileError is raised
 abbrev pub tries_some : Around → Option Stmt → Piece
 tries_some around None = fails fault.NotInProfile
 tries_some around (Some s) = tries_at around (out-Stmt s)
@@ -228,6 +256,7 @@ abbrev pub tried_at : Around → Stmt-F Stmt Branch FuncDef Handler → Onward �
 tried_at around (Stmt-F.Try body hs otherwise last) k = tried (handlers around hs) (run_all around otherwise) k
 tried_at around stmt k = k
 
+-- the same of a statement that may be missing; where it is, the way on stays as it is
 abbrev pub tried_some : Around → Option Stmt → Onward → Onward
 tried_some around None k = k
 tried_some around (Some s) k = tried_at around (out-Stmt s) k
@@ -242,10 +271,12 @@ begun_at around (Stmt-F.Try body hs otherwise last) =
 begun_at around (Stmt-F.Def f) = defines (record { number = f.number; name = f.name })
 begun_at around stmt = gathers (map (eval around) (stmt_operands_at stmt)) [] (performs_at around.access stmt)
 
+-- the same of a statement that may be missing; where it is, ProfileError is raised
 abbrev pub begun : Around → Option Stmt → Piece
 begun around None = fails fault.NotInProfile
 begun around (Some s) = begun_at around (out-Stmt s)
 
+-- a whole statement, with its own units; where it is missing, ProfileError is raised
 abbrev pub runs_some : Around → Option Stmt → Piece
 runs_some around None = fails fault.NotInProfile
 runs_some around (Some s) = run around s
@@ -254,24 +285,32 @@ runs_some around (Some s) = run around s
 abbrev pub catches_from : Around → List Handler → ℕ → Error → Piece
 catches_from around hs at error = catches (handlers around (drop at hs)) error
 
+-- a handler that takes the error: its name, where it has one, is bound to the error, and then its block runs
+-- (Language Reference 8.4.1); where no handler is there, ProfileError is raised
 abbrev pub binds_some : Around → Option Handler → Error → Piece
 binds_some around None error = fails fault.NotInProfile
 binds_some around (Some h) error = binds_error (handler around h) error h.bound
 
+-- the block of a handler, with the error, and then its name is unset; where no handler is there, ProfileError is raised
 abbrev pub handles_some : Around → Option Handler → Error → Piece
 handles_some around None error = fails fault.NotInProfile
 handles_some around (Some h) error = handles (handler around h) error
 
+-- by whether a handler's kinds take the error: this handler, else the others; TypeError where it names what is no kind,
+-- and ProfileError where the handler is missing
 abbrev pub chosen_some : Around → Option Handler → Error → Piece → Option Bool → Piece
 chosen_some around None error others taken = fails fault.NotInProfile
 chosen_some around (Some h) error others taken = chosen (handler around h) error others taken
 
+-- behind a branch's test: its block where the value counts as true, else the others (Language Reference 8.1); where the
+-- branch is missing, ProfileError is raised
 abbrev pub decides_some : Around → Option Branch → Value → Piece → Piece
 decides_some around None v others = fails fault.NotInProfile
 decides_some around (Some b) v others = decides v (run_all around b.body) others
 
 -- ---- procedures, and the depth of calls
 
+-- what a procedure does by what it is fed, where so many more bodies, calls and imports may be open
 abbrev pub fed : World → ℕ → Procedure → In → Piece
 fed w left (Import p) input = means (inside_at w left) p input
 fed w left (Path p) input = path_means (inside_at w left) p input
@@ -294,6 +333,7 @@ loaded_at w (suc left) load index vs reply = loaded w (around_at w left) load in
 abbrev pub goes_with : Value → Piece
 goes_with v s k = k (Went v) s
 
+-- what a piece of work means, in the words of the meaning, where d more bodies, calls and imports may be open
 abbrev pub item_piece : World → ℕ → Item → Piece
 item_piece w d (it.Give flow) = λ s k. k flow s
 item_piece w d (it.Eval e) = eval (around_at w d) e
@@ -342,6 +382,7 @@ item_piece w d (it.Match hs at error) = catches_from (around_at w d) hs at error
 item_piece w d (it.Bind hs at error) = binds_some (around_at w d) (slice_get hs at) error
 item_piece w d (it.Handle hs at error) = handles_some (around_at w d) (slice_get hs at) error
 
+-- the run of a piece of work from a state on, and then `next`
 abbrev pub item_does : World → ℕ → Item → Rest → State → Run
 item_does w d item next s = item_piece w d item s (next d)
 
@@ -373,6 +414,7 @@ reply_piece w d (on.EntryPopped key default) reply = taken_out (entry_or key def
 reply_piece w d on.PathAdded reply = path_added reply
 reply_piece w d (on.Package stmts at) reply = relative_some (around_at w d) (slice_get stmts at) reply
 
+-- the run of what goes on by a reply from a state on, once the reply is paid for, and then `next`
 abbrev pub reply_does : World → ℕ → OnReply → Rest → State → Reply → Run
 reply_does w d o next s reply = reply_piece w d o reply s (next d)
 
@@ -432,6 +474,7 @@ rest w (f ∷ fs) d = frame_does w d f (rest w fs)
 
 -- ---- what is wanted, where `next` is the rest of the work
 
+-- the run of what is wanted from a state on: what it asks for first, if anything, then its work, and then `next`
 abbrev pub want_does : World → ℕ → Want → Rest → State → Run
 want_does w d (want.Go flow) next s = next d flow s
 want_does w d (want.Then item) next s = item_does w d item next s
@@ -456,11 +499,14 @@ pub record Does (after : Thread) (run : World → Rest → Run) (want : Want) : 
 abbrev pub begins : Item → Thread → World → Rest → Run
 begins item th w next = item_does w th.left item next th.state
 
+-- where the meaning counts how many more may be open, that is what the thread has left
 abbrev pub pieces : (World → ℕ → Piece) → Thread → World → Rest → Run
 pieces piece th w next = piece w th.left th.state (next th.left)
 
+-- this way on comes to the frame, in the state of the thread
 abbrev pub goes_on : Frame → Flow → Thread → World → Rest → Run
 goes_on f flow th w next = frame_does w th.left f next flow th.state
 
+-- the reply is paid for already
 abbrev pub replies : OnReply → Reply → Thread → World → Rest → Run
 replies o reply th w next = reply_does w th.left o next th.state reply

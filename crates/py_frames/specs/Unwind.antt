@@ -12,10 +12,12 @@ abbrev pub is_taken_kind : Kind → Bool
 is_taken_kind kinds.ProfileError = false
 is_taken_kind kind = true
 
+-- what stops at the handlers of a `try`: an error that one of them may take; every other leave passes them
 abbrev pub is_taken : Leave → Bool
 is_taken (Raised error) = is_taken_kind error.kind
 is_taken leave = false
 
+-- the kind that a missing attribute raises; no other counts as one (Library Reference, `hasattr`)
 abbrev pub is_missing_kind : Kind → Bool
 is_missing_kind kinds.AttributeError = true
 is_missing_kind kind = false
@@ -25,6 +27,7 @@ abbrev pub is_missing : Leave → Bool
 is_missing (Raised error) = is_missing_kind error.kind
 is_missing leave = false
 
+-- `break` and `continue`, which the innermost loop takes (Language Reference 7.9 and 7.10); errors and `return` pass it
 abbrev pub is_jump : Leave → Bool
 is_jump Break = true
 is_jump Continue = true

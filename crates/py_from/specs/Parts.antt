@@ -18,6 +18,7 @@ abbrev pub from_layer : Stmt-F Stmt Branch FuncDef Handler → Option (ℕ × Li
 from_layer (Stmt-F.From dots parts names) = Some (dots, parts, names)
 from_layer stmt = None
 
+-- the same of a statement that may be missing; where it is, there is none
 abbrev pub from_of : Option Stmt → Option (ℕ × List (List ℕ) × ImportedNames)
 from_of None = None
 from_of (Some s) = from_layer (out-Stmt s)

@@ -8,6 +8,7 @@ use Rattle.py_lexer.specs.declared.word.Token.{Token}
 use Rattle.py_syntax.specs.declared.lexeme.Lexeme.{Lexeme}
 use Rattle.py_syntax.specs.declared.lexeme.Lexeme.TheVariants as token
 
+-- the two texts have the same bytes
 abbrev pub same_text : List ℕ → List ℕ → Bool
 same_text = pointwise nat_eq
 
@@ -64,6 +65,7 @@ word_of_block text =
     else if same_text text (codes "while") then Some token.While
     else None
 
+-- the lexeme of a keyword that a production names, and none for any other
 unfoldable pub keyword : List ℕ → Option Lexeme
 keyword text = option_or (constant text) (option_or (word_of_expression text) (option_or (word_of_jump text) (option_or (word_of_import text) (word_of_block text))))
 
@@ -120,6 +122,7 @@ mark text =
     else if same_text text (codes "...") then Some token.Ellipsis
     else None
 
+-- the lexeme of an operator or a delimiter that a production names, and none for any other
 unfoldable pub sign : List ℕ → Option Lexeme
 sign text = option_or (sign_of_assignment text) (option_or (sign_of_comparison text) (option_or (sign_of_number text) (option_or (bracket text) (mark text))))
 
@@ -130,6 +133,7 @@ abbrev pub named : List ℕ → Option Lexeme → Lexeme
 named text (Some t) = t
 named text None = token.Other text
 
+-- a keyword or a sign by its spelling, and any other token as it is: names, numbers and strings with what they say
 abbrev pub lexeme_of : Tok → Lexeme
 lexeme_of (tok.Name n) = token.Name n
 lexeme_of (tok.Keyword text) = named text (keyword text)
@@ -141,8 +145,10 @@ lexeme_of tok.Indent = token.Indent
 lexeme_of tok.Dedent = token.Dedent
 lexeme_of tok.End = token.End
 
+-- the grammar does not see in which line a token stands
 abbrev pub lexeme_at : Token → Lexeme
 lexeme_at t = lexeme_of t.kind
 
+-- the tokens of a source as the grammar sees them, in their order
 abbrev pub lexemes_of : List Token → List Lexeme
 lexemes_of ts = map lexeme_at ts

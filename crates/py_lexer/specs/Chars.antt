@@ -17,6 +17,7 @@ is_end c = c == 10 || c == 13
 abbrev pub is_quote : ℕ → Bool
 is_quote c = c == 39 || c == 34
 
+-- `0` to `9`, which are 48 to 57
 abbrev pub is_digit : ℕ → Bool
 is_digit c = not (nat_lt c 48) && not (nat_lt 57 c)
 

@@ -10,8 +10,10 @@ use Rattle.py_lexer.specs.declared.word.Tok.TheVariants.{Name, Keyword}
 unfoldable pub ident_text : List ℕ → List ℕ
 ident_text run = normal_form (utf8_of run)
 
+-- whether the text, which is UTF-8, is an identifier by its characters (Language Reference 2.3)
 abbrev pub is_ident : List ℕ → Bool
 is_ident text = is_identifier (chars text)
 
+-- a keyword, where the text is one of the 35 (Language Reference 2.3.1); any other word is a name, soft keywords too
 abbrev pub word_of : List ℕ → Tok
 word_of text = if is_keyword text then Keyword text else Name text

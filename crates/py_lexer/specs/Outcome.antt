@@ -30,9 +30,11 @@ Shortens cs r = IfOk r (λ p. length p.1.now < length cs)
 abbrev pub Within : List ℕ → Result (PartRead × Bor (List ℕ)) WordError → Type 0
 Within cs r = IfOk r (λ p. p.0.lines + length p.1.now ≤ length cs)
 
+-- the same of a token, which takes more characters than it passes line ends
 abbrev pub WithinWord : List ℕ → Result (WordRead × Bor (List ℕ)) WordError → Type 0
 WithinWord cs r = IfOk r (λ p. p.0.lines + length p.1.now < length cs)
 
+-- the text of one character; none gives the empty text
 abbrev pub option_list : Option ℕ → List ℕ
 option_list None = []
 option_list (Some c) = c ∷ []
@@ -41,5 +43,6 @@ option_list (Some c) = c ∷ []
 abbrev pub part_view : PartRead → Part
 part_view p = record { text = option_list p.char; lines = p.lines }
 
+-- a token as reading has it, over as many line ends as it has inside
 abbrev pub word_view : WordRead → Read_word
 word_view w = record { lexeme = w.tok; lines = w.lines }

@@ -6,7 +6,8 @@ use Rattle.py_lexer.specs.declared.quoted.Quotes.{Quotes}
 use Rattle.py_lexer.specs.Strings.{closing_quotes, escaped, hex_pair, hex_four as hex_quad, is_surrogate}
 use Rattle.py_lexer.specs.Chars.{is_end, IsLineEnd}
 
--- Escapes (Language Reference 2.4.1.1): what may stand behind a backslash, the text that it stands for, over so many line
+-- Escapes (Language Reference 2.4.1.1): what may stand behind a backslash, the text that it stands for, over so many
+-- line
 -- ends, and what follows it
 pub data Escape : List ℕ → List ℕ → ℕ → List ℕ → Type 0 where
   -- `\\ \' \" \n \r \t`

@@ -1,4 +1,5 @@
--- How the code reads, as functions that its contracts name: what stands at the front, and what follows it; and the whole text, piece by piece.
+-- How the code reads, as functions that its contracts name: what stands at the front, and what follows it; and the
+-- whole text, piece by piece.
 use Rattle.std.specs.Prelude.{pos, ℕ, zero, suc, ◌+◌, ◌-◌, ◌*◌, ◌^◌, min, ◌==◌, Bool, true, false, not, ◌&&◌, nat_lt, if◌then◌else◌, List, [], ◌∷◌, ◌++◌, length, take, drop, Option, Some, None, Result, Ok, Err}
 use Rattle.std.specs.List.{prefix_len}
 use Rattle.py_lexer.specs.declared.chars.Class.{Class}
@@ -25,6 +26,7 @@ use Rattle.py_lexer.specs.declared.word.Token.{Token}
 use Rattle.py_lexer.specs.declared.word.Tok.TheVariants.{Number, Newline}
 
 infixl 10 ◌>>=◌
+-- what comes next is read behind what was read; the first error is that of the whole
 abbrev pub ◌>>=◌ : {A B E : Type 0} → Result A E → (A → Result B E) → Result B E
 (Ok x) >>= f = f x
 (Err e) >>= f = Err e
@@ -34,10 +36,12 @@ unfoldable pub after_end : ℕ → List ℕ → List ℕ
 after_end c [] = []
 after_end c (d ∷ ds) = if c == 13 && d == 10 then ds else d ∷ ds
 
+-- what follows a comment: its line end with all behind it, or nothing where the text ends
 unfoldable pub after_comment : List ℕ → List ℕ
 after_comment [] = []
 after_comment (c ∷ cs) = if is_end c then c ∷ cs else after_comment cs
 
+-- a backslash joins the line end directly behind it; before anything else it joins nothing
 unfoldable pub after_join : List ℕ → Option (Gap × List ℕ)
 after_join [] = None
 after_join (c ∷ cs) = if is_end c then Some (Joined, after_end c cs) else None
@@ -53,6 +57,7 @@ gap_of Quote c cs = None
 gap_of Letter c cs = None
 gap_of Other c cs = None
 
+-- what stands between tokens at the front, and what follows it; none where a token or a fault in its place stands
 unfoldable pub gap : List ℕ → Option (Gap × List ℕ)
 gap [] = None
 gap (c ∷ cs) = gap_of (class_of c) c cs
@@ -62,12 +67,15 @@ pub record Read_word : Type 0 where
   pub lexeme : Tok
   pub lines : ℕ
 
+-- a token and what follows it, or what is wrong in its place
 abbrev pub Reading : Type 0
 Reading = Result (Read_word × List ℕ) Kind
 
+-- this token is read, over so many line ends, and the rest follows it
 abbrev pub read : Tok → ℕ → List ℕ → Reading
 read lexeme lines rest = Ok (record { lexeme = lexeme; lines = lines }, rest)
 
+-- an identifier, as long as it can be (Language Reference 2.3); one whose normal form is none is BadChar
 unfoldable pub name : List ℕ → Reading
 name cs =
     let n = prefix_len continues_identifier cs in
@@ -90,15 +98,18 @@ unfoldable pub number_value : List ℕ → Option ℕ
 number_value [] = None
 number_value (c ∷ cs) = elim (digits false (c - 48) cs) [ None ↦ None | Some m ↦ if c == 48 && not (m == 0) then None else Some m ]
 
+-- a number by the value of its text: where that has none it is BadNumber, and from 2^127 on it is NumberTooWide
 abbrev pub number_of : Option ℕ → List ℕ → Reading
 number_of None rest = Err BadNumber
 number_of (Some m) rest = if nat_lt m (2 ^ 127) then read (Number (pos m)) 0 rest else Err NumberTooWide
 
+-- all identifier characters at the front are to be the number; with a `.` (46) behind them it is BadNumber
 unfoldable pub number : List ℕ → Reading
 number cs =
     let n = prefix_len continues_identifier cs in
     if head_passes (λ d. d == 46) (drop n cs) then Err BadNumber else number_of (number_value (take n cs)) (drop n cs)
 
+-- the longest operator or delimiter at the front; where there is none it is BadChar
 unfoldable pub operator : List ℕ → Reading
 operator cs = let n = op_len cs in if n == 0 then Err BadChar else read (symbol_of (take n cs)) 0 (drop n cs)
 
@@ -106,6 +117,7 @@ operator cs = let n = op_len cs in if n == 0 then Err BadChar else read (symbol_
 abbrev pub part : List ℕ → ℕ → List ℕ → Result (Part × List ℕ) Kind
 part text lines rest = Ok (record { text = text; lines = lines }, rest)
 
+-- the character of an escape by its hexadecimal digits: without them, and of a surrogate, it is BadEscape
 unfoldable pub hex_escape : Option ℕ → List ℕ → Result (Part × List ℕ) Kind
 hex_escape None rest = Err BadEscape
 hex_escape (Some n) rest = if is_surrogate n then Err BadEscape else part (n ∷ []) 0 rest
@@ -136,6 +148,7 @@ body (suc n) q text lines cs =
       | None ↦ item q cs >>= λ x. body n q (text ++ x.0.text) (lines + x.0.lines) x.1
     ]
 
+-- a string from its opening quotes on; it has no more parts than characters
 unfoldable pub quoted : List ℕ → Reading
 quoted [] = Err OpenString
 quoted (c ∷ cs) = let x = opening_quotes c cs in body (suc (length x.1)) x.0 [] 0 x.1
@@ -151,6 +164,7 @@ word_by Quote cs = quoted cs
 word_by Letter cs = name cs
 word_by Other cs = operator cs
 
+-- the token at the front, by its first character; the end of the text has none
 unfoldable pub word : List ℕ → Reading
 word [] = Err BadChar
 word (c ∷ cs) = word_by (class_of c) (c ∷ cs)
@@ -168,9 +182,11 @@ start s cs =
     let l = leading margin cs in
     (record { stack = s.stack; mode = Fresh l.0 s.line; line = s.line; out = s.out }, l.1)
 
+-- a line end is passed
 abbrev pub next_line : State → State
 next_line s = record { stack = s.stack; mode = s.mode; line = s.line + 1; out = s.out }
 
+-- these tokens come behind those that are there
 abbrev pub add : State → List Token → State
 add s ts = record { stack = s.stack; mode = s.mode; line = s.line; out = s.out ++ ts }
 
@@ -193,6 +209,7 @@ begin s = elim s.mode [
   ]
 ]
 
+-- a token opens or closes brackets in its logical line; before the first token there is nothing to count
 abbrev pub mode_after : Tok → Mode → Mode
 mode_after lexeme (Fresh at first) = Fresh at first
 mode_after lexeme (Inside depth) = Inside (depth_after lexeme depth)
@@ -205,13 +222,17 @@ put s w = record { stack = s.stack; mode = mode_after w.lexeme s.mode; line = s.
 unfoldable pub take_word : State → List ℕ → Result (State × List ℕ) Fault
 take_word s cs = begin s >>= λ t. elim (word cs) [ Err kind ↦ Err (record { kind = kind; line = t.line }) | Ok x ↦ Ok (put t x.0, x.1) ]
 
+-- one piece of the text: what stands between tokens, or a token
 unfoldable pub step : State → List ℕ → Result (State × List ℕ) Fault
 step s cs = elim (gap cs) [ Some x ↦ Ok (pass x.0 s x.1) | None ↦ take_word s cs ]
 
+-- what the end of the text gives for the last logical line: its Newline, unless it has no token yet or a bracket is
+-- open
 abbrev pub last_line : Mode → ℕ → List Token
 last_line (Fresh at first) line = []
 last_line (Inside depth) line = if depth == 0 then mark Newline line else []
 
+-- all tokens of the text: at its end come Newline, where one is due, a Dedent for each open level, and End
 unfoldable pub finish : State → List Token
 finish s = (s.out ++ last_line s.mode s.line) ++ closing s.stack s.line
 
@@ -221,8 +242,10 @@ scan zero s cs = Ok []
 scan (suc n) s [] = Ok (finish s)
 scan (suc n) s (c ∷ cs) = step s (c ∷ cs) >>= λ y. scan n y.0 y.1
 
+-- before the text: the margin alone is open, and line 1 begins
 unfoldable pub first_state : State
 first_state = record { stack = margin ∷ []; mode = Fresh margin 1; line = 1; out = [] }
 
+-- the tokens of a text, or its first fault; there are no more steps than characters
 unfoldable pub scan_text : List ℕ → Outcome
 scan_text cs = let y = start first_state cs in scan (suc (length y.1)) y.0 y.1

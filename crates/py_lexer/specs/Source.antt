@@ -22,6 +22,7 @@ unfoldable pub without_mark : List ℕ → List ℕ
 without_mark [] = []
 without_mark (c ∷ cs) = if c == 65279 then cs else c ∷ cs
 
+-- the error of a source for each kind of fault, in this line
 abbrev pub error_at : Kind → ℕ → LexError
 error_at BadChar line = error.BadChar line
 error_at BadNumber line = error.BadNumber line
@@ -35,11 +36,13 @@ error_at MixedTabs line = error.MixedTabs line
 abbrev pub Answer : Type 0
 Answer = Result (List Token) LexError
 
+-- what the lines of a source come to as the source's answer: its tokens, or its first fault
 abbrev pub answer_of : Outcome → Answer
 answer_of (Ok ts) = Ok ts
 answer_of (Err fault) = Err (error_at fault.kind fault.line)
 
--- A source of more than 1,048,576 bytes is TooLong. Else one that is not UTF-8 is NotUtf8, with the line of its first bad
+-- A source of more than 1,048,576 bytes is TooLong. Else one that is not UTF-8 is NotUtf8, with the line of its first
+-- bad
 -- byte. Else its tokens, or its first fault in text order, are those of its lines; a leading U+FEFF is dropped.
 pub data Tokens : List ℕ → Answer → Type 0 where
   too_long : {src : List ℕ} → LONGEST_SOURCE < length src → Tokens src (Err error.TooLong)

@@ -7,6 +7,7 @@ use Rattle.py_lexer.specs.declared.error.LexError.TheVariants as error
 use Rattle.py_lexer.specs.Source.{Answer, answer_of, line_ends, without_mark}
 use Rattle.py_lexer.specs.Reading.{scan_text}
 
+-- its length comes first, then whether it is UTF-8, then its characters without a leading U+FEFF
 unfoldable pub source : List ℕ → Answer
 source src =
     if nat_lt LONGEST_SOURCE (length src) then Err error.TooLong

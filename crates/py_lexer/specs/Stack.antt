@@ -18,12 +18,15 @@ unfoldable pub kept : List Columns → Columns → ℕ → ℕ
 kept stack at zero = zero
 kept stack at (suc n) = if nat_lt at.first (slice_index_or stack n margin).first then kept stack at n else suc n
 
+-- Where the lowest `left` levels stay open: a Dedent for each level above them. Where none stays open, or the first
+-- column of the highest is not the line's, it is BadDedent, else where the second columns differ it is MixedTabs.
 abbrev pub closed_last : List Columns → Columns → ℕ → Result (Change × List Columns) Kind
 closed_last stack at left =
     if left == 0 || not ((level stack left).first == at.first) then Err BadDedent
     else if (level stack left).second == at.second then Ok (Dedents (length stack - left), take left stack)
     else Err MixedTabs
 
+-- what a logical line with the columns `at` does to the open columns: the rule of `settled`, with the innermost last
 unfoldable pub settled_last : List Columns → Columns → Result (Change × List Columns) Kind
 settled_last stack at =
     let top = level stack (length stack) in

@@ -31,6 +31,7 @@ escaped c =
     else if c == 116 then Some 9
     else None
 
+-- the value of `0` to `9`, `a` to `f` and `A` to `F`
 unfoldable pub hex_digit : ℕ → Option ℕ
 hex_digit c =
     if not (nat_lt c 48) && not (nat_lt 57 c) then Some (c - 48)
@@ -44,8 +45,10 @@ hex_pair [] = None
 hex_pair (a ∷ []) = None
 hex_pair (a ∷ b ∷ cs) = elim (hex_digit a) [ None ↦ None | Some x ↦ elim (hex_digit b) [ None ↦ None | Some y ↦ Some (16 * x + y) ] ]
 
+-- the same of four: the first two count 256 times as much
 unfoldable pub hex_four : List ℕ → Option ℕ
 hex_four cs = elim (hex_pair cs) [ None ↦ None | Some x ↦ elim (hex_pair (drop 2 cs)) [ None ↦ None | Some y ↦ Some (256 * x + y) ] ]
 
+-- U+D800 to U+DFFF, which no text can hold as UTF-8
 abbrev pub is_surrogate : ℕ → Bool
 is_surrogate n = not (nat_lt n 55296) && nat_lt n 57344

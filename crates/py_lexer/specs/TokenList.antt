@@ -17,6 +17,7 @@ utf8_of cs = encode_utf8_all cs
 abbrev pub quoted_of : List ℕ → Tok
 quoted_of cs = Str (utf8_of cs)
 
+-- an operator or a delimiter of these characters
 abbrev pub symbol_of : List ℕ → Tok
 symbol_of cs = Op (utf8_of cs)
 
@@ -29,9 +30,11 @@ abbrev pub before : List Token → Outcome → Outcome
 before ts (Ok us) = Ok (ts ++ us)
 before ts (Err f) = Err f
 
+-- one token alone, in this line
 abbrev pub mark : Tok → ℕ → List Token
 mark lexeme line = record { kind = lexeme; line = line } ∷ []
 
+-- so many Dedents, all in this line
 abbrev pub dedents : ℕ → ℕ → List Token
 dedents zero line = []
 dedents (suc n) line = record { kind = Dedent; line = line } ∷ dedents n line
@@ -50,7 +53,8 @@ abbrev pub newline_at_end : ℕ → ℕ → List Token
 newline_at_end zero line = mark Newline line
 newline_at_end (suc depth) line = []
 
--- The open brackets after a token: one more at `(` (40), `[` (91) and `{` (123), one fewer at `)` (41), `]` (93) and `}`
+-- The open brackets after a token: one more at `(` (40), `[` (91) and `{` (123), one fewer at `)` (41), `]` (93) and
+-- `}`
 -- (125), whichever opened, and never below 0.
 abbrev pub depth_after : Tok → ℕ → ℕ
 depth_after (Op (c ∷ [])) depth =

@@ -26,6 +26,7 @@ begins Quote cs = true
 begins Letter cs = true
 begins Other cs = true
 
+-- the same of a text: nothing begins at its end
 abbrev pub begins_token : List ℕ → Bool
 begins_token [] = false
 begins_token (c ∷ cs) = begins (class_of c) cs

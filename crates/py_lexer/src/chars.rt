@@ -32,18 +32,21 @@ pub fn is_end(c: char) -> bool
     c == '\n' || c == '\r'
 }
 
+/// Whether the character is a quote: `'` or `"`.
 pub fn is_quote(c: char) -> bool
     ensures { result ≡ is_quote c }
 {
     c == '\'' || c == '"'
 }
 
+/// Whether the character is a decimal digit of ASCII, `0` to `9`.
 pub fn is_digit(c: char) -> bool
     ensures { result ≡ is_digit c }
 {
     c >= '0' && c <= '9'
 }
 
+/// What the character begins outside strings and comments: `Other` where it is none of the other kinds.
 #[tactic(auto, unfolding(crate::specs::Chars::class_of))]
 pub fn class_of(c: char) -> Class
     ensures { result ≡ class_of c }

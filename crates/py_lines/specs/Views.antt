@@ -10,12 +10,15 @@ use Rattle.py_lines.specs.declared.lines.Stmts.{Stmts}
 use Rattle.line_reading.specs.Reading.{augmented_by}
 use Rattle.py_lines.specs.declared.sources.ImportSource.{ImportSource}
 
+-- what stands behind `from`: how many dots, and the parts of the dotted name
 abbrev pub source_of : ImportSource → ℕ × List (List ℕ)
 source_of s = (s.dots, s.parts)
 
+-- the items so far, and whether another one may follow: there is none yet, or a comma came last
 abbrev pub items_of : NameItems → List Alias × Bool
 items_of items = (items.found, items.is_open)
 
+-- the statements of a line so far, and whether another one may follow: there is none yet, or a semicolon came last
 abbrev pub stmts_of : Stmts → List Stmt × Bool
 stmts_of stmts = (stmts.found, stmts.is_open)
 

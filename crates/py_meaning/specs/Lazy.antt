@@ -19,6 +19,8 @@ abbrev pub woken : ℕ → Flow → Piece
 woken load (Went v) = λ s k. calls (e.Finish load true) (λ _. passes s k)
 woken load (Left leave) = λ s k. calls (e.Finish load false) (λ _. k (Left leave) s)
 
+-- the reply to a first use: a module that is loaded, or that waiting for would close a circle, is used as it is;
+-- a load of another thread is waited for, and then it is asked again; a load of its own runs the body
 abbrev pub rousing : Body → Piece → ModRef → Reply → Piece
 rousing body again m r.Ready = passes
 rousing body again m (r.Cycle other) = passes

@@ -75,6 +75,7 @@ runs_function around source load f vs s k =
     (placed s source.mid load (Some (record { function = f; locals = bound f.parameters vs maps.empty })))
     (comes_back s k)
 
+-- a function takes exactly as many arguments as it has parameters; any other number raises TypeError
 abbrev pub enters : Around → Source → ℕ → List Value → Option FuncDef → Piece
 enters around source load vs None = fails fault.NotInProfile
 enters around source load vs (Some f) =
@@ -82,6 +83,7 @@ enters around source load vs (Some f) =
     then runs_function around source load f vs
     else fails (fault.Parameters f.name (length f.parameters) (length vs))
 
+-- a function has the number of its `def` in its source
 abbrev pub enters_source : Around → Source → ℕ → ℕ → List Value → Piece
 enters_source around source load index vs = enters around source load vs (function_of source.program index)
 
@@ -89,23 +91,28 @@ enters_source around source load index vs = enters around source load vs (functi
 abbrev pub with_kept : Around → ℕ → ℕ → List Value → Source → Piece
 with_kept around load index vs source s k = enters_source around source load index vs (keeps s load source) k
 
+-- that text is parsed again; it parsed when the function was defined, so no faulty one is met
 abbrev pub sourced : Around → ℕ → ℕ → List Value → ModRef → Parsing → Piece
 sourced around load index vs m (Parsed script) = with_kept around load index vs (record { mid = m.mid; name = m.name; program = script })
 sourced around load index vs m (Faulty error) = fails fault.NotInProfile
 
+-- the reply to the question for a load: its module and its text
 abbrev pub loaded : World → Around → ℕ → ℕ → List Value → Reply → Piece
 loaded w around load index vs (r.Loaded m text) = sourced around load index vs m (w text)
 loaded w around load index vs reply = fails fault.NotInProfile
 
+-- where the thread does not have the text of the load yet, the machine is asked for it
 abbrev pub with_source : World → Around → ℕ → ℕ → List Value → Option Source → Piece
 with_source w around load index vs (Some source) = enters_source around source load index vs
 with_source w around load index vs None = λ s k. calls (e.Source load) (λ reply. loaded w around load index vs reply s k)
 
+-- a function is a load and a number: it can be called in any module, and by another thread
 abbrev pub calls_function : World → Around → ℕ → ℕ → List Value → Piece
 calls_function w around load index vs s k = with_source w around load index vs (maps.get s.kept load) s k
 
 -- Bodies of modules and scripts.
 
+-- a body runs in its module and its load, in no function; where its text does not parse, that error is raised
 abbrev pub starts : Around → ℕ → ℕ → List ℕ → Parsing → Piece
 starts around mid load n (Faulty error) = λ s k. k (Left (Raised error)) s
 starts around mid load n (Parsed script) = λ s k.
@@ -126,6 +133,7 @@ calls_value function loading f (Value-F.Kind kind) vs = calls_kind kind vs
 calls_value function loading f (Value-F.Native native) vs = calls_native loading native vs
 calls_value function loading f v vs = fails (fault.NotCallable (type_of f))
 
+-- the same of the callee itself; what cannot be called raises TypeError
 abbrev pub calls_with : (ℕ → ℕ → List Value → Piece) → Loading → Value → List Value → Piece
 calls_with function loading f vs = calls_value function loading f (out-Value f) vs
 
@@ -147,7 +155,9 @@ around_of function imported lazily inside = record {
 
 -- Where so many more bodies, calls and imports may be open.
 
+-- what is opened leaves one less to all that is opened inside it; where none is left, RecursionError is raised
 abbrev mutual
+  -- a call of a function
   pub functions_at : World → ℕ → ℕ → ℕ → List Value → Piece
   functions_at w zero = λ load index vs. fails fault.TooDeep
   functions_at w (suc left) =
@@ -155,6 +165,7 @@ abbrev mutual
       (around_of (functions_at w left) (imports_at w left false false) (imports_at w left false true)
       (record { body = bodies_at w left; parent = imports_at w left true false; is_lazy = false }))
 
+  -- the body of a module, with its load, its name and its text
   pub bodies_at : World → ℕ → ℕ → ℕ → List ℕ → List ℕ → Piece
   bodies_at w zero = λ mid load n text. fails fault.TooDeep
   bodies_at w (suc left) =
@@ -162,22 +173,27 @@ abbrev mutual
       (around_of (functions_at w left) (imports_at w left false false) (imports_at w left false true)
       (record { body = bodies_at w left; parent = imports_at w left true false; is_lazy = false }))
 
+  -- the import of a name, of a parent first, and of a lazy module where it is to be one
   pub imports_at : World → ℕ → Bool → Bool → List ℕ → Piece
   imports_at w zero = λ is_parent is_lazy n. fails fault.TooDeep
   imports_at w (suc left) = λ is_parent is_lazy.
       imports_name (record { body = bodies_at w left; parent = imports_at w left true false; is_lazy = is_lazy }) is_parent
 
+-- what imports, reloads and first uses go into where so many more may be open; no module that they make is lazy
 abbrev pub inside_at : World → ℕ → Inside
 inside_at w left = record { body = bodies_at w left; parent = imports_at w left true false; is_lazy = false }
 
+-- what stands around a piece in which so many more may be open
 abbrev pub around_at : World → ℕ → Around
 around_at w left = around_of (functions_at w left) (imports_at w left false false) (imports_at w left false true) (inside_at w left)
 
+-- the call of a value in such a piece
 abbrev pub calls_at : World → ℕ → Value → List Value → Piece
 calls_at w left = (around_at w left).called
 
 -- Scripts.
 
+-- an error that leaves the body is how the script ended; every other end is normal
 abbrev pub outcome_of : Flow → Outcome
 outcome_of (Left (Raised error)) = o.Raised error
 outcome_of flow = o.Normal

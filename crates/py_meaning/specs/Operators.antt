@@ -35,6 +35,7 @@ pub record Around : Type 0 where
   pub imported : List ℕ → Piece
   pub access : Access
 
+-- what values are combined by, for each operator that the syntax has (6.7)
 abbrev pub operator_of : BinaryOp → BinOp
 operator_of op.Add = bin.Add
 operator_of op.Sub = bin.Sub
@@ -47,6 +48,8 @@ abbrev pub inverted : Applied → Applied
 inverted (applied.Value v) = truth_value (not (is_true v))
 inverted (applied.Raised error) = applied.Raised error
 
+-- what a comparison gives (6.10): `in` asks its right operand for its left one, and `not in` and `is not` give the
+-- other truth value of `in` and `is` (6.10.2, 6.10.3)
 abbrev pub compared : Comparison → Value → Value → Applied
 compared comparing.Eq a b = compare cmp.Eq a b
 compared comparing.Ne a b = compare cmp.Ne a b
@@ -91,17 +94,20 @@ abbrev pub subscripts_at : Value-F Value → Value → Value → Piece
 subscripts_at Value-F.SysModules v i = reads_entry i None
 subscripts_at object v i = all_listed (v ∷ i ∷ []) (λ vs. with_two vs (λ v i. gives_item (subscript v i)))
 
+-- the same of a value, by how it looks from outside (6.3.2)
 abbrev pub subscripts : Value → Value → Piece
 subscripts v i = subscripts_at (out-Value v) v i
 
--- a comparison; whether a key is in the cache is asked of the machine
+-- a comparison of two values, none of which is asked of the machine
 abbrev pub compares_values : Comparison → Value → Value → Piece
 compares_values c a b = all_listed (a ∷ b ∷ []) (λ vs. with_two vs (λ a b. gives (compared c a b)))
 
+-- `in` and `not in`, by what is on the right: the cache is asked for the key, all else is compared as values
 abbrev pub compares_in : Comparison → Bool → Value-F Value → Value → Value → Piece
 compares_in c is_negated Value-F.SysModules a b = has_entry is_negated a
 compares_in c is_negated container a b = compares_values c a b
 
+-- only `in` and `not in` may have the cache as an operand, on their right
 abbrev pub compares : Comparison → Value → Value → Piece
 compares comparing.In a b = compares_in comparing.In false (out-Value b) a b
 compares comparing.NotIn a b = compares_in comparing.NotIn true (out-Value b) a b
@@ -134,10 +140,12 @@ atom_at access form = fails fault.NotInProfile
 abbrev pub conjoins : Piece → Value → Piece
 conjoins b v = listed v (λ v s k. if is_true v then b s (sized k) else sized k (Went v) s)
 
+-- `or`: a left operand that counts as true is the value, else the right one is evaluated (6.11)
 abbrev pub disjoins : Piece → Value → Piece
 disjoins b v = listed v (λ v s k. if is_true v then sized k (Went v) s else b s (sized k))
 
--- Callees. An attribute that is called may be a method of `sys.path` or `sys.modules`, which have no values of their own.
+-- Callees. An attribute that is called may be a method of `sys.path` or `sys.modules`, which have no values of their
+-- own.
 
 -- an attribute as a callee: what its object does, and its name
 pub record AttributePart : Type 0 where
@@ -149,20 +157,26 @@ pub record Part : Type 0 where
   pub does : Piece
   pub attribute : Option AttributePart
 
--- behind the object of an attribute that is called, and its unit: the arguments of the method, or the attribute and the arguments
+-- behind the object of an attribute that is called, and its unit: the arguments of the method, or the attribute and the
+-- arguments
 abbrev pub calls_member : Around → List ℕ → List Piece → Value → Piece
 calls_member around x ps object =
     if has_method object x
     then operates ps (calls_method object x)
     else (λ s k. member around.access object x s (sized (on_value k (λ f s. gathers ps (f ∷ []) (applied_on (calls_first around)) s k))))
 
+-- a call (6.3.4): its operands are the callee and the arguments; but of an attribute the object comes first, since it
+-- decides whether a method is called
 abbrev pub calls_part : Around → Option AttributePart → Piece → List Piece → Piece
 calls_part around None callee ps = operates (callee ∷ ps) (calls_first around)
 calls_part around (Some a) callee ps = λ s k. a.object s (on_value k (λ object s. pay 1 (calls_member around a.name ps object s k)))
 
+-- what operands do; what they would be as callees is of no account
 abbrev pub does_of : List Part → List Piece
 does_of parts = map (λ (p : Part). p.does) parts
 
+-- what a form does, by what its parts do: `and` and `or` may leave out their right operand, an atom has no operands,
+-- a call goes by its callee, and each other form is applied to the values of its operands
 abbrev pub expr_at : Around → Expr-F Part → Piece
 expr_at around (Expr-F.And a b) = λ s k. a.does s (on_value k (λ v s. pay 1 (conjoins b.does v s k)))
 expr_at around (Expr-F.Or a b) = λ s k. a.does s (on_value k (λ v s. pay 1 (disjoins b.does v s k)))
@@ -175,10 +189,12 @@ expr_at around Expr-F.False = atom (atom_at {X = Part} around.access Expr-F.Fals
 expr_at around (Expr-F.Call callee es) = calls_part around callee.attribute callee.does (does_of es)
 expr_at around form = operates (does_of (operands_at form)) (applies_at around form)
 
+-- only the form `object.name` is an attribute, and keeps what its object does for a call of it
 abbrev pub attribute_at : Expr-F Part → Option AttributePart
 attribute_at (Expr-F.Attribute object x) = Some (record { object = object.does; name = x })
 attribute_at form = None
 
+-- what a form does, and what it is as a callee
 abbrev pub part_at : Around → Expr-F Part → Part
 part_at around form = record { does = expr_at around form; attribute = attribute_at form }
 

@@ -1,4 +1,5 @@
--- The path of a module (Language Reference 5.4.5; `_NamespacePath` of `importlib._bootstrap_external`), as a value: the list of its
+-- The path of a module (Language Reference 5.4.5; `_NamespacePath` of `importlib._bootstrap_external`), as a value: the
+-- list of its
 -- entries; where the module has no path, whether it is initialising.
 use Rattle.std.specs.Prelude.{ℕ, zero, suc, List, [], map, codes, Option, Some, None, Bool, true, false, if◌then◌else◌}
 use Rattle.py_value.specs.declared.value.ModRef.{ModRef}
@@ -25,15 +26,19 @@ use Rattle.py_meaning.specs.Pieces.{Piece, pay, calls, most, on_value, fails, ac
 abbrev pub has_path : List Value → Piece
 has_path items s k = k (Went (values.List items)) s
 
+-- the module has no path; in its place comes whether it is initialising, which the text of an error may tell
 abbrev pub has_none : Bool → Piece
 has_none init s k = k (Went (values.Bool init)) s
 
+-- texts as values, as which they are the entries of a path
 abbrev pub texts_of : List (List ℕ) → List Value
 texts_of texts = map (λ (text : List ℕ). values.Text text) texts
 
--- Of a namespace, the path is its portions. Where they were computed from another parent path, or before the finders' listings
+-- Of a namespace, the path is its portions. Where they were computed from another parent path, or before the finders'
+-- listings
 -- were dropped, they are searched again.
 
+-- the path is the portions that are kept
 abbrev pub has_portions : NsState → Piece
 has_portions state = has_path (texts_of state.portions)
 
@@ -42,13 +47,17 @@ pub record Space : Type 0 where
   pub mid : ℕ
   pub name : List ℕ
 
+-- the state after the search is kept in the machine, and its portions are the path
 abbrev pub keeps_state : Space → NsState → Piece
 keeps_state m state s k = calls (e.NsSet m.mid state) (λ _. has_portions state s k)
 
+-- a search of the name on the path above (`_NamespacePath._recalculate`): that path and this epoch are kept with the
+-- portions that it finds, or with the old ones where it finds none
 abbrev pub computes_again : Space → NsState → ℕ → List Value → Piece
 computes_again m state epoch above s k =
     searches_in (searches m.name above []) (λ found. keeps_state m (recomputed state above epoch found) s k)
 
+-- the kept portions where they were computed from this path in this epoch; else those after a new search
 abbrev pub below : Space → NsState → ℕ → List Value → Piece
 below m state epoch above = if is_fresh state above epoch then has_portions state else computes_again m state epoch above
 
@@ -57,6 +66,7 @@ abbrev pub below_at : Space → NsState → ℕ → Value-F Value → Piece
 below_at m state epoch (Value-F.List above) = below m state epoch above
 below_at m state epoch v = has_portions state
 
+-- the same of a value; one that is no list stands for a module without a path, below which the portions stay
 abbrev pub below_value : Space → NsState → ℕ → Value → Piece
 below_value m state epoch v = below_at m state epoch (out-Value v)
 
@@ -71,10 +81,12 @@ below_slot path m state epoch (slots.Module p) = λ s k. path p s (on_value k (�
 below_slot path m state epoch slots.Halted = has_portions state
 below_slot path m state epoch slots.Absent = has_portions state
 
+-- the cache was asked for the parent's name, and replies its entry
 abbrev pub below_entry : (ModRef → Piece) → Space → NsState → ℕ → Reply → Piece
 below_entry path m state epoch (r.Slot slot) = below_slot path m state epoch slot
 below_entry path m state epoch reply = fails fault.NotInProfile
 
+-- above a name without a dot stands `sys.path`, else its parent's path (`_NamespacePath._find_parent_path_names`)
 abbrev pub below_parent : (ModRef → Piece) → Space → NsState → ℕ → Option (List ℕ) → Piece
 below_parent path m state epoch None = λ s k. calls e.PathGet (λ reply. below_top m state epoch reply s k)
 below_parent path m state epoch (Some p) = λ s k. calls (e.TabGet p) (λ reply. below_entry path m state epoch reply s k)
@@ -91,12 +103,15 @@ namespace_path path m s k = calls (e.NsGet m.mid) (λ reply. has_state path m re
 
 -- Of any other module, it is what stands in its `__path__`, which has to be a list or a tuple.
 
+-- by what stands in `__path__`: the items of a list or a tuple; the path of a namespace, which is that of this module;
+-- all else is outside the profile
 abbrev pub path_at : (ModRef → Piece) → ModRef → Value-F Value → Piece
 path_at path m (Value-F.List items) = has_path items
 path_at path m (Value-F.Tuple items) = has_path items
 path_at path m Value-F.NsPath = namespace_path path (record { mid = m.mid; name = m.name })
 path_at path m v = fails fault.NotInProfile
 
+-- a module whose `__path__` is unset is no package (5.4.5), and has no path
 abbrev pub path_read : (ModRef → Piece) → ModRef → Reply → Piece
 path_read path m (r.Value v) = path_at path m (out-Value v)
 path_read path m (r.Unset init) = has_none init
@@ -106,7 +121,8 @@ path_read path m reply = fails fault.NotInProfile
 abbrev pub path_came : (ModRef → Piece) → (ModRef → Piece) → Bool → ModRef → Reply → Piece
 path_came roused path raw m reply = accessed raw roused m (e.GetVar m.mid (codes "__path__") true) (path_read path m) reply
 
--- at most so many modules one above the other, since the cache can make a circle of them, and then a payment of more than is left
+-- at most so many modules one above the other, since the cache can make a circle of them, and then a payment of more
+-- than is left
 abbrev pub paths : (ModRef → Piece) → ℕ → ModRef → Piece
 paths roused zero m = λ s k. pay most (fails fault.NotInProfile s k)
 paths roused (suc turns) m = λ s k.

@@ -1,4 +1,5 @@
--- What a piece of a script does: from a state, and with what comes after it. The words that all forms of the language share.
+-- What a piece of a script does: from a state, and with what comes after it. The words that all forms of the language
+-- share.
 use Rattle.std.specs.Prelude.{ℕ, List, [], ◌∷◌, ◌++◌, Bool, true, false, if◌then◌else◌}
 use Rattle.py_value.specs.Measures.{is_true}
 use Rattle.py_value.specs.declared.value.ModRef.{ModRef}
@@ -42,6 +43,7 @@ on_value k go (Left leave) s = k (Left leave) s
 abbrev pub done : Flow
 done = Went values.Nothing
 
+-- nothing is done, and a statement is at its end
 abbrev pub passes : Piece
 passes s k = k done s
 
@@ -49,6 +51,7 @@ passes s k = k done s
 abbrev pub raise : Fault → Flow
 raise f = Left (Raised (error_of f))
 
+-- the error of a fault is raised, and the state stays
 abbrev pub fails : Fault → Piece
 fails f s k = k (raise f) s
 
@@ -57,6 +60,7 @@ abbrev pub flow_of : Applied → Flow
 flow_of (applied.Value v) = Went v
 flow_of (applied.Raised error) = Left (Raised error)
 
+-- goes on with the value that an operator gave, or with the error that it raised
 abbrev pub gives : Applied → Piece
 gives a s k = k (flow_of a) s
 
@@ -87,12 +91,15 @@ abbrev pub in_order : List Piece → Piece
 in_order [] = passes
 in_order (p ∷ ps) = λ s k. p s (on_value k (λ _ s. in_order ps s k))
 
--- What stands for the search path is, as an operand, the list that PathGet replies; what stands for the cache is no operand.
+-- What stands for the search path is, as an operand, the list that PathGet replies; what stands for the cache is no
+-- operand.
 
+-- goes on with the entries of the search path as a list; PathGet replies nothing else
 abbrev pub as_list : (Value → Piece) → Reply → Piece
 as_list go (r.Path items) = go (values.List items)
 as_list go reply = fails fault.NotInProfile
 
+-- goes on with an operand, by how the value looks from outside
 abbrev pub lists_at : Value → Value-F Value → (Value → Piece) → Piece
 lists_at v Value-F.SysPath go = λ s k. calls e.PathGet (λ reply. as_list go reply s k)
 lists_at v Value-F.SysModules go = fails fault.NotInProfile
@@ -126,10 +133,12 @@ abbrev pub with_one : List Value → (Value → Piece) → Piece
 with_one (a ∷ []) go = go a
 with_one vs go = fails fault.NotInProfile
 
+-- a form of two operands goes on with them in their order
 abbrev pub with_two : List Value → (Value → Value → Piece) → Piece
 with_two (a ∷ b ∷ []) go = go a b
 with_two vs go = fails fault.NotInProfile
 
+-- a form of three operands goes on with them in their order
 abbrev pub with_three : List Value → (Value → Value → Value → Piece) → Piece
 with_three (a ∷ b ∷ c ∷ []) go = go a b c
 with_three vs go = fails fault.NotInProfile

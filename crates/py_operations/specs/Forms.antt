@@ -59,6 +59,7 @@ left_of (Expr-F.And a b) = Some a
 left_of (Expr-F.Or a b) = Some a
 left_of form = None
 
+-- a name, a number, a text, `None`, `True` or `False`; a display, an atom in Language Reference 6.2, is none here
 abbrev pub is_atom : Expr-F Expr → Bool
 is_atom (Expr-F.Name x) = true
 is_atom (Expr-F.Number n) = true
@@ -68,6 +69,7 @@ is_atom Expr-F.True = true
 is_atom Expr-F.False = true
 is_atom form = false
 
+-- a call (Language Reference 6.3.4): applied to values it calls the first with the others
 abbrev pub is_call : Expr-F Expr → Bool
 is_call (Expr-F.Call callee es) = true
 is_call form = false
@@ -77,6 +79,7 @@ abbrev pub object_of : Expr-F Expr → Option Expr
 object_of (Expr-F.Attribute object x) = Some object
 object_of form = None
 
+-- none where the form is no call, or its callee no attribute
 abbrev pub callee_object : Expr-F Expr → Option Expr
 callee_object (Expr-F.Call callee es) = object_of (out-Expr callee)
 callee_object form = None
@@ -86,24 +89,29 @@ abbrev pub attribute_in : Expr-F Expr → Option (List ℕ)
 attribute_in (Expr-F.Attribute object x) = Some x
 attribute_in form = None
 
+-- a call without arguments has the empty list; what is no call has none
 abbrev pub arguments_in : Expr-F Expr → Option (List Expr)
 arguments_in (Expr-F.Call callee es) = Some es
 arguments_in form = None
 
 -- ---- lists of so many values
 
+-- the value, where there is exactly one
 abbrev pub one_of : List Value → Option Value
 one_of (a ∷ []) = Some a
 one_of vs = None
 
+-- both values, in order, where there are exactly two
 abbrev pub two_of : List Value → Option (Value × Value)
 two_of (a ∷ b ∷ []) = Some (a, b)
 two_of vs = None
 
+-- goes on with the one value; at any other number ProfileError is raised
 abbrev pub by_one : Option Value → (Value → Piece) → Piece
 by_one None go = fails fault.NotInProfile
 by_one (Some a) go = go a
 
+-- goes on with both values; at any other number ProfileError is raised
 abbrev pub by_two : Option (Value × Value) → (Value → Value → Piece) → Piece
 by_two None go = fails fault.NotInProfile
 by_two (Some p) go = go p.0 p.1
@@ -115,6 +123,7 @@ abbrev pub is_cache_at : Value-F Value → Bool
 is_cache_at Value-F.SysModules = true
 is_cache_at v = false
 
+-- the same of a whole value
 abbrev pub is_cache : Value → Bool
 is_cache v = is_cache_at (out-Value v)
 
@@ -126,20 +135,25 @@ item_of v i = if is_cache v then reads_entry i None else gives_item (subscript v
 abbrev pub told_in : Comparison → Bool → Value → Value → Piece
 told_in c is_negated a b = if is_cache b then has_entry is_negated a else gives (compared c a b)
 
+-- only `in` and `not in` may ask the machine (Language Reference 6.10.2); all others compare the two values alone
 abbrev pub told : Comparison → Value → Value → Piece
 told comparing.In a b = told_in comparing.In false a b
 told comparing.NotIn a b = told_in comparing.NotIn true a b
 told c a b = gives (compared c a b)
 
+-- `not` gives `False` for what counts as true, and `True` for all else (Language Reference 6.11)
 abbrev pub inverse_of : Value → Piece
 inverse_of v = gives (truth_value (not (is_true v)))
 
+-- `-v` (Language Reference 6.6), or the error of what has no negative
 abbrev pub negative_of : Value → Piece
 negative_of v = gives (negated v)
 
+-- `x o y` of arithmetic (Language Reference 6.7), or its error
 abbrev pub operation_of : BinaryOp → Value → Value → Piece
 operation_of o x y = gives (binary (operator_of o) x y)
 
+-- the attribute of the one value, which is its object (Language Reference 6.3.1)
 abbrev pub member_of : Around → List ℕ → List Value → Piece
 member_of around x vs = by_one (one_of vs) (λ v. member around.access v x)
 
@@ -156,6 +170,7 @@ given_at around (Expr-F.Compare c a b) vs = by_two (two_of vs) (told c)
 given_at around (Expr-F.Not a) vs = by_one (one_of vs) inverse_of
 given_at around form vs = fails fault.NotInProfile
 
+-- the same of an expression, by its outermost form
 abbrev pub given_on : Around → Expr → List Value → Piece
 given_on around e vs = given_at around (out-Expr e) vs
 
@@ -166,27 +181,33 @@ augmented_by x o both s k =
 
 -- ---- the place of the operand in whose place a list comes first, or which is none
 
+-- of one operand: its own place, where it stands for the search path or the cache
 abbrev pub place_of_one : List Value → Option ℕ
 place_of_one (v ∷ []) = first_listed (v ∷ [])
 place_of_one vs = None
 
+-- of `v[i]`: as of two operands, but none where `v` is the cache, since an entry of it is read
 abbrev pub place_in_item : List Value → Option ℕ
 place_in_item (v ∷ i ∷ []) = if is_cache v then None else first_listed (v ∷ i ∷ [])
 place_in_item vs = None
 
+-- of two operands: the first that stands for the search path or the cache
 abbrev pub place_of_two : List Value → Option ℕ
 place_of_two (a ∷ b ∷ []) = first_listed (a ∷ b ∷ [])
 place_of_two vs = None
 
+-- of `a in b`: as of two operands, but none where `b` is the cache, since the machine is asked whether it has `a`
 abbrev pub place_in_cache : List Value → Option ℕ
 place_in_cache (a ∷ b ∷ []) = if is_cache b then None else first_listed (a ∷ b ∷ [])
 place_in_cache vs = None
 
+-- by the comparison: `in` and `not in` may be asked of the cache, all others are of two operands
 abbrev pub place_compared : Comparison → List Value → Option ℕ
 place_compared comparing.In vs = place_in_cache vs
 place_compared comparing.NotIn vs = place_in_cache vs
 place_compared c vs = place_of_two vs
 
+-- by the form: in place of an operand of an attribute, a call or a display no list comes
 abbrev pub place_at : Expr-F Expr → List Value → Option ℕ
 place_at (Expr-F.Subscript object index) vs = place_in_item vs
 place_at (Expr-F.Negative a) vs = place_of_one vs
@@ -197,20 +218,25 @@ place_at form vs = None
 
 -- ---- `and` and `or` on a left operand that is no list that comes
 
+-- `and`: where the left operand counts as true the right one is the value, else the left (Language Reference 6.11)
 abbrev pub conjoined : Around → Expr → Value → Piece
 conjoined around b v s k = if is_true v then eval around b s (sized k) else sized k (Went v) s
 
+-- `or`: where the left operand counts as true it is the value, else the right one is (Language Reference 6.11)
 abbrev pub disjoined : Around → Expr → Value → Piece
 disjoined around b v s k = if is_true v then sized k (Went v) s else eval around b s (sized k)
 
+-- by the form; what is neither `and` nor `or` raises ProfileError
 abbrev pub chosen_at : Around → Expr-F Expr → Value → Piece
 chosen_at around (Expr-F.And a b) v = conjoined around b v
 chosen_at around (Expr-F.Or a b) v = disjoined around b v
 chosen_at around form v = fails fault.NotInProfile
 
+-- the same of an expression, by its outermost form
 abbrev pub chosen : Around → Expr → Value → Piece
 chosen around e v = chosen_at around (out-Expr e) v
 
+-- `and` and `or`, whose left operand decides whether the right one is evaluated (Language Reference 6.11)
 abbrev pub is_choice : Expr-F Expr → Bool
 is_choice (Expr-F.And a b) = true
 is_choice (Expr-F.Or a b) = true

@@ -24,6 +24,7 @@ use value_operators::{
     binary, compare, contains, identical, limited, negate, not_in_profile, subscript,
 };
 
+/// The operator on values that an operator of an expression stands for (Language Reference 6.7).
 pub fn operator_of(op: BinaryOp) -> BinOp
     ensures { result ≡ spec.operator_of op }
 {

@@ -32,12 +32,16 @@ lacking = codes "**=" ∷ codes ">>=" ∷ codes "<<=" ∷ codes "/=" ∷ codes "
 abbrev pub jumps : List (List ℕ)
 jumps = codes "return" ∷ codes "break" ∷ codes "continue" ∷ []
 
+-- the text is one of these
 abbrev pub is_among : List (List ℕ) → List ℕ → Bool
 is_among words text = list_any (bytes_eq text) words
 
+-- a keyword belongs to what is left out where it is listed, and `return`, `break` and `continue` inside a `finally`
+-- block
 abbrev pub is_left_out_word : Bool → List ℕ → Bool
 is_left_out_word inside_finally text = is_among listed_words text || (inside_finally && is_among jumps text)
 
+-- a sign belongs to what is left out where it is listed, and where it is an augmented operator that the grammar lacks
 abbrev pub is_left_out_sign : List ℕ → Bool
 is_left_out_sign text = is_among listed_signs text || is_among lacking text
 
@@ -48,11 +52,13 @@ what_of inside_finally (tok.Keyword text) = if is_left_out_word inside_finally t
 what_of inside_finally (tok.Op text) = if is_left_out_sign text then Some text else None
 what_of inside_finally t = None
 
+-- Profile where the token belongs to what is left out, else Syntax, each with its line
 abbrev pub by_what : Option (List ℕ) → ℕ → ParseError
 by_what (Some what) line = error.Profile line what
 by_what None line = error.Syntax line
 
--- TooDeep, where only the limit on levels refuses the token; else Profile, where it belongs to what is left out; else Syntax
+-- TooDeep, where only the limit on levels refuses the token; else Profile, where it belongs to what is left out; else
+-- Syntax
 abbrev pub refusal_of : Refusal → Bool → Token → ParseError
 refusal_of refusal.TooDeep inside_finally t = error.TooDeep t.line
 refusal_of refusal.Syntax inside_finally t = by_what (what_of inside_finally t.kind) t.line

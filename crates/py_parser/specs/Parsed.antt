@@ -20,6 +20,7 @@ abbrev pub refused_token : List Token → Fault → Option Token → Answer
 refused_token ts fault None = Err (error.Syntax 1)
 refused_token ts fault (Some t) = Err (refusal_of fault.kind (inside_finally (lexemes_of (take (length ts - fault.left) ts))) t)
 
+-- the script that was read, or the refusal of the token that reading stopped at
 abbrev pub read_by : List Token → Read Lexeme Script → Answer
 read_by ts (Ok x) = Ok x.0
 read_by ts (Err fault) = refused_token ts fault (slice_get ts (length ts - fault.left))
@@ -28,6 +29,7 @@ read_by ts (Err fault) = refused_token ts fault (slice_get ts (length ts - fault
 unfoldable pub read : List Token → Answer
 read ts = read_by ts (script 64 (lexemes_of ts))
 
+-- a source without tokens is refused as Lex, with the lexer's own reason
 abbrev pub parsed_by : Lexed → Answer
 parsed_by (Ok ts) = read ts
 parsed_by (Err e) = Err (error.Lex e)

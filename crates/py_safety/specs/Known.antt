@@ -16,6 +16,7 @@ use Rattle.py_state.specs.declared.thread.State.{State}
 abbrev pub KnowsValue : Shown → Value → Type 0
 KnowsValue s v = KnowsAll s v × (is_namespace_path v ≡ false)
 
+-- all that a local variable holds exists, for each that is set; outside a call there is none
 abbrev pub KnowsLocals : Shown → Option FunctionScope → Type 0
 KnowsLocals s None = Unit {0}
 KnowsLocals s (Some f) = (x : List ℕ) (v : Value) → maps.get f.locals x ≡ Some v → KnowsValue s v
@@ -32,6 +33,7 @@ abbrev pub KnowsLeave : Shown → Leave → Type 0
 KnowsLeave s (Return v) = KnowsValue s v
 KnowsLeave s leave = Unit {0}
 
+-- a value that work goes on with, or that it leaves with
 abbrev pub KnowsFlow : Shown → Flow → Type 0
 KnowsFlow s (Went v) = KnowsValue s v
 KnowsFlow s (Left leave) = KnowsLeave s leave

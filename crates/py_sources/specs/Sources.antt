@@ -18,6 +18,7 @@ use Rattle.py_meaning.specs.Meaning.{World}
 abbrev pub in_line : ℕ → List ℕ → List ℕ
 in_line line text = codes "line " ++ decimal line ++ codes ": " ++ text
 
+-- a SyntaxError of a line: its text begins with that line
 abbrev pub syntax_error : ℕ → List ℕ → Raised
 syntax_error line text = raised kinds.SyntaxError (in_line line text)
 
@@ -43,9 +44,11 @@ parsing_error (error.Profile line what) =
     raised kinds.ProfileError (in_line line (codes "'" ++ what ++ codes "' is not in the profile"))
 parsing_error error.NoMemory = raised kinds.SyntaxError []
 
+-- a source that has a tree comes to its script; any other comes to the error that its body raises
 abbrev pub parsing_of : Answer → Parsing
 parsing_of (Ok script) = Parsed script
 parsing_of (Err e) = Faulty (parsing_error e)
 
+-- the world of the language itself: each text comes to what its own parse answers
 unfoldable pub sources : World
 sources text = parsing_of (parsed text)

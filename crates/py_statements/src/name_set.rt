@@ -26,6 +26,7 @@ impl Model for NameSet {
 }
 
 impl NameSet {
+    /// No name yet. It takes no memory.
     pub fn new(alloc: Global) -> NameSet
         ensures { result ≡ [] }
     {

@@ -6,10 +6,12 @@
 --   sum     := term { ("+" | "-") term }  term := unary { ("*" | "//" | "%") unary }
 --   unary   := "-" unary | primary
 --   primary := atom { "." NAME | "(" items ")" | "[" expr "]" }
---   atom    := NAME | INT | STR | "None" | "True" | "False" | "(" expr ")" | "(" ")" | "(" expr "," items ")" | "[" items "]"
+--   atom    := NAME | INT | STR | "None" | "True" | "False" | "(" expr ")" | "(" ")" | "(" expr "," items ")" | "["
+--   items "]"
 --   items   := [ expr { "," expr } [ "," ] ]
 --
--- `room` is how many levels may still be opened. An opening bracket, a prefix `not` and a unary `-` open one each, which
+-- `room` is how many levels may still be opened. An opening bracket, a prefix `not` and a unary `-` open one each,
+-- which
 -- stays open to the end of the bracket or operand.
 use Rattle.std.specs.Prelude.{ℕ, suc, Bool, true, false, ℤ, List, [], ◌∷◌, ◌++◌}
 use Rattle.py_syntax.specs.declared.lexeme.Lexeme.{Lexeme}
@@ -27,6 +29,7 @@ use Rattle.py_syntax.specs.declared.expr.Spelled.{Spelled}
 abbrev pub target : Expr → Spelled
 target e = record { tree = e; is_target = true }
 
+-- a tree that is spelled as no target: nothing is assigned to it, and it is not deleted
 abbrev pub other : Expr → Spelled
 other e = record { tree = e; is_target = false }
 
@@ -40,6 +43,7 @@ pub data IsOperator : Level → Lexeme → (Expr → Expr → Expr) → Type 0 w
   divide : IsOperator Term token.SlashSlash (λ a b. tree.Binary op.FloorDiv a b)
   modulo : IsOperator Term token.Percent (λ a b. tree.Binary op.Mod a b)
 
+-- cmpop, with the comparison that it spells (Language Reference 6.10)
 pub data IsComparator : List Lexeme → Comparison → Type 0 where
   equal : IsComparator (token.EqEq ∷ []) comparing.Eq
   unequal : IsComparator (token.NotEq ∷ []) comparing.Ne
@@ -102,5 +106,6 @@ mutual
     last_item : {room : ℕ} {ts : List Lexeme} {e : Spelled} → IsChain Disjunction room ts e → IsItems room ts (e.tree ∷ []) false
     next_item : {room : ℕ} {ts us : List Lexeme} {e : Spelled} {es : List Expr} {is_open : Bool} → IsChain Disjunction room ts e → IsItems room us es is_open → IsItems room (ts ++ token.Comma ∷ us) (e.tree ∷ es) is_open
 
+-- expr := and { "or" and }
 abbrev pub IsExpr : ℕ → List Lexeme → Spelled → Type 0
 IsExpr = IsChain Disjunction

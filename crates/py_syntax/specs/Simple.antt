@@ -35,6 +35,7 @@ pub data IsAugmented : Lexeme → BinaryOp → Type 0 where
   divide : IsAugmented token.SlashSlashEq op.FloorDiv
   modulo : IsAugmented token.PercentEq op.Mod
 
+-- NAME, with its text
 pub data IsName : ℕ → List Lexeme → List ℕ → Type 0 where
   name : {room : ℕ} (n : List ℕ) → IsName room (token.Name n ∷ []) n
 
@@ -47,6 +48,7 @@ pub data IsBound : ℕ → List Lexeme → Option (List ℕ) → Type 0 where
   own_name : {room : ℕ} → IsBound room [] None
   bound : {room : ℕ} (n : List ℕ) → IsBound room (token.As ∷ token.Name n ∷ []) (Some n)
 
+-- alias := dotted [ "as" NAME ]
 pub data IsAlias : ℕ → List Lexeme → Alias → Type 0 where
   alias : {room : ℕ} {xs ys : List Lexeme} {ns : List (List ℕ)} {as_name : Option (List ℕ)} → IsDotted room xs ns → IsBound room ys as_name → IsAlias room (xs ++ ys) (record { parts = ns; bound = as_name })
 
@@ -61,9 +63,11 @@ pub data IsSource : ℕ → List Lexeme → ℕ × List (List ℕ) → Type 0 wh
   named : {room : ℕ} {ts us : List Lexeme} {n : ℕ} {ns : List (List ℕ)} → IsDots room ts n → IsDotted room us ns → IsSource room (ts ++ us) (n, ns)
   only_dots : {room : ℕ} {ts : List Lexeme} {n : ℕ} → IsDots room ts n → 0 < n → IsSource room ts (n, [])
 
+-- item := NAME [ "as" NAME ], an alias whose dotted name has one part
 pub data IsItem : ℕ → List Lexeme → Alias → Type 0 where
   item : {room : ℕ} {ts : List Lexeme} {as_name : Option (List ℕ)} (n : List ℕ) → IsBound room ts as_name → IsItem room (token.Name n ∷ ts) (record { parts = n ∷ []; bound = as_name })
 
+-- names: `*` stands only outside functions (Language Reference 7.11), and the bracket opens a level
 pub data IsNames : Context → ℕ → List Lexeme → ImportedNames → Type 0 where
   all_names : {c : Context} {room : ℕ} → c.in_function ≡ false → IsNames c room (token.Star ∷ []) All
   -- item { "," item }
@@ -71,6 +75,7 @@ pub data IsNames : Context → ℕ → List Lexeme → ImportedNames → Type 0 
   -- "(" item { "," item } [ "," ] ")"
   in_parens : {c : Context} {room : ℕ} {ts : List Lexeme} {items : List Alias} {comma : Bool} → IsListed token.Comma IsItem room ts (items, comma) → IsNames c (suc room) (token.OpenParen ∷ (ts ++ token.CloseParen ∷ [])) (Listed items)
 
+-- simple: where `return`, `break` and `continue` may stand (Language Reference 7.6, 7.9, 7.10) the context says
 pub data IsSimple : Context → ℕ → List Lexeme → Stmt → Type 0 where
   evaluate : {c : Context} {room : ℕ} {ts : List Lexeme} {e : Spelled} → IsExpr room ts e → IsSimple c room ts (tree.Evaluate e.tree)
   -- target "=" expr

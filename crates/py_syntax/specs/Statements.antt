@@ -34,7 +34,8 @@ abbrev pub is_among : List ℕ → List (List ℕ) → Bool
 is_among n [] = false
 is_among n (m ∷ ms) = pointwise nat_eq n m || is_among n ms
 
--- Parameters behind those that are found already, with all of them, and with whether another one may follow. Each differs
+-- Parameters behind those that are found already, with all of them, and with whether another one may follow. Each
+-- differs
 -- from those before it.
 pub data IsParameters : List (List ℕ) → ℕ → List Lexeme → List (List ℕ) × Bool → Type 0 where
   no_parameters : {found : List (List ℕ)} {room : ℕ} → IsParameters found room [] (found, true)
@@ -55,6 +56,7 @@ pub record Body : Type 0 where
   pub globals : List (List ℕ)
   pub stmts : List Stmt
 
+-- these names in its `global` lines, and these statements behind them
 abbrev pub body : List (List ℕ) → List Stmt → Body
 body globals stmts = record { globals = globals; stmts = stmts }
 
@@ -73,6 +75,7 @@ mutual
     last_stmt : {c : Context} {n room : ℕ} {ts : List Lexeme} {ss : List Stmt × ℕ} → IsStmt c n room ts ss → IsStmts c n room ts ss
     more_stmts : {c : Context} {n m k room : ℕ} {xs ys : List Lexeme} {ss rs : List Stmt} → IsStmt c n room xs (ss, m) → IsStmts c m room ys (rs, k) → IsStmts c n room (xs ++ ys) (ss ++ rs, k)
 
+  -- block := line NEWLINE | NEWLINE INDENT stmt { stmt } DEDENT
   pub data IsBlock : Context → ℕ → ℕ → List Lexeme → List Stmt × ℕ → Type 0 where
     line_block : {c : Context} {n room : ℕ} {ts : List Lexeme} {ss : List Stmt} → IsLine c room ts ss → IsBlock c n room (ts ++ token.Newline ∷ []) (ss, n)
     indented : {c : Context} {n room : ℕ} {ts : List Lexeme} {ss : List Stmt × ℕ} → IsStmts c n room ts ss → IsBlock c n room (token.Newline ∷ token.Indent ∷ (ts ++ token.Dedent ∷ [])) ss
@@ -106,6 +109,7 @@ mutual
     takes_all : {c : Context} {n m room : ℕ} {ts : List Lexeme} {ss : List Stmt} → IsBlock c n room ts (ss, m) → IsHandlers c n room (token.Except ∷ token.Colon ∷ ts) (record { kinds = None; bound = None; body = ss } ∷ [], m)
     more_handlers : {c : Context} {n m k room : ℕ} {xs ys : List Lexeme} {h : Handler} {hs : List Handler} → IsHandler c n room xs (h, m) → IsHandlers c m room ys (hs, k) → IsHandlers c n room (xs ++ ys) (h ∷ hs, k)
 
+  -- body := line NEWLINE | NEWLINE INDENT { "global" NAME { "," NAME } NEWLINE } stmt { stmt } DEDENT
   pub data IsBody : List (List ℕ) → ℕ → ℕ → List Lexeme → Body × ℕ → Type 0 where
     line_body : {parameters : List (List ℕ)} {n room : ℕ} {ts : List Lexeme} {ss : List Stmt} → IsLine within_function room ts ss → IsBody parameters n room (ts ++ token.Newline ∷ []) (body [] ss, n)
     indented_body : {parameters globals : List (List ℕ)} {n m room : ℕ} {xs ys : List Lexeme} {ss : List Stmt} → IsGlobalLines parameters room xs globals → IsStmts within_function n room ys (ss, m) → IsBody parameters n room (token.Newline ∷ token.Indent ∷ (xs ++ (ys ++ token.Dedent ∷ []))) (body globals ss, m)

@@ -16,6 +16,7 @@ is_true_at (Value-F.List []) = false
 is_true_at (Value-F.Tuple []) = false
 is_true_at _ = true
 
+-- truth goes by the outer layer: a list with one item is true, whatever that item is
 abbrev pub is_true : Value → Bool
 is_true value = is_true_at (out-Value value)
 
@@ -28,9 +29,11 @@ size_at (Value-F.List sizes) = length sizes + sum sizes
 size_at (Value-F.Tuple sizes) = length sizes + sum sizes
 size_at _ = 0
 
+-- what a value costs in units of the budget, with all that it holds
 abbrev pub size_of : Value → ℕ
 size_of = fold-Value ℕ size_at
 
+-- the greatest of the numbers, and 0 where there is none
 abbrev pub most : List ℕ → ℕ
 most [] = 0
 most (n ∷ ns) = max n (most ns)
@@ -42,5 +45,6 @@ nesting_at (Value-F.List levels) = most levels + 1
 nesting_at (Value-F.Tuple levels) = most levels + 1
 nesting_at _ = 0
 
+-- how many lists and tuples stand inside one another at most
 abbrev pub nesting_of : Value → ℕ
 nesting_of = fold-Value ℕ nesting_at

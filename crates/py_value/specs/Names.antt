@@ -9,6 +9,7 @@ use Rattle.py_value.specs.declared.names.TypeName.TheVariants as types
 use Rattle.py_value.specs.declared.value.Value.{Value, out-Value}
 use Rattle.py_value.specs.declared.value.Value.TheOpen.{Value-F}
 
+-- Python's names of its exceptions, with `_DeadlockError` of `importlib._bootstrap`; ProfileError is this project's own
 abbrev pub kind_name : Kind → List ℕ
 kind_name kinds.BaseException = codes "BaseException"
 kind_name kinds.Exception = codes "Exception"
@@ -30,6 +31,7 @@ kind_name kinds.TypeError = codes "TypeError"
 kind_name kinds.ValueError = codes "ValueError"
 kind_name kinds.ProfileError = codes "ProfileError"
 
+-- the first six are built in, two are of `importlib`, and `lazy` is of `pyimport`, this project's own
 abbrev pub native_name : Native → List ℕ
 native_name natives.Print = codes "print"
 native_name natives.Str = codes "str"
@@ -63,9 +65,11 @@ type_at Value-F.SysModules = types.Dict
 type_at Value-F.SysPath = types.List
 type_at Value-F.NsPath = types.List
 
+-- a value's type goes by its outer layer, whatever it holds
 abbrev pub type_of : Value → TypeName
 type_of value = type_at (out-Value value)
 
+-- the `__name__` of the type in Python; an error's type has the name of its kind
 abbrev pub type_text : TypeName → List ℕ
 type_text types.NoneType = codes "NoneType"
 type_text types.Bool = codes "bool"
@@ -80,5 +84,6 @@ type_text types.Module = codes "module"
 type_text types.Dict = codes "dict"
 type_text (types.Error kind) = kind_name kind
 
+-- how messages call the type of a value
 abbrev pub type_name : Value → List ℕ
 type_name value = type_text (type_of value)

@@ -59,11 +59,13 @@ awaits inside turns m other input = fails fault.NotInProfile
 abbrev pub named : ModRef → List ℕ → ModRef
 named m n = record { mid = m.mid; name = n; place = m.place }
 
+-- a reload from its stage on: at first it takes a start alone, and then goes on under the module's dotted name
 abbrev pub does : Inside → ℕ → ModRef → ReloadStage → In → Piece
 does inside turns m stage.Begins given.Start = reloads inside m
 does inside turns m stage.Begins input = fails fault.NotInProfile
 does inside turns m (stage.Awaits n at) input = awaits inside turns (named m n) at input
 
+-- a reload that is under way goes on by what it is fed, with its own module, turns and stage
 abbrev pub means : Inside → Reloader → In → Piece
 means inside p = does inside p.turns p.module p.stage
 

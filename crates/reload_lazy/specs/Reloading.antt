@@ -44,6 +44,8 @@ loads_found p n epoch finding load mid inside = loads_again inside (called p n) 
 abbrev pub reads_path_of : Reloader → List ℕ → ℕ → Option (List ℕ) → Inside → Piece
 reads_path_of p n epoch parent inside = reads_path inside (called p n) epoch parent
 
+-- the path of the module that stands there; without an entry ImportError is raised (`importlib.reload`), and
+-- AttributeError where it is `None`
 abbrev pub on_entry_of : Reloader → List ℕ → ℕ → List ℕ → Slot → Inside → Piece
 on_entry_of p n epoch parent slot inside = on_parent inside (called p n) epoch parent slot
 

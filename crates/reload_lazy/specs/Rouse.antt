@@ -13,6 +13,7 @@ use Rattle.reload_lazy.specs.declared.rouser.RouseStage.{RouseStage}
 use Rattle.reload_lazy.specs.declared.rouser.RouseStage.TheVariants as stage
 use Rattle.reload_lazy.specs.declared.rouser.Rouser.{Rouser}
 
+-- from a stage on, by what is fed, where so many more turns may follow
 abbrev pub does : Body → ℕ → ModRef → RouseStage → In → Piece
 does body turns m stage.Begins given.Start = rouses body turns m
 does body turns m stage.Asked (given.Replied r) = rousing body (rouses body turns m) m r
@@ -22,6 +23,7 @@ does body turns m stage.Finished (given.Replied r) = passes
 does body turns m (stage.Left flow) (given.Replied r) = λ s k. k flow s
 does body turns m other input = fails fault.NotInProfile
 
+-- a first use that is under way goes on by what it is fed, with its own module, turns and stage
 abbrev pub means : Inside → Rouser → In → Piece
 means inside p = does inside.body p.turns p.module p.stage
 

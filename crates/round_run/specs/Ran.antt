@@ -22,6 +22,7 @@ use Rattle.script_end.specs.declared.end.Ending.{Ending}
 abbrev pub Pairs : Type 0
 Pairs = List (Event × Reply)
 
+-- for each thread how its script ended, or that memory was wanting
 abbrev pub Results : Type 0
 Results = List (Result Ending NoMemory)
 

@@ -22,6 +22,7 @@ pub record Facts : Type 0 where
   pub counts : Counts
   pub ran : Result Ending NoMemory
 
+-- those of a worker, by what its program means under its number and by what its tree tells
 abbrev pub facts : {T P : Type 0} → (P → ℕ → Run) → (T → Option Files) → (T → ℕ) → (T → ℕ) → Worker T P → Facts
 facts run files faults lists w = record {
   pass = w.pass;
@@ -53,12 +54,15 @@ pub record HasWorked (fuel : ℕ) (old new : Facts) : Type 0 where
   pub files : new.files ≡ old.files
   pub ran : Ran old.files old.number old.run fuel old.counts new.counts (mine_of after) new.ran
 
+-- the same, of a worker before its run and after
 abbrev pub Works : {W : Type 0} → ℕ → (W → Facts) → W → W → Type 0
 Works fuel seen old new = HasWorked fuel (seen old) (seen new)
 
+-- each of these workers may begin at the shelf
 abbrev pub AllNew : {W : Type 0} → TableId → (W → Facts) → List W → Type 0
 AllNew table seen ws = All (λ w. IsNew table (seen w)) ws
 
+-- each of these workers ran, and they are in the same order
 abbrev pub AllWork : {W : Type 0} → ℕ → (W → Facts) → List W → List W → Type 0
 AllWork fuel seen olds news = AllZip (Works fuel seen) olds news
 
@@ -81,6 +85,7 @@ pub record IsSeated {T P : Type 0} (passes : List Told) (programs : List P) (for
   pub programs_at : slice_get programs k ≡ Some w.program
   pub forks_at : slice_get forks k ≡ Some w.tree
 
+-- the last thread's worker stands first; there are as many places as passes
 abbrev pub AllSeated : {T P : Type 0} → List Told → List P → List T → ℕ → List (Worker T P) → Type 0
 AllSeated passes programs forks from ws = Descends (IsSeated passes programs forks from) (length passes) ws
 

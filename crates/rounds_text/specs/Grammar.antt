@@ -34,6 +34,7 @@ IsEdit (edits.File path bytes) line = (name : List ℕ) × (text : List ℕ) × 
 IsEdit (edits.Dir path time) line = (name : List ℕ) × (text : List ℕ) × IsPlace name path × (number_in text ≡ Some time) × (line ≡ codes "dir " ++ (name ++ 32 ∷ text))
 IsEdit (edits.Remove path) line = (name : List ℕ) × IsPlace name path × (line ≡ codes "remove " ++ name)
 
+-- script := "script " PATH; the round has the text of PATH itself
 abbrev pub IsScript : List ℕ → List ℕ → Type 0
 IsScript script line = (path : Path) × IsPlace script path × (line ≡ codes "script " ++ script)
 
@@ -42,6 +43,7 @@ abbrev pub OnLines : {X : Type 0} → (X → List ℕ → Type 0) → List X →
 OnLines IsLine [] text = text ≡ []
 OnLines IsLine (x ∷ xs) text = (line : List ℕ) × (rest : List ℕ) × IsLine x line × OnLines IsLine xs rest × (text ≡ line ++ 10 ∷ rest)
 
+-- round := "round" LF { edit LF } script { script }: at least one script, and the edits before all of them
 pub record IsRound (round : Round) (text : List ℕ) : Type 0 where
   pub edits : List ℕ
   pub scripts : List ℕ
@@ -50,6 +52,7 @@ pub record IsRound (round : Round) (text : List ℕ) : Type 0 where
   pub some : 1 ≤ length round.scripts
   pub whole : text ≡ codes "round" ++ 10 ∷ (edits ++ scripts)
 
+-- the rounds in order, with nothing between them or behind the last
 abbrev pub AreRounds : List Round → List ℕ → Type 0
 AreRounds [] text = text ≡ []
 AreRounds (round ∷ rounds) text = (first : List ℕ) × (rest : List ℕ) × IsRound round first × AreRounds rounds rest × (text ≡ first ++ rest)

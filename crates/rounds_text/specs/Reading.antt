@@ -16,9 +16,11 @@ use Rattle.rounds_text.specs.declared.rounds.Rounds.{Rounds}
 use Rattle.rounds_text.specs.declared.rounds.RoundsError.{RoundsError}
 use Rattle.rounds_text.specs.declared.rounds.RoundsError.TheVariants as error
 
+-- nothing has been read, and the first line is to come
 abbrev pub start : Draft
 start = record { stage = stages.First; done = []; edits = []; scripts = []; count = 0 }
 
+-- the round that is being read, as far as it has come
 abbrev pub open_round : Draft → Round
 open_round d = record { edits = d.edits; scripts = d.scripts }
 
@@ -31,9 +33,11 @@ abbrev pub with_script : List ℕ → Draft → Option Draft
 with_script script d =
     if nat_lt d.count 16 then Some (record { stage = stages.Scripts; done = d.done; edits = d.edits; scripts = d.scripts ++ script ∷ []; count = d.count + 1 }) else None
 
+-- one edit more in the round that is being read; their number has no limit
 abbrev pub with_edit : Edit → Draft → Option Draft
 with_edit edit d = Some (record d { edits = d.edits ++ edit ∷ [] })
 
+-- the reader goes on at another stage, and nothing else changes
 abbrev pub turned : Stage → Draft → Option Draft
 turned stage d = Some (record d { stage = stage })
 
@@ -42,25 +46,30 @@ abbrev pub at_rounds : Line → Draft → Option Draft
 at_rounds lines.Round d = turned stages.Edits d
 at_rounds _ d = None
 
+-- a round that has no script yet takes edits and its first script, and no round may follow yet
 abbrev pub at_edits : Line → Draft → Option Draft
 at_edits lines.Round d = None
 at_edits (lines.Edit edit) d = with_edit edit d
 at_edits (lines.Script script) d = with_script script d
 
+-- a round that has a script takes further ones, or the next round follows; edits stand before the scripts
 abbrev pub at_scripts : Line → Draft → Option Draft
 at_scripts lines.Round d = with_round d
 at_scripts (lines.Edit edit) d = None
 at_scripts (lines.Script script) d = with_script script d
 
+-- what a line that spells something does, by where the reader is; the first line is not read so
 abbrev pub further : Stage → Line → Draft → Option Draft
 further stages.First line d = None
 further stages.Rounds line d = at_rounds line d
 further stages.Edits line d = at_edits line d
 further stages.Scripts line d = at_scripts line d
 
+-- the first line must be the one of the format, byte for byte
 abbrev pub at_first : List ℕ → Draft → Option Draft
 at_first line d = if bytes_eq line first_line then turned stages.Rounds d else None
 
+-- the first line is compared with the format's; any other goes by what it spells, and must spell something
 abbrev pub next_at : Stage → List ℕ → Draft → Option Draft
 next_at stages.First line d = at_first line d
 next_at stage line d = option_and_then (λ l. further stage l d) (line_in line)
@@ -79,9 +88,11 @@ abbrev pub ends : List ℕ → Draft → Option (List Round)
 ends [] d = ends_at d.stage d
 ends (b ∷ bs) d = None
 
+-- the answer is what the file comes to where this stands behind its last LF: the rounds, or none where it may not end
 abbrev pub Ends : Option Rounds → List ℕ → Draft → Type 0
 Ends o rest d = option_map (λ rounds. rounds.list) o ≡ ends rest d
 
+-- where no draft is left the line of this number is refused, and else the reading goes on with it
 abbrev pub goes : Option Draft → ℕ → (Draft → Result (List Round) ℕ) → Result (List Round) ℕ
 goes None at then_ = Err at
 goes (Some d) at then_ = then_ d
@@ -93,9 +104,11 @@ read_on at d [] = Err at
 read_on at d (line ∷ []) = ok_or (ends line d) at
 read_on at d (line ∷ more ∷ lines) = goes (next line d) at (λ e. read_on (at + 1) e (more ∷ lines))
 
+-- what stands between the LFs: the lines, and last what stands behind the last LF
 abbrev pub pieces : List ℕ → List (List ℕ)
 pieces bytes = slice_split (λ b. b == 10) bytes
 
+-- the whole file is read from its first line, which is number 1
 unfoldable pub rounds_in : List ℕ → Result (List Round) ℕ
 rounds_in bytes = read_on 1 start (pieces bytes)
 

@@ -1,4 +1,5 @@
--- The line at which a rounds file is refused: the first at which no rounds file goes on. That is one more than the last line where
+-- The line at which a rounds file is refused: the first at which no rounds file goes on. That is one more than the last
+-- line where
 -- only a line is missing, and a last line without LF is such a line.
 use Rattle.std.specs.Prelude.{◌≡◌, ◌⊎◌, ℕ, ◌+◌, List, [], ◌∷◌, ◌++◌, length, true, Result, Ok, Err}
 use Rattle.std.specs.List.{list_all}
@@ -23,6 +24,7 @@ pub record Begins (front : List ℕ) : Type 0 where
 abbrev pub StopsAt : List ℕ → List ℕ → Type 0
 StopsAt front rest = (in_line rest ≡ true) ⊎ ((line : List ℕ) × (more : List ℕ) × (in_line line ≡ true) × (rest ≡ line ++ 10 ∷ more) × (Begins (front ++ (line ++ 10 ∷ [])) → ⊥))
 
+-- the n-th line, counted from 1, is the first at which no rounds file goes on
 pub record IsRefusedAt (n : ℕ) (bytes : List ℕ) : Type 0 where
   -- the lines before, and what stands behind them
   pub before : List (List ℕ)

@@ -6,5 +6,6 @@
 --   edit   := "file " PATH " " TEXT | "dir " PATH " " TIME | "remove " PATH
 use Rattle.std.specs.Prelude.{ℕ, List, codes}
 
+-- the name of the format and its version; the LF behind it is no part of it
 abbrev pub first_line : List ℕ
 first_line = codes "pyimport-rounds 1"

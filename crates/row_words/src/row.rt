@@ -92,6 +92,7 @@ fn without_blanks(bytes: &[u8]) -> &[u8] {
 }
 
 impl<'a> Row<'a> {
+    /// The row that a line is. All of the line is left, but for the blanks at its front.
     pub fn of(line: &'a str) -> Row<'a> {
         Row {
             rest: without_blanks(line.as_bytes()),

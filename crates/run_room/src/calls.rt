@@ -34,6 +34,8 @@ pub struct Call {
 }
 
 impl Call {
+    /// A call without words on an empty tree, of which no call fails. Each output takes all bytes, and no outcome is
+    /// allowed yet.
     pub fn new(alloc: Global) -> Call {
         Call {
             holdings: Vec::new(alloc),

@@ -13,6 +13,7 @@ use Rattle.run_rules.specs.Runs.{Run, Pays, Makes}
 abbrev pub pay : ℕ → Run → Run
 pay units next = Pays false units next
 
+-- no cost is more than 64 bits hold
 abbrev pub at_most : ℕ → ℕ
 at_most units = min units (2 ^ 64 - 1)
 
@@ -28,6 +29,7 @@ text_units text = length text / 64
 abbrev pub texts_size : List (List ℕ) → ℕ
 texts_size texts = length texts + sum (map text_units texts)
 
+-- what a list of texts costs, at most what 64 bits hold
 abbrev pub texts_units : List (List ℕ) → ℕ
 texts_units texts = at_most (texts_size texts)
 

@@ -25,8 +25,8 @@ pub data Question : Type 0 where
   TextOf : (path : Path) → Question
   NamesOf : (path : Path) → Question
 
--- what it can answer: what stands at the path; the text of a file, and none where that is too long for a source; the names in a
--- directory, in the order of their bytes
+-- what it can answer: what stands at the path; the text of a file, and none where that is too long for a source; the
+-- names in a directory, in the order of their bytes
 abbrev pub Answer : Question → Type 0
 Answer (StampOf path) = Stamp
 Answer (TextOf path) = Option (List ℕ)
@@ -47,7 +47,8 @@ abbrev pub IsTold : Option Files → (question : Question) → Answer question �
 IsTold None question answer = Unit {0}
 IsTold (Some files) question answer = answer ≡ told files question
 
--- a run: it is over, or it pays, or it looks into the tree and goes on by the answer, or it makes an event and goes on by the reply
+-- a run: it is over, or it pays, or it looks into the tree and goes on by the answer, or it makes an event and goes on
+-- by the reply
 pub data Run : Type 0 where
   Over : (how : How) → Run
   Pays : (of_tree : Bool) (units : ℕ) (next : Run) → Run
@@ -77,12 +78,15 @@ pub data Stop : Type 0 where
   Came : (how : How) → Stop
   Cut : (event : Event) → Stop
 
--- what a run gives on a list of replies: the events that were made with their replies, where it stops, and the replies that are left
+-- what a run gives on a list of replies: the events that were made with their replies, where it stops, and the replies
+-- that are left
 pub record Ending : Type 0 where
   pub pairs : List (Event × Reply)
   pub stop : Stop
   pub left : List Reply
 
+-- a run goes on after these pairs: payments are passed over, the files answer what is looked up, and each event takes
+-- the next reply; where none is left, the run is cut at the event
 abbrev pub play : Files → Run → List (Event × Reply) → List Reply → Ending
 play files (Over how) pairs replies = record { pairs = pairs; stop = Came how; left = replies }
 play files (Pays of_tree n next) pairs replies = play files next pairs replies
@@ -94,6 +98,7 @@ play files (Makes event next) pairs (r ∷ replies) = play files (next r) (pairs
 abbrev pub on_budget : Files → ℕ → Run → ℕ → List Reply → Ending
 on_budget files t run budget replies = play files (spend budget (shown_first t) run) [] replies
 
+-- the replies on which the same run would go the same way
 abbrev pub replies_of : List (Event × Reply) → List Reply
 replies_of pairs = map (λ p. p.1) pairs
 

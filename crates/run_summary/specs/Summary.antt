@@ -5,10 +5,12 @@ use Rattle.machine_events.specs.declared.event.Event.{Event}
 use Rattle.machine_events.specs.declared.event.Event.TheVariants as e
 use Rattle.machine_events.specs.declared.event.Entry.{Entry}
 
+-- a module is made and its body begins; lazy modules, reloads and the module that runs as a program do not count
 abbrev pub adds : Event → Bool
 adds (e.Add spec text) = true
 adds event = false
 
+-- a text is printed
 abbrev pub prints : Event → Bool
 prints (e.Print text) = true
 prints event = false
@@ -17,6 +19,7 @@ prints event = false
 abbrev pub is_load : Entry → Bool
 is_load entry = adds entry.event
 
+-- the entry prints, whatever the reply
 abbrev pub is_print : Entry → Bool
 is_print entry = prints entry.event
 
@@ -28,6 +31,7 @@ loads_in history = count_by is_load history
 abbrev pub prints_in : List Entry → ℕ
 prints_in history = count_by is_print history
 
+-- `modules M scripts S loads L prints P status X`, ended by LF, each number in decimal
 abbrev pub line_of : ℕ → ℕ → ℕ → ℕ → ℕ → List ℕ
 line_of modules scripts loads prints status =
     codes "modules " ++ (decimal modules ++ (codes " scripts " ++ (decimal scripts ++ (codes " loads " ++ (decimal loads

@@ -7,6 +7,7 @@ use Rattle.script_holds.specs.Holds.{holding_of}
 use Rattle.script_holds.specs.declared.change.Change.{Change}
 use Rattle.script_holds.specs.declared.change.Change.TheVariants as change
 
+-- what is held after an event of this change and its reply, in the order in which a thread knows it
 abbrev pub changed : Change → Reply → List Holding → List Holding
 changed change.Nothing reply held = held
 changed (change.Takes n) reply held = take_answered n held reply

@@ -5,11 +5,13 @@ use Rattle.script_holds.specs.declared.held.Hold.{Hold}
 use Rattle.script_holds.specs.declared.held.Hold.TheVariants as hold
 use Rattle.script_holds.specs.declared.held.Held.{Held}
 
+-- the three things that a script can hold are those of which a thread knows
 abbrev pub holding_of : Hold → Holding
 holding_of (hold.Taken n) = Taken n
 holding_of (hold.Loading load) = Loading load
 holding_of (hold.Reloading mid load) = Reloading mid load
 
+-- several of them, in the same order
 abbrev pub holdings : List Hold → List Holding
 holdings hs = map holding_of hs
 

@@ -10,6 +10,7 @@ use std::alloc::Global;
 /// The most portions of a row.
 const MOST_PORTIONS: u32 = 1000;
 
+/// The search state that a namespace package keeps, as the rows so far have left it.
 #[derive(Drop)]
 pub struct Namespaces {
     state: NsState,

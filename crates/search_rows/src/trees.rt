@@ -133,6 +133,7 @@ fn sent<T: Send>(tree: T) -> T
 }
 
 impl Trees {
+    /// A tree with its root alone, without forks, and not open for edits. An `Err` comes for want of memory alone.
     pub fn new(alloc: Global) -> Result<Trees, NoMemory> {
         Ok(Trees {
             tree: MemTree::new(alloc)?,

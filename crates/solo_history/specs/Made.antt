@@ -23,9 +23,11 @@ pub record Turn : Type 0 where
   -- the budget at which a call of the tree failed, if one did
   pub stop : Option ℕ
 
+-- what the machine answers an event of thread t in this state
 abbrev pub reply_of : ℕ → State → Event → Reply
 reply_of t s event = (step s t event).0
 
+-- what that event makes of the state
 abbrev pub state_after : ℕ → State → Event → State
 state_after t s event = (step s t event).1
 
@@ -36,6 +38,7 @@ pairs_from t f s (Pays of_tree n next) = pairs_from t f s next
 pairs_from t f s (Looks q next) = pairs_from t f s (next (told f q))
 pairs_from t f s (Makes event next) = (event, reply_of t s event) ∷ pairs_from t f (state_after t s event) (next (reply_of t s event))
 
+-- how that run is over: the replies of the machine and the answers of the files choose its way
 abbrev pub how_from : ℕ → Files → State → Run → How
 how_from t f s (Over how) = how
 how_from t f s (Pays of_tree n next) = how_from t f s next
@@ -65,9 +68,11 @@ how_of s turn t fuel = how_from t turn.files s (run_of turn t fuel)
 abbrev pub turn_pairs : State → Turn → ℕ → ℕ → List (Event × Reply)
 turn_pairs s turn t fuel = pairs_from t turn.files s (run_of turn t fuel) ++ (End (outcome_by turn.stop (how_of s turn t fuel)) (budget_by turn.stop fuel), Done) ∷ []
 
+-- the pairs of one thread as lines of a history
 abbrev pub entries_of : ℕ → List (Event × Reply) → List Entry
 entries_of t pairs = map (λ p. record { thread = t; event = p.0; reply = p.1 }) pairs
 
+-- what the script of a turn adds to the history, with its End as the last line
 abbrev pub turn_entries : State → Turn → ℕ → ℕ → List Entry
 turn_entries s turn t fuel = entries_of t (turn_pairs s turn t fuel)
 
@@ -76,12 +81,14 @@ abbrev pub history_of : State → List Turn → ℕ → ℕ → List Entry
 history_of s [] t fuel = []
 history_of s (turn ∷ turns) t fuel = turn_entries s turn t fuel ++ history_of (replay s (turn_entries s turn t fuel)) turns (t + 1) fuel
 
--- a script can stop there: with that budget its run comes to a payment for a call of the tree that it cannot make, and that
+-- a script can stop there: with that budget its run comes to a payment for a call of the tree that it cannot make, and
+-- that
 -- payment is within its fuel
 abbrev pub CanStopAt : Option ℕ → ℕ → How → Type 0
 CanStopAt None fuel how = Unit {0}
 CanStopAt (Some stop) fuel how = (how ≡ Spent true) × (stop + 1 ≤ fuel)
 
+-- each script can stop where its turn says, in the state that the scripts before it leave
 abbrev pub CanStop : State → List Turn → ℕ → ℕ → Type 0
 CanStop s [] t fuel = Unit {0}
 CanStop s (turn ∷ turns) t fuel = CanStopAt turn.stop fuel (how_of s turn t fuel) × CanStop (replay s (turn_entries s turn t fuel)) turns (t + 1) fuel

@@ -46,7 +46,8 @@ abbrev pub AllSafe : List Turn → ℕ → Type 0
 AllSafe [] t = Unit {0}
 AllSafe (turn ∷ turns) t = Safe (shown_first t) turn.run × AllSafe turns (t + 1)
 
--- where memory was wanted in a script: its pairs are a part of those of its run; or a call of the tree had failed, and with the
+-- where memory was wanted in a script: its pairs are a part of those of its run; or a call of the tree had failed, and
+-- with the
 -- budget that was paid before it, all that was held was being given up
 abbrev pub BreaksAt : Option ℕ → Turn → ℕ → ℕ → List (Event × Reply) → Type 0
 BreaksAt None turn t fuel mine = IsPart turn.files t turn.run fuel mine
@@ -63,6 +64,7 @@ PlayOrBreak [] t fuel history = Unit {0}
 PlayOrBreak (turn ∷ turns) t fuel history =
     (Plays turn t fuel (own t history) × PlayOrBreak turns (t + 1) fuel history) ⊎ (BreaksAt turn.stop turn t fuel (own t history) × AreToCome turns (t + 1) history)
 
+-- memory may have been wanting: the machine allows the history, and each script played, up to one that was broken off
 pub record IsBroken (opening : State) (turns : List Turn) (fuel : ℕ) (history : List Entry) : Type 0 where
   pub many : length turns ≡ length opening.rounds
   pub legal : IsLegal opening history

@@ -19,6 +19,7 @@ abbrev pub behind_dots : List ℕ → List (List ℕ) → List ℕ
 behind_dots n [] = n
 behind_dots n (m ∷ ns) = joined n (behind_dots m ns)
 
+-- the same of all parts of a dotted name; no parts give the empty text
 abbrev pub dotted_text : List (List ℕ) → List ℕ
 dotted_text [] = []
 dotted_text (n ∷ ns) = behind_dots n ns
@@ -29,5 +30,6 @@ abbrev pub IsGood : Mention → Type 0
 IsGood (Named name) = IsUtf8 name → IsTrue (is_name name)
 IsGood (Dotted parts) = AllByRecursion IsUtf8 parts → IsTrue (is_dotted (dotted_text parts))
 
+-- each name in the tree of a source is good
 abbrev pub NamesAreGood : Type 0
 NamesAreGood = (src : List ℕ) (script : Script) → parsed src ≡ Ok script → AllByRecursion IsGood (mentions script)

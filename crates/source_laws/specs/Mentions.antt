@@ -14,13 +14,16 @@ use Rattle.py_syntax.specs.declared.stmt.FuncDef.{FuncDef}
 use Rattle.py_syntax.specs.declared.stmt.Handler.{Handler}
 use Rattle.py_syntax.specs.declared.stmt.Script.{Script}
 
+-- a name alone, or the parts of a dotted name together
 pub data Mention : Type 0 where
   Named : (name : List ℕ) → Mention
   Dotted : (parts : List (List ℕ)) → Mention
 
+-- in the order of the text, and as often as they stand there
 abbrev pub Mentions : Type 0
 Mentions = List Mention
 
+-- those of several forms, one form behind the other
 abbrev pub in_order : List Mentions → Mentions
 in_order forms = flat_map (λ mentions. mentions) forms
 
@@ -28,12 +31,14 @@ in_order forms = flat_map (λ mentions. mentions) forms
 abbrev pub each_named : List (List ℕ) → Mentions
 each_named names = map (λ n. Named n) names
 
+-- the name behind an `as`, where there is one
 abbrev pub optional_name : Option (List ℕ) → Mentions
 optional_name None = []
 optional_name (Some n) = Named n ∷ []
 
 -- ---- expressions
 
+-- a name is one itself, an attribute has one behind its dot, and any other form has only those of its parts
 abbrev pub expr_at : Expr-F Mentions → Mentions
 expr_at (Expr-F.Name n) = Named n ∷ []
 expr_at (Expr-F.Tuple items) = in_order items
@@ -49,21 +54,26 @@ expr_at (Expr-F.And left right) = left ++ right
 expr_at (Expr-F.Or left right) = left ++ right
 expr_at e = []
 
+-- all names of an expression, however deep they stand
 abbrev pub in_expr : Expr → Mentions
 in_expr = fold-Expr Mentions expr_at
 
+-- an expression that is left out has none
 abbrev pub in_optional : Option Expr → Mentions
 in_optional None = []
 in_optional (Some e) = in_expr e
 
 -- ---- imports
 
+-- the dotted name that is imported, and the name that it is bound to where `as` gives one
 abbrev pub in_alias : Alias → Mentions
 in_alias a = Dotted a.parts ∷ optional_name a.bound
 
+-- those of each alias in turn
 abbrev pub in_aliases : List Alias → Mentions
 in_aliases aliases = flat_map in_alias aliases
 
+-- `*` has no name, a list those of its items
 abbrev pub in_imported : ImportedNames → Mentions
 in_imported All = []
 in_imported (Listed items) = in_aliases items
@@ -76,6 +86,7 @@ in_source (suc dots) (n ∷ ns) = Dotted (n ∷ ns) ∷ []
 
 -- ---- statements
 
+-- those of its expressions and of its blocks; `pass`, `break` and `continue` have none
 abbrev pub stmt_at : Stmt-F Mentions Mentions Mentions Mentions → Mentions
 stmt_at (Stmt-F.Evaluate e) = in_expr e
 stmt_at (Stmt-F.Assign target value) = in_expr target ++ in_expr value
@@ -91,29 +102,38 @@ stmt_at (Stmt-F.Try body handlers otherwise finally) = in_order body ++ (in_orde
 stmt_at (Stmt-F.Def function) = function
 stmt_at s = []
 
+-- those of the test, then those of the block
 abbrev pub branch_at : Branch-F Mentions Mentions Mentions Mentions → Mentions
 branch_at b = in_expr b.test ++ in_order b.body
 
+-- the function's own name, its parameters, the names of its `global` lines, then those of its body
 abbrev pub function_at : FuncDef-F Mentions Mentions Mentions Mentions → Mentions
 function_at f = Named f.name ∷ (each_named f.parameters ++ (each_named f.globals ++ in_order f.body))
 
+-- those of the kinds, the name that the error is bound to, then those of the block
 abbrev pub handler_at : Handler-F Mentions Mentions Mentions Mentions → Mentions
 handler_at h = in_optional h.kinds ++ (optional_name h.bound ++ in_order h.body)
 
+-- all names of a statement, however deep its blocks go
 abbrev pub in_stmt : Stmt → Mentions
 in_stmt = fold-Stmt Mentions Mentions Mentions Mentions stmt_at branch_at function_at handler_at
 
+-- the same of a test with its block
 abbrev pub in_branch : Branch → Mentions
 in_branch = fold-Branch Mentions Mentions Mentions Mentions stmt_at branch_at function_at handler_at
 
+-- the same of a function
 abbrev pub in_function : FuncDef → Mentions
 in_function = fold-FuncDef Mentions Mentions Mentions Mentions stmt_at branch_at function_at handler_at
 
+-- the same of a handler
 abbrev pub in_handler : Handler → Mentions
 in_handler = fold-Handler Mentions Mentions Mentions Mentions stmt_at branch_at function_at handler_at
 
+-- those of each statement in turn
 abbrev pub in_stmts : List Stmt → Mentions
 in_stmts ss = in_order (map in_stmt ss)
 
+-- all names of a script
 abbrev pub mentions : Script → Mentions
 mentions script = in_stmts script.body

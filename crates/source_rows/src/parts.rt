@@ -20,6 +20,7 @@ const TOP: Context = Context {
     in_finally: false,
 };
 
+/// Whether the word is that of a call that is answered here: the reader of an expression, of a line or of a script.
 pub fn is_call(word: &str) -> bool {
     matches!(word, "expression" | "line" | "script")
 }

@@ -6,6 +6,7 @@ use Rattle.base_types.specs.Path.{Path}
 use Rattle.tree_files.specs.declared.tree.TreeFault.{TreeFault}
 use Rattle.tree_files.specs.declared.tree.TreeFault.TheVariants as fault
 
+-- there is such a byte, and it is no slash (47)
 abbrev pub is_no_slash : Option ℕ → Bool
 is_no_slash (Some byte) = not (byte == 47)
 is_no_slash None = false
@@ -18,6 +19,7 @@ wants_slash name = is_no_slash (slice_get name (length name - 1))
 abbrev pub with_part : List ℕ → List ℕ → List ℕ
 with_part name part = (if wants_slash name then name ++ codes "/" else name) ++ part
 
+-- a name with one part after another of a path; the root adds nothing
 abbrev pub with_parts : List ℕ → Path → List ℕ
 with_parts name parts = fold with_part name parts
 

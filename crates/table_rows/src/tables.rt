@@ -10,18 +10,22 @@ use std::alloc::Global;
 /// What comes of a call: a text, or nothing where it only changes the tables.
 pub type Answered = Result<Option<Text>, RowError>;
 
+/// An answer that is this text. An `Err` comes for want of memory alone.
 pub fn text(alloc: Global, of: &str) -> Answered {
     Ok(Some(Text::from_str(alloc, of)?))
 }
 
+/// An answer that is `yes` or `no`. An `Err` comes for want of memory alone.
 pub fn yes(alloc: Global, answer: bool) -> Answered {
     text(alloc, if answer { "yes" } else { "no" })
 }
 
+/// An answer that is a number, in decimal digits. An `Err` comes for want of memory alone.
 pub fn number(alloc: Global, number: u64) -> Answered {
     Ok(Some(Text::from_string(format!(in alloc; "{number}")?)))
 }
 
+/// The dotted name that comes next. `Unknown` where what stands there is none.
 pub fn dotted(alloc: Global, row: &mut Row<'_>) -> Result<Dotted, RowError> {
     Dotted::read(&row.text(alloc)?)?.ok_or(RowError::Unknown)
 }

@@ -2,29 +2,34 @@
 use Rattle.std.specs.Prelude.{ℕ, nat_eq, ◌&&◌, Bool, true, false, List, [], ◌∷◌, Option, Some, None, if◌then◌else◌}
 use Rattle.std.specs.Cmp.Lexicographic.{pointwise}
 
--- one thing that is held: a lock, taken once for which no body runs yet; a module's body that was not ended; a reload, with
+-- one thing that is held: a lock, taken once for which no body runs yet; a module's body that was not ended; a reload,
+-- with
 -- its body where that has begun. Each body counts once more for the lock of its module's name
 pub data Holding : Type 0 where
   Taken : (name : List ℕ) → Holding
   Loading : (load : ℕ) → Holding
   Reloading : (mid : ℕ) (load : Option ℕ) → Holding
 
+-- both are none, or both are the same number
 abbrev pub is_number : Option ℕ → Option ℕ → Bool
 is_number None None = true
 is_number None (Some y) = false
 is_number (Some x) None = false
 is_number (Some x) (Some y) = nat_eq x y
 
+-- a lock, by its name
 abbrev pub is_taken : List ℕ → Holding → Bool
 is_taken n (Taken m) = pointwise nat_eq n m
 is_taken n (Loading load) = false
 is_taken n (Reloading mid load) = false
 
+-- a body, by the number of its load
 abbrev pub is_loading : ℕ → Holding → Bool
 is_loading i (Taken m) = false
 is_loading i (Loading load) = nat_eq i load
 is_loading i (Reloading mid load) = false
 
+-- a reload, by its module and its load: one that has begun its body is another than the one that has not
 abbrev pub is_reloading : ℕ → Option ℕ → Holding → Bool
 is_reloading i l (Taken m) = false
 is_reloading i l (Loading load) = false

@@ -18,6 +18,7 @@ abbrev pub Has : {X : Type 0} → List X → X → Type 0
 Has [] x = ⊥
 Has (y ∷ ys) x = (x ≡ y) ⊎ Has ys x
 
+-- each item of the second list is one of the first
 abbrev pub HasAll : {X : Type 0} → List X → List X → Type 0
 HasAll xs [] = Unit {0}
 HasAll xs (y ∷ ys) = Has xs y × HasAll xs ys
@@ -34,6 +35,7 @@ HasName s mid n = (m : ModRef) × Has s.modules m × (m.mid ≡ mid) × (m.name 
 abbrev pub KnowsAll : Shown → Value → Type 0
 KnowsAll s v = HasAll s.modules (modules_in v) × HasAll s.loads (loads_in v)
 
+-- the same, of each of these values
 abbrev pub KnowsItems : Shown → List Value → Type 0
 KnowsItems s items = HasAll s.modules (flat_map modules_in items) × HasAll s.loads (flat_map loads_in items)
 
@@ -103,6 +105,7 @@ Enough s (e.Rouse mid) = HasMid s mid
 Enough s (e.Main spec text) = MayBeMain spec.kind
 Enough s (e.End outcome spent) = s.held ≡ []
 
+-- the thread neither waits nor has ended, and what is shown is enough
 abbrev pub IsShown : Shown → Event → Type 0
 IsShown s event = (s.doing ≡ Running) × Enough s event
 

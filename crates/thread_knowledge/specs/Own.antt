@@ -9,6 +9,7 @@ use Rattle.machine_events.specs.declared.event.Entry.{Entry}
 abbrev pub own : ℕ → List Entry → List (Event × Reply)
 own t history = map (λ e. (e.event, e.reply)) (filter (λ e. e.thread == t) history)
 
+-- the event with which a script ends, however it ended
 abbrev pub IsEnd : Event → Type 0
 IsEnd (e.End outcome spent) = Unit {0}
 IsEnd event = ⊥
@@ -18,7 +19,8 @@ abbrev pub HasEnded : List Entry → ℕ → Type 0
 HasEnded [] t = ⊥
 HasEnded (entry ∷ entries) t = ((entry.thread ≡ t) × IsEnd entry.event) ⊎ HasEnded entries t
 
--- the thread is one of the scripts, and every thread of an earlier round has its End in the history; the rounds tell for each
+-- the thread is one of the scripts, and every thread of an earlier round has its End in the history; the rounds tell
+-- for each
 -- thread the number of the first one of its round
 pub record Ready (rounds : List ℕ) (history : List Entry) (t : ℕ) : Type 0 where
   pub first : ℕ

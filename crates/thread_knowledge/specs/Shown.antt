@@ -22,6 +22,7 @@ pub data Doing : Type 0 where
   Waiting : Doing
   Over : Doing
 
+-- what a thread knows of the machine, whatever the other threads do
 pub record Shown : Type 0 where
   -- what is held, the innermost first
   pub held : List Holding
@@ -45,6 +46,7 @@ modules_at (Value-F.Tuple items) = flat_map (λ ms. ms) items
 modules_at (Value-F.Module m) = m ∷ []
 modules_at _ = []
 
+-- the same, of a whole value from the inside out
 abbrev pub modules_in : Value → List ModRef
 modules_in = fold-Value (List ModRef) modules_at
 
@@ -55,9 +57,11 @@ loads_at (Value-F.Tuple items) = flat_map (λ ls. ls) items
 loads_at (Value-F.Func load index name) = load ∷ []
 loads_at _ = []
 
+-- the same, of a whole value from the inside out
 abbrev pub loads_in : Value → List ℕ
 loads_in = fold-Value (List ℕ) loads_at
 
+-- only an entry that is a module names one
 abbrev pub slot_modules : Slot → List ModRef
 slot_modules (slots.Module m) = m ∷ []
 slot_modules slot = []
@@ -90,10 +94,12 @@ load_numbered (r.Path items) = flat_map loads_in items
 load_numbered (r.Ns state epoch) = flat_map loads_in state.parent_path
 load_numbered reply = []
 
+-- the value that stands for the path of a namespace
 abbrev pub is_namespace_path : Value → Bool
 is_namespace_path values.NsPath = true
 is_namespace_path v = false
 
+-- a package without an `__init__.py` (PEP 420)
 abbrev pub is_namespace_kind : SpecKind → Bool
 is_namespace_kind kinds.Builtin = false
 is_namespace_kind (kinds.Source file) = false
@@ -110,7 +116,8 @@ abbrev pub body_answered : SpecKind → Reply → List ℕ
 body_answered kind (r.Load load mid) = if is_namespace_kind kind then mid ∷ [] else []
 body_answered kind reply = []
 
--- the module of an event that is shown to have the state of a namespace: a reply gave its `__path__` as that of a namespace, or
+-- the module of an event that is shown to have the state of a namespace: a reply gave its `__path__` as that of a
+-- namespace, or
 -- a body of it began under the spec of a namespace
 abbrev pub namespace_of : Event → Reply → List ℕ
 namespace_of (e.GetVar mid x raw) reply = if pointwise nat_eq x (codes "__path__") then path_answered mid reply else []
@@ -118,22 +125,27 @@ namespace_of (e.Add spec text) reply = body_answered spec.kind reply
 namespace_of (e.ReloadTake mid spec text) reply = body_answered spec.kind reply
 namespace_of event reply = []
 
+-- a lock is taken only where the reply is Mine
 abbrev pub take_answered : List ℕ → List Holding → Reply → List Holding
 take_answered n held (r.Mine epoch) = Taken n ∷ held
 take_answered n held reply = held
 
+-- the lock that was taken for the module becomes its body
 abbrev pub add_answered : List ℕ → List Holding → Reply → List Holding
 add_answered n held (r.Load load mid) = becoming (Taken n) (Loading load) held
 add_answered n held reply = held
 
+-- the body of a lazy module begins only where the reply is Yours
 abbrev pub rouse_answered : List Holding → Reply → List Holding
 rouse_answered held (r.Yours load text) = Loading load ∷ held
 rouse_answered held reply = held
 
+-- a reload begins only where the reply is Begun, and it has no body yet
 abbrev pub begin_answered : ℕ → List Holding → Reply → List Holding
 begin_answered mid held (r.Begun epoch) = Reloading mid None ∷ held
 begin_answered mid held reply = held
 
+-- the reload without a body becomes the one with this load
 abbrev pub reload_answered : ℕ → List Holding → Reply → List Holding
 reload_answered mid held (r.Load load other) = becoming (Reloading mid None) (Reloading mid (Some load)) held
 reload_answered mid held reply = held
@@ -151,10 +163,12 @@ holds (e.ReloadTake mid spec text) reply held = reload_answered mid held reply
 holds (e.ReloadEnd mid load) reply held = without (Reloading mid load) held
 holds event reply held = held
 
+-- a thread waits where the reply is Wait
 abbrev pub answered : Reply → Doing → Doing
 answered (r.Wait n) doing = Waiting
 answered reply doing = doing
 
+-- Ask, Take, ReloadTake and Rouse may have to wait; Wake ends that, and End ends all
 abbrev pub does : Event → Reply → Doing → Doing
 does (e.Ask n) reply doing = answered reply doing
 does (e.Take n) reply doing = answered reply doing
@@ -175,5 +189,6 @@ shown_more s p = record {
   doing = does p.0 p.1 s.doing;
 }
 
+-- what all these pairs show of thread t, one after another
 abbrev pub shown : ℕ → List (Event × Reply) → Shown
 shown t pairs = fold shown_more (shown_first t) pairs

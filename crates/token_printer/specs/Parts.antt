@@ -26,6 +26,7 @@ left_at (Expr-F.Not e) = None
 left_at (Expr-F.And a b) = Some (a, 2)
 left_at (Expr-F.Or a b) = Some (a, 1)
 
+-- the same of a whole expression, by its outermost form; one that begins with a lexeme of its own has no left side
 abbrev pub left : Expr → Option (Expr × ℕ)
 left e = left_at (out-Expr e)
 
@@ -49,6 +50,7 @@ own_at (Expr-F.Not e) = token.Not ∷ operand 3 (print_of e)
 own_at (Expr-F.And a b) = token.And ∷ operand 3 (print_of b)
 own_at (Expr-F.Or a b) = token.Or ∷ operand 2 (print_of b)
 
+-- the same of a whole expression, by its outermost form
 abbrev pub own : Expr → List Lexeme
 own e = own_at (out-Expr e)
 

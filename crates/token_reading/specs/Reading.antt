@@ -3,10 +3,12 @@ use Rattle.std.specs.Prelude.{ℕ, List, [], ◌∷◌, length, Option, Some, No
 use Rattle.token_reading.specs.declared.fault.Refusal.TheVariants.{TooDeep, Syntax}
 use Rattle.token_reading.specs.declared.fault.Fault.{Fault}
 
+-- what is read from the front of tokens, and the tokens after it, or the refusal
 abbrev pub Read : Type 0 → Type 0 → Type 0
 Read T A = Result (A × List T) Fault
 
 infixl 10 ◌>>=◌
+-- what comes next is read behind what was read; the first refusal is that of the whole
 abbrev pub ◌>>=◌ : {A B : Type 0} → Result A Fault → (A → Result B Fault) → Result B Fault
 (Ok x) >>= f = f x
 (Err e) >>= f = Err e

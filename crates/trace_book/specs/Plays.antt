@@ -11,10 +11,12 @@ use Rattle.trace_book.specs.declared.view.Phase.TheVariants.{New}
 use Rattle.trace_book.specs.Views.{Has, Rounded, holding, idle, merged, taken_seen, taken_numbers, longer}
 use Rattle.trace_book.specs.Rule.{Sees, Written}
 
+-- a seat as its view and the slots that it has out; there is one slot, for the book
 abbrev pub Seated : Type 0 → Type 0
 Seated O = Me (Option (BoundTo O)) View
 
 module _ {O : Type 0} where
+  -- an empty slot has no history
   abbrev pub history_in : Option (BoundTo O) → List Entry
   history_in (Some b) = b.history
   history_in None = []
@@ -24,15 +26,20 @@ module _ {O : Type 0} where
   history_out [] = []
   history_out (x ∷ xs) = history_in x.1
 
+  -- a new view has the slot out, which is empty, and will give back the history that it was opened with
   abbrev pub Fills : Step (Option (BoundTo O)) → Seated O → ℕ → Seated O → Type 0
   Fills s me found after = (h : List Entry) × (after ≡ (holding me.0 h, (0, None) ∷ [])) × (me.0.phase ≡ New h)
 
+  -- the view will give back the history that the book has now
   abbrev pub Notes : Step (Option (BoundTo O)) → Seated O → ℕ → Seated O → Type 0
   Notes s me found after = after ≡ (holding me.0 (history_out me.1), me.1)
 
+  -- the book goes home with the turn, and the view has seen all that the book has
   abbrev pub GivesBack : Step (Option (BoundTo O)) → Seated O → ℕ → Seated O → Type 0
   GivesBack s me found after = after ≡ (idle me.0 (history_out me.1), rest me.1)
 
+  -- one view took another in: what one of them had seen begins what the other had, it keeps the longer, and no number
+  -- of either gains or loses an event by that
   abbrev pub Merges : Step (Option (BoundTo O)) → Seated O → ℕ → Seated O → Type 0
   Merges s me found after =
       let other = taken_seen me.0.phase in
@@ -50,5 +57,6 @@ module _ {O : Type 0} (piece : Pieces) (out : O → Outgo) where
       (b : BoundTo O) × (after ≡ (holding me.0 b.history, (0, Some b) ∷ [])) × Written piece out me.0.base b.history b
       × Sees b.history me.0.numbers me.0.seen
 
+  -- the turn is had where it was found free, and else nothing changes
   abbrev pub Takes : Step (Option (BoundTo O)) → Seated O → ℕ → Seated O → Type 0
   Takes s me found after = (found ≡ 0 → Took me after) × (found ≢ 0 → after ≡ me)

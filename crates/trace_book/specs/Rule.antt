@@ -18,6 +18,7 @@ use Rattle.trace_book.specs.Views.{Has, Within, Rounded, Opened, base_of, outgo_
 abbrev pub Sees : List Entry → List ℕ → List Entry → Type 0
 Sees h ns seen = IsPrefix seen h × ((i : ℕ) → Has i ns → own i seen ≡ own i h)
 
+-- this one view speaks for each of these numbers
 abbrev pub Speaks : (ℕ → ℕ) → ℕ → List ℕ → Type 0
 Speaks who by ns = (i : ℕ) → Has i ns → who i ≡ by
 
@@ -58,6 +59,7 @@ module _ {O : Type 0} where
     pub voice : (i : ℕ) × Has i v.numbers × Within v.base i
     pub alone : (j : ℕ) (u : View) → get_elem? s.views j ≡ m.some u → (j ≡ by) ⊎ (next_of u.phase ≡ None)
 
+  -- some view has the turn
   abbrev pub IsHeld : List Entry → State (Option (BoundTo O)) View → Type 0
   IsHeld h s = (by : ℕ) × (v : View) × (next : List Entry) × Held h by v next s
 
@@ -79,6 +81,8 @@ module _ {O : Type 0} (piece : Pieces) (out : O → Outgo) where
     pub written : Written o h book
     pub none : (by : ℕ) (v : View) → get_elem? s.views by ≡ m.some v → next_of v.phase ≡ None
 
+  -- what holds of a shelf after every step: its views fit one history of the round, each number is spoken for, and
+  -- either nobody has the turn or one view has it
   pub record Shelved (o : Base) (s : State (Option (BoundTo O)) View) : Type 0 where
     pub history : List Entry
     pub who : ℕ → ℕ
@@ -87,5 +91,6 @@ module _ {O : Type 0} (piece : Pieces) (out : O → Outgo) where
     pub round : Rounded o history
     pub place : AtHome o history s ⊎ IsHeld history s
 
+  -- the same, of a shelf that was opened with this
   abbrev pub Holds : Opened O → State (Option (BoundTo O)) View → Type 0
   Holds key s = Shelved (base_of out key) s

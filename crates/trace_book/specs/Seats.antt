@@ -44,9 +44,11 @@ pub record MayMake {O : Type 0} (me : Seated O) (t : ℕ) (e : Event) : Type 0 w
   pub allowed : (b : Begun) × (first b ≡ me.0.base.opening) → IsLegal me.0.base.opening (history_out me.1)
       → Allowed (replay me.0.base.opening (history_out me.1)) t e
 
+-- a line of a history
 abbrev pub entry : ℕ → Event → Reply → Entry
 entry t e r = record { thread = t; event = e; reply = r }
 
+-- the history of the book that the seat has out, with one entry at its end
 abbrev pub longer_by : {O : Type 0} → Seated O → ℕ → Event → Reply → List Entry
 longer_by me t e r = history_out me.1 ++ entry t e r ∷ []
 
@@ -84,6 +86,7 @@ speaking me ns = (view me.0.base ns me.0.seen Idle, [])
 abbrev pub seen_by_both : {O : Type 0} → Seated O → Seated O → List Entry
 seen_by_both me other = longer me.0.seen other.0.seen
 
+-- who took the other in speaks for the numbers of both, and is without the turn
 abbrev pub taken_in : {O : Type 0} → Seated O → Seated O → Seated O
 taken_in me other = (view me.0.base (me.0.numbers ++ other.0.numbers) (seen_by_both me other) Idle, [])
 
@@ -103,5 +106,6 @@ SameOwn t old new = own t new.0.seen ≡ own t old.0.seen
 abbrev pub SameOf : List ℕ → List Entry → List Entry → Type 0
 SameOf ns history seen = (i : ℕ) → Has i ns → own i history ≡ own i seen
 
+-- if the old history is of the round, so is the new one
 abbrev pub RoundedToo : Base → List Entry → List Entry → Type 0
 RoundedToo o old new = Rounded o old → Rounded o new

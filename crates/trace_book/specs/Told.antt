@@ -20,6 +20,7 @@ pub record Told : Type 0 where
   pub numbers : List ℕ
   pub seen : List Entry
 
+-- a pass tells of its view all but whether it has the turn
 abbrev pub told : TableId → ℕ → View → Told
 told z t v = record { table = z; base = v.base; number = t; numbers = v.numbers; seen = v.seen }
 
@@ -32,6 +33,7 @@ view_in (v ∷ vs) = v
 abbrev pub mine_of : Told → List (Event × Reply)
 mine_of p = own p.number p.seen
 
+-- a new pass speaks for its own number alone, and has seen what the shelf was opened with
 abbrev pub new_pass : TableId → Base → ℕ → Told
 new_pass z o t = record { table = z; base = o; number = t; numbers = t ∷ []; seen = o.first }
 

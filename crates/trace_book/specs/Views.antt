@@ -25,6 +25,7 @@ numbers_from k (suc n) = k ∷ numbers_from (suc k) n
 abbrev pub Within : Base → ℕ → Type 0
 Within o i = (o.from ≤ i) × (i < o.from + o.size)
 
+-- each of the entries is of a number of the round
 abbrev pub AllWithin : Base → List Entry → Type 0
 AllWithin o [] = Unit {0}
 AllWithin o (e ∷ es) = Within o e.thread × AllWithin o es
@@ -35,6 +36,7 @@ pub record Rounded (o : Base) (h : List Entry) : Type 0 where
   pub joined : o.first ++ since ≡ h
   pub each : AllWithin o since
 
+-- what one pass knows, and how it stands to the turn
 abbrev pub view : Base → List ℕ → List Entry → Phase → View
 view o ns seen phase = record { base = o; numbers = ns; seen = seen; phase = phase }
 
@@ -46,9 +48,11 @@ Opened O = BoundTo O × ℕ × ℕ
 abbrev pub start_of : Outgo → Start
 start_of x = record { trace = x.trace; written = x.written; faults = x.faults; flow = x.flow }
 
+-- a start gives back what the outlet was
 abbrev pub outgo_of : Start → Outgo
 outgo_of x = record { trace = x.trace; written = x.written; faults = x.faults; flow = x.flow }
 
+-- what no step of a shelf changes: its book as it was at the opening, and the round
 abbrev pub base_of : {O : Type 0} → (O → Outgo) → Opened O → Base
 base_of out key = record {
   opening = key.0.opening;
@@ -62,6 +66,7 @@ base_of out key = record {
 abbrev pub new_view : Base → View
 new_view o = view o (numbers_from o.from o.size) o.first (New o.first)
 
+-- the same, of a shelf that is opened with this
 abbrev pub first_view : {O : Type 0} → (O → Outgo) → Opened O → View
 first_view out key = new_view (base_of out key)
 
@@ -73,6 +78,7 @@ next_of Idle = None
 next_of (Joined ns seen) = None
 next_of Spent = None
 
+-- another view took it in
 abbrev pub is_spent : Phase → Bool
 is_spent (New next) = false
 is_spent (Holding next) = false
@@ -80,16 +86,20 @@ is_spent Idle = false
 is_spent (Joined ns seen) = false
 is_spent Spent = true
 
+-- the view has the turn, and will give this history back
 abbrev pub holding : View → List Entry → View
 holding v next = view v.base v.numbers v.seen (Holding next)
 
+-- the view is without the turn, and has seen this
 abbrev pub idle : View → List Entry → View
 idle v seen = view v.base v.numbers seen Idle
 
+-- the first number alone, if there is one
 abbrev pub first_of : List ℕ → List ℕ
 first_of [] = []
 first_of (x ∷ xs) = x ∷ []
 
+-- all numbers but the first
 abbrev pub others_of : List ℕ → List ℕ
 others_of [] = []
 others_of (x ∷ xs) = xs
@@ -98,6 +108,7 @@ others_of (x ∷ xs) = xs
 abbrev pub handed : View → View
 handed v = view v.base (first_of v.numbers) v.seen Idle
 
+-- all numbers but the first, and the turn, if it was had
 abbrev pub kept_of : View → View
 kept_of v = view v.base (others_of v.numbers) v.seen v.phase
 
@@ -115,16 +126,20 @@ no_base = record {
   start = record { trace = false; written = None; faults = 0; flow = Open };
 }
 
+-- a view that another took in speaks for no number, has seen nothing and never has the turn
 abbrev pub spent : View
 spent = view no_base [] [] Spent
 
+-- the second where the test holds, and else the first
 abbrev pub longer_if : Bool → List Entry → List Entry → List Entry
 longer_if true xs ys = ys
 longer_if false xs ys = xs
 
+-- the longer of two histories; where they are as long, the second
 abbrev pub longer : List Entry → List Entry → List Entry
 longer xs ys = longer_if (leb (length xs) (length ys)) xs ys
 
+-- the numbers of the view that is still to be taken in
 abbrev pub taken_numbers : Phase → List ℕ
 taken_numbers (New next) = []
 taken_numbers (Holding next) = []
@@ -132,6 +147,7 @@ taken_numbers Idle = []
 taken_numbers (Joined ns seen) = ns
 taken_numbers Spent = []
 
+-- what that view has seen
 abbrev pub taken_seen : Phase → List Entry
 taken_seen (New next) = []
 taken_seen (Holding next) = []

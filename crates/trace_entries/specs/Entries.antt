@@ -29,6 +29,7 @@ reply_in old fields = do
   reply ← reply_at old behind
   last_reply reply.0 reply.1
 
+-- behind an event stands its reply, with which the entry is whole; where that is refused, so is the entry
 abbrev pub with_reply : Bool → ℕ → Event → Fields → Result Entry Cause
 with_reply old thread event fields = do
   reply ← reply_in old fields
@@ -41,6 +42,6 @@ entry_of old fields = do
   event ← event_at old thread.1
   with_reply old thread.0 event.0 event.1
 
--- the fields of a line are split at blanks (32) outside quotes
+-- the fields of a line are split at blanks (32) outside quotes and brackets
 unfoldable pub entry_in : Bool → List ℕ → Result Entry Cause
 entry_in old line = entry_of old (split 32 line)

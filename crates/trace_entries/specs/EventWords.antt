@@ -13,11 +13,13 @@ use Rattle.trace_entries.specs.declared.event_words.MadeEvent.TheVariants as mad
 use Rattle.trace_entries.specs.declared.event_words.EventWord.{EventWord}
 use Rattle.trace_entries.specs.declared.event_words.EventWord.TheVariants as words
 
+-- nothing stands behind these words
 abbrev pub bare_word : BareEvent → List ℕ
 bare_word bare.Wake = codes "wake"
 bare_word bare.PathGet = codes "pathget"
 bare_word bare.Invalidate = codes "invalidate"
 
+-- a dotted name stands behind these
 abbrev pub named_word : NamedEvent → List ℕ
 named_word named.Ask = codes "ask"
 named_word named.Take = codes "take"
@@ -25,17 +27,20 @@ named_word named.Release = codes "release"
 named_word named.TabGet = codes "tabget"
 named_word named.TabDel = codes "tabdel"
 
+-- the number of a module stands behind these, and behind `source` that of a load
 abbrev pub numbered_word : NumberedEvent → List ℕ
 numbered_word numbered.Names = codes "names"
 numbered_word numbered.Source = codes "source"
 numbered_word numbered.NsGet = codes "nsget"
 numbered_word numbered.Rouse = codes "rouse"
 
+-- a spec and a source stand behind these
 abbrev pub made_word : MadeEvent → List ℕ
 made_word made.Add = codes "add"
 made_word made.AddLazy = codes "addlazy"
 made_word made.Main = codes "main"
 
+-- an event begins with its word, which no other event has
 abbrev pub event_word : EventWord → List ℕ
 event_word (words.Bare w) = bare_word w
 event_word (words.Named w) = named_word w
@@ -56,6 +61,7 @@ event_word words.ReloadTake = codes "reloadtake"
 event_word words.ReloadEnd = codes "reloadend"
 event_word words.End = codes "end"
 
+-- the words of all events of format 2, each once
 abbrev pub all_event_words : List EventWord
 all_event_words =
     words.Named named.Ask ∷ words.Named named.Take ∷ words.Bare bare.Wake ∷ words.Made made.Add ∷ words.Finish ∷ words.Named named.Release ∷ words.Get ∷ words.Set ∷ words.Del
@@ -75,8 +81,10 @@ abbrev pub if_known : Bool → EventWord → Option EventWord
 if_known false word = Some word
 if_known true word = if is_new_event word then None else Some word
 
+-- a field is the word of an event where it is spelled so, byte by byte
 unfoldable pub any_event_word : List ℕ → Option EventWord
 any_event_word field = lookup field (map (λ word. (event_word word, word)) all_event_words)
 
+-- the word of an event in one of the two formats; what format 1 lacks is no word there
 unfoldable pub event_word_in : Bool → List ℕ → Option EventWord
 event_word_in old field = option_and_then (if_known old) (any_event_word field)

@@ -39,6 +39,7 @@ pub enum MadeEvent {
     Main,
 }
 
+/// The word that an event begins with, by what stands behind it where several words have that in common.
 #[derive(Clone, Copy, Drop)]
 pub enum EventWord {
     Bare(BareEvent),

@@ -45,6 +45,7 @@ pub enum EpochReply {
     Begun,
 }
 
+/// The word that a reply begins with, by what stands behind it where several words have that in common.
 #[derive(Clone, Copy, Drop)]
 pub enum ReplyWord {
     Bare(BareReply),

@@ -6,10 +6,12 @@ use Rattle.trace_fields.specs.declared.refusal.Cause.TheVariants as cause
 use Rattle.trace_fields.specs.declared.refusal.Refusal.{Refusal}
 use Rattle.trace_fields.specs.declared.refusal.Refusal.TheVariants as refusal
 
+-- the fields that are not read yet, from left to right
 abbrev pub Fields : Type 0
 Fields = List (List ℕ)
 
 infixl 10 ◌>>=◌
+-- reading goes on with what was read; the first refused field ends it, and its cause stays
 abbrev pub ◌>>=◌ : {A B : Type 0} → Result A Cause → (A → Result B Cause) → Result B Cause
 (Ok x) >>= f = f x
 (Err e) >>= f = Err e

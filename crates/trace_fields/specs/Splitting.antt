@@ -17,11 +17,13 @@ next_outside depth b =
 abbrev pub next_quoted : ℕ → ℕ → Scan
 next_quoted depth b = if b == 92 then scan.Escaped depth else if b == 34 then scan.Outside depth else scan.Quoted depth
 
+-- what a byte leads to: in quotes no bracket counts, and the byte behind a backslash neither ends the text nor escapes
 abbrev pub next : Scan → ℕ → Scan
 next (scan.Outside depth) b = next_outside depth b
 next (scan.Quoted depth) b = next_quoted depth b
 next (scan.Escaped depth) b = scan.Quoted depth
 
+-- a byte parts two pieces where it is the separator, and stands outside quotes and outside all brackets
 abbrev pub separates : ℕ → Scan → ℕ → Bool
 separates separator (scan.Outside zero) b = b == separator
 separates separator (scan.Outside (suc depth)) b = false
@@ -38,6 +40,7 @@ abbrev pub split_from : ℕ → Scan → List ℕ → List (List ℕ)
 split_from separator s [] = [] ∷ []
 split_from separator s (b ∷ bs) = if separates separator s b then [] ∷ split_from separator s bs else with_front (b ∷ []) (split_from separator (next s b) bs)
 
+-- the pieces of a whole text, whose first byte stands outside quotes and outside brackets
 unfoldable pub split : ℕ → List ℕ → List (List ℕ)
 split separator text = split_from separator (scan.Outside 0) text
 

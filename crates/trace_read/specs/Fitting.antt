@@ -12,21 +12,26 @@ use Rattle.machine_events.specs.declared.event.Outcome.TheVariants as outcomes
 use Rattle.machine_events.specs.declared.event.Entry.{Entry}
 use Rattle.trace_value_laws.specs.Fitting.{name_fits, place_at_fits, load_fits, module_fits, error_fits, slot_fits, value_fits, values_fit, texts_fit, spec_kind_fits, state_fits, tree_path_fits}
 
+-- threads, modules and loads have numbers below 2 ^ 32
 abbrev pub small_fits : ℕ → Bool
 small_fits n = nat_lt n (2 ^ 32)
 
+-- epochs, times and units have numbers below 2 ^ 64
 abbrev pub number_fits : ℕ → Bool
 number_fits n = nat_lt n (2 ^ 64)
 
+-- a dotted name, and a spec that a trace can hold, so none that is built in
 abbrev pub spec_fits : Spec → Bool
 spec_fits spec = name_fits spec.name && spec_kind_fits spec.kind
 
+-- an error with texts that are UTF-8; the other ends have no parts
 abbrev pub outcome_fits : Outcome → Bool
 outcome_fits outcomes.Normal = true
 outcome_fits outcomes.Fuel = true
 outcome_fits outcomes.Read = true
 outcome_fits (outcomes.Raised error) = error_fits error
 
+-- each part of the event can stand in its field; of a source nothing is asked here
 abbrev pub event_fits : Event → Bool
 event_fits (e.Ask name) = name_fits name
 event_fits (e.Take name) = name_fits name
@@ -58,6 +63,7 @@ event_fits (e.Rouse mid) = small_fits mid
 event_fits (e.Main spec text) = spec_fits spec
 event_fits (e.End outcome spent) = number_fits spent && outcome_fits outcome
 
+-- each part of the reply can stand in its field; of a source nothing is asked here, and replies without parts fit
 abbrev pub reply_fits : Reply → Bool
 reply_fits (r.Module m) = module_fits m
 reply_fits (r.Cycle m) = module_fits m
@@ -82,6 +88,7 @@ reply_fits _ = true
 abbrev pub are_bytes : List ℕ → Bool
 are_bytes bytes = list_all (λ b. nat_lt b 256) bytes
 
+-- the source of an event that has one is bytes
 abbrev pub event_bytes : Event → Bool
 event_bytes (e.Add spec text) = are_bytes text
 event_bytes (e.ReloadTake mid spec text) = are_bytes text
@@ -89,11 +96,13 @@ event_bytes (e.AddLazy spec text) = are_bytes text
 event_bytes (e.Main spec text) = are_bytes text
 event_bytes _ = true
 
+-- the source of a reply that has one is bytes
 abbrev pub reply_bytes : Reply → Bool
 reply_bytes (r.Loaded m text) = are_bytes text
 reply_bytes (r.Yours load text) = are_bytes text
 reply_bytes _ = true
 
+-- all sources in an entry are bytes
 abbrev pub entry_bytes : Entry → Bool
 entry_bytes entry = event_bytes entry.event && reply_bytes entry.reply
 
@@ -104,6 +113,7 @@ is_new_event (e.DirSet dir listing) = true
 is_new_event (e.Main spec text) = true
 is_new_event _ = false
 
+-- format 1 lacks these replies
 abbrev pub is_new_reply : Reply → Bool
 is_new_reply r.NoListing = true
 is_new_reply (r.Listing time part file) = true
@@ -114,8 +124,10 @@ abbrev pub entry_fits : Bool → Entry → Bool
 entry_fits old entry =
     small_fits entry.thread && ((event_fits entry.event && not (old && is_new_event entry.event)) && (reply_fits entry.reply && not (old && is_new_reply entry.reply)))
 
+-- a trace of the format can hold all these entries
 abbrev pub entries_fit : Bool → List Entry → Bool
 entries_fit old entries = list_all (entry_fits old) entries
 
+-- all sources in these entries are bytes
 abbrev pub entries_bytes : List Entry → Bool
 entries_bytes entries = list_all entry_bytes entries

@@ -81,6 +81,7 @@ abbrev pub NoLine : Bool → List ℕ → List (List ℕ) → Cause → Type 0
 NoLine old line [] why = (line ≡ [] → ⊥) × (why ≡ cause.Cut)
 NoLine old line (next ∷ behind) why = Refused old (split 32 line) why
 
+-- the line spells an entry; `old` is format 1
 abbrev pub IsLine : Bool → List ℕ → Type 0
 IsLine old line = (entry : Entry) × (entry_in old line ≡ Ok entry)
 

@@ -11,6 +11,7 @@ abbrev pub first_line_of : Bool → List ℕ
 first_line_of true = codes "pyimport-trace 1" ++ 10 ∷ []
 first_line_of false = first_line
 
+-- the first line of the format, and one line for each entry: but for the first line both formats spell alike
 abbrev pub text_of : Bool → List Entry → List ℕ
 text_of old entries = first_line_of old ++ flat_map line entries
 

@@ -13,21 +13,26 @@ use Rattle.machine_events.specs.declared.event.Entry.{Entry}
 use Rattle.quoted_text.specs.Spelling.{quoted, source}
 use Rattle.trace_text.specs.Values.{name_text, variable_text, texts_text, module_text, error_text, value_text, values_text, spec_text, slot_text, state_text, place_in_path, load_text}
 
+-- the fields of a line or of a part of it, each as it is spelled
 abbrev pub Fields : Type 0
 Fields = List (List ℕ)
 
+-- `raw`, as by the module's own code, is never answered `sleeping`; `soft`, as by an attribute, may be
 abbrev pub raw_word : Bool → List ℕ
 raw_word true = codes "raw"
 raw_word false = codes "soft"
 
+-- `good` where the body ended well, and else `bad`
 abbrev pub good_word : Bool → List ℕ
 good_word true = codes "good"
 good_word false = codes "bad"
 
+-- `init` where the module without the variable was initialising, and else `plain`
 abbrev pub init_word : Bool → List ℕ
 init_word true = codes "init"
 init_word false = codes "plain"
 
+-- `yes` where a name stands in the listing, and else `no`
 abbrev pub yes_word : Bool → List ℕ
 yes_word true = codes "yes"
 yes_word false = codes "no"
@@ -43,6 +48,7 @@ end_fields outcomes.Fuel spent = codes "fuel" ∷ decimal spent ∷ []
 end_fields outcomes.Read spent = codes "read" ∷ decimal spent ∷ []
 end_fields (outcomes.Raised error) spent = codes "raised" ∷ decimal spent ∷ error_text error ∷ []
 
+-- the word of the event, and behind it its parts; dotted names stand bare
 abbrev pub event_fields : Event → Fields
 event_fields (e.Ask name) = codes "ask" ∷ name ∷ []
 event_fields (e.Take name) = codes "take" ∷ name ∷ []
@@ -74,6 +80,7 @@ event_fields (e.Rouse mid) = codes "rouse" ∷ decimal mid ∷ []
 event_fields (e.Main spec text) = codes "main" ∷ spec_fields spec text
 event_fields (e.End outcome spent) = codes "end" ∷ end_fields outcome spent
 
+-- the word of the reply, and behind it its parts; a dotted name stands bare
 abbrev pub reply_fields : Reply → Fields
 reply_fields (r.Module m) = codes "module" ∷ module_text m ∷ []
 reply_fields (r.Cycle m) = codes "cycle" ∷ module_text m ∷ []

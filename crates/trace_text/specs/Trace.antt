@@ -16,6 +16,7 @@ unsplit fields = join_by (λ field. field) (codes " ") fields
 abbrev pub line : Entry → List ℕ
 line entry = unsplit (entry_fields entry) ++ 10 ∷ []
 
+-- a trace says in its first line that it is of format 2
 abbrev pub first_line : List ℕ
 first_line = codes "pyimport-trace 2" ++ 10 ∷ []
 

@@ -64,13 +64,16 @@ error_text e = codes "error(" ++ kind_name e.kind ++ codes "," ++ quoted e.text 
 abbrev pub function_text : ℕ → ℕ → List ℕ → List ℕ
 function_text load index name = codes "func(" ++ decimal load ++ codes "," ++ decimal index ++ codes "," ++ name_text name ++ codes ")"
 
+-- the two truth values, as Python writes them
 abbrev pub bool_text : Bool → List ℕ
 bool_text true = codes "True"
 bool_text false = codes "False"
 
+-- a list: its items in brackets, as `[1,2]`; the empty one is `[]`
 abbrev pub in_brackets : List (List ℕ) → List ℕ
 in_brackets texts = (codes "[" ++ with_commas texts) ++ codes "]"
 
+-- a tuple: its items in parentheses, as `(1,2)`; no comma stands behind a single one, unlike in Python
 abbrev pub in_parentheses : List (List ℕ) → List ℕ
 in_parentheses texts = (codes "(" ++ with_commas texts) ++ codes ")"
 
@@ -91,9 +94,11 @@ value_at Value-F.SysModules = codes "sysmodules"
 value_at Value-F.SysPath = codes "syspath"
 value_at Value-F.NsPath = codes "nspath"
 
+-- a list or a tuple is spelled by the texts of its items, down to the values without items
 abbrev pub value_text : Value → List ℕ
 value_text = fold-Value (List ℕ) value_at
 
+-- values in brackets, as the items of a list are
 abbrev pub values_text : List Value → List ℕ
 values_text values = in_brackets (map value_text values)
 

@@ -15,6 +15,7 @@ abbrev pub two : List (List ℕ) → Option (List ℕ × List ℕ)
 two (a ∷ b ∷ []) = Some (a, b)
 two _ = None
 
+-- exactly three pieces
 abbrev pub three : List (List ℕ) → Option (List ℕ × List ℕ × List ℕ)
 three (a ∷ b ∷ c ∷ []) = Some (a, b, c)
 three _ = None
@@ -23,6 +24,7 @@ three _ = None
 abbrev pub two_in : List ℕ → List ℕ → Option (List ℕ × List ℕ)
 two_in front field = option_and_then (λ inside. two (split 44 inside)) (between front 41 field)
 
+-- `FRONTa,b,c)`: three pieces between commas (44), and the closing parenthesis (41) last
 abbrev pub three_in : List ℕ → List ℕ → Option (List ℕ × List ℕ × List ℕ)
 three_in front field = option_and_then (λ inside. three (split 44 inside)) (between front 41 field)
 

@@ -11,6 +11,7 @@ use Rattle.tree_files.specs.declared.tree.Node.TheVariants.{File, Dir}
 use Rattle.tree_files.specs.declared.tree.Stamp.{Stamp}
 use Rattle.tree_files.specs.declared.tree.Stamp.TheVariants as stamp
 
+-- from each path at which something stands, in the order of their parts, to the one thing that stands there
 abbrev pub Files : Type 0
 Files = FinMap path_cmp Node
 
@@ -18,19 +19,23 @@ Files = FinMap path_cmp Node
 abbrev pub node_at : Files → Path → Option Node
 node_at f p = get f p
 
+-- whether a directory stands there; a file is none, and neither is what is absent
 abbrev pub is_dir : Option Node → Bool
 is_dir (Some (Dir time)) = true
 is_dir (Some (File bytes)) = false
 is_dir None = false
 
+-- whether a file stands there; a directory is none, and neither is what is absent
 abbrev pub is_file : Option Node → Bool
 is_file (Some (File bytes)) = true
 is_file (Some (Dir time)) = false
 is_file None = false
 
+-- a directory of the tree stands at the path
 abbrev pub IsDirAt : Files → Path → Type 0
 IsDirAt f p = IsTrue (is_dir (node_at f p))
 
+-- a file of the tree stands at the path
 abbrev pub IsFileAt : Files → Path → Type 0
 IsFileAt f p = IsTrue (is_file (node_at f p))
 
@@ -39,6 +44,7 @@ pub record IsTree (f : Files) : Type 0 where
   pub root : IsDirAt f []
   pub inside : (p : Path) (part : List ℕ) → IsTrue (is_some (node_at f (p ++ part ∷ []))) → IsDirAt f p
 
+-- what can be known without reading: how long a file is, and which time a directory has
 abbrev pub stamp_of : Option Node → Stamp
 stamp_of None = stamp.Absent
 stamp_of (Some (File bytes)) = stamp.File (length bytes)

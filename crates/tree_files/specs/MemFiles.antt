@@ -10,9 +10,11 @@ use Rattle.tree_files.specs.declared.mem_tree.Due.{Due}
 use Rattle.tree_files.specs.declared.tree.Node.{Node}
 use Rattle.tree_files.specs.declared.tree.Node.TheVariants.{Dir}
 
+-- the files are the entries of the map
 abbrev pub mem_files : BTreeMap Path Node → Files
 mem_files m = from_entries m.entries
 
+-- the map's entries are a tree: the root and all that something stands in are directories
 abbrev pub IsTreeMap : BTreeMap Path Node → Type 0
 IsTreeMap m = IsTree (mem_files m)
 

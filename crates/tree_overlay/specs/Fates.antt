@@ -9,6 +9,7 @@ use Rattle.tree_files.specs.declared.tree.Node.TheVariants.{File, Dir}
 use Rattle.tree_files.specs.declared.edit.Edit.{Edit}
 use Rattle.tree_files.specs.declared.edit.Edit.TheVariants as edit
 
+-- what becomes of one path by the edits
 pub data Fate : Type 0 where
   -- what stands there stays
   Kept : Fate
@@ -19,12 +20,14 @@ pub data Fate : Type 0 where
   -- nothing stands there
   Gone : Fate
 
+-- what stands at the path after this fate, by what stood there before
 abbrev pub node_by : Fate → Option Node → Option Node
 node_by Kept before = before
 node_by Way before = if is_dir before then before else Some (Dir 0)
 node_by (Put node) before = Some node
 node_by Gone before = None
 
+-- the same parts in the same order
 abbrev pub is_same : Path → Path → Bool
 is_same p q = pointwise (pointwise nat_eq) p q
 
@@ -42,6 +45,7 @@ after (edit.File at bytes) p fate = if is_same at p then Put (File bytes) else (
 after (edit.Dir at time) p fate = if is_same at p then Put (Dir time) else (if is_within p at then way fate else fate)
 after (edit.Remove at) p fate = if is_within at p then Gone else fate
 
+-- the edits one after another, on a path that already had a fate
 abbrev pub fate_from : Fate → List Edit → Path → Fate
 fate_from fate [] p = fate
 fate_from fate (e ∷ es) p = fate_from (after e p fate) es p

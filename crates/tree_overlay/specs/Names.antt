@@ -18,6 +18,7 @@ part_after [] (part ∷ rest) = Some part
 part_after (above ∷ dir) [] = None
 part_after (above ∷ dir) (part ∷ rest) = if pointwise nat_eq above part then part_after dir rest else None
 
+-- where the edit puts something, or what it removes with all below it
 abbrev pub path_of : Edit → Path
 path_of (edit.File at bytes) = at
 path_of (edit.Dir at time) = at

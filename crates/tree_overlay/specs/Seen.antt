@@ -4,6 +4,7 @@ use Rattle.tree_overlay.specs.Fates.{Fate, Kept, Way, Put, Gone}
 use Rattle.tree_overlay.specs.declared.fate.Seen.{Seen}
 use Rattle.tree_overlay.specs.declared.fate.Seen.TheVariants as seen
 
+-- which fate the code means; a file and a directory are both what was put there
 abbrev pub fate_in : Seen → Fate
 fate_in seen.Kept = Kept
 fate_in seen.Way = Way

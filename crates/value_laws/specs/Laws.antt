@@ -47,6 +47,7 @@ abbrev pub IsRemainder : ℤ → ℤ → Type 0
 IsRemainder (pos b) r = (pos 0 ≤ℤ r) × (r <ℤ pos b)
 IsRemainder (negsuc b) r = (negsuc b <ℤ r) × (r ≤ℤ pos 0)
 
+-- quotient times divisor, and the remainder, are the number (Language Reference 6.7: "x == (x//y)*y + (x%y)")
 pub record IsDivision (a b q r : ℤ) : Type 0 where
   pub whole : q *ℤ b +ℤ r ≡ a
   pub sign : IsRemainder b r

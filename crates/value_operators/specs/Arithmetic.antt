@@ -25,17 +25,21 @@ abbrev pub floor_quotient : ℤ → ℤ → ℤ
 floor_quotient a (pos b) = int_div_euclid a (pos b)
 floor_quotient a (negsuc b) = int_div_euclid (neg_ℤ a) (pos (suc b))
 
+-- the remainder that goes with that quotient: 0, or of the divisor's sign (Language Reference 6.7)
 abbrev pub floor_remainder : ℤ → ℤ → ℤ
 floor_remainder a (pos b) = int_rem_euclid a (pos b)
 floor_remainder a (negsuc b) = neg_ℤ (int_rem_euclid (neg_ℤ a) (pos (suc b)))
 
+-- the error of a division by 0, of `//` and `%` alike (Language Reference 6.7)
 abbrev pub by_zero : Applied
 by_zero = raises kinds.ZeroDivisionError (codes "division by zero")
 
+-- `//` of two numbers: the quotient rounded down; the least number divided by -1 is past 128 bits
 abbrev pub divided : ℤ → ℤ → Applied
 divided a (pos zero) = by_zero
 divided a b = number (fitting (floor_quotient a b))
 
+-- `%` of two numbers: the remainder that goes with the quotient of `//`
 abbrev pub remainder : ℤ → ℤ → Applied
 remainder a (pos zero) = by_zero
 remainder a b = number (fitting (floor_remainder a b))
@@ -48,6 +52,7 @@ calculated ops.Mul a b = number (fitting (a *ℤ b))
 calculated ops.FloorDiv a b = divided a b
 calculated ops.Mod a b = remainder a b
 
+-- the TypeError where the operator is not for values of these two types, which it names
 abbrev pub unsupported : BinOp → Value → Value → Applied
 unsupported op left right =
     type_error (codes "unsupported operand type(s) for " ++ written op ++ codes ": '" ++ type_name left ++ codes "' and '" ++ type_name right ++ codes "'")
@@ -59,6 +64,7 @@ joined (Value-F.List a) (Value-F.List b) otherwise = limited (values.List (a ++ 
 joined (Value-F.Tuple a) (Value-F.Tuple b) otherwise = limited (values.Tuple (a ++ b))
 joined left right otherwise = otherwise
 
+-- the text as often as the number says, one behind the other
 abbrev pub copies : ℕ → List ℕ → List ℕ
 copies zero text = []
 copies (suc n) text = copies n text ++ text
@@ -75,6 +81,7 @@ times (Value-F.List items) n otherwise = not_in_profile
 times (Value-F.Tuple items) n otherwise = not_in_profile
 times value n otherwise = otherwise
 
+-- `*` where just one operand is a number: what the other one becomes; two numbers, or none, have the other outcome
 abbrev pub repeated : Value → Value → Option ℤ → Option ℤ → Applied → Applied
 repeated left right (Some n) None otherwise = times (out-Value right) n otherwise
 repeated left right None (Some n) otherwise = times (out-Value left) n otherwise
@@ -93,10 +100,12 @@ combined ops.Mod left right = formatted (out-Value left) (unsupported ops.Mod le
 combined ops.Sub left right = unsupported ops.Sub left right
 combined ops.FloorDiv left right = unsupported ops.FloorDiv left right
 
+-- two numbers are calculated with; any other two are combined by what they are
 abbrev pub by_numbers : BinOp → Value → Value → Option ℤ → Option ℤ → Applied
 by_numbers op left right (Some a) (Some b) = calculated op a b
 by_numbers op left right _ _ = combined op left right
 
+-- an operator between two values (Language Reference 6.7); what stands for something in the machine is no operand
 abbrev pub binary : BinOp → Value → Value → Applied
 binary op left right =
     if is_special left || is_special right then not_in_profile
@@ -107,12 +116,15 @@ abbrev pub augmented_at : BinOp → Value-F Value → Applied → Applied
 augmented_at ops.Add (Value-F.List items) otherwise = not_in_profile
 augmented_at op left otherwise = otherwise
 
+-- what an augmented assignment computes: as the operator does, but for `+=` on a list (Language Reference 7.2.1)
 abbrev pub augmented : BinOp → Value → Value → Applied
 augmented op left right = augmented_at op (out-Value left) (binary op left right)
 
+-- a number changes its sign, where 128 bits hold that; any other value has no unary minus
 abbrev pub negated_number : Value → Option ℤ → Applied
 negated_number value (Some n) = number (fitting (neg_ℤ n))
 negated_number value None = type_error (codes "bad operand type for unary -: '" ++ type_name value ++ codes "'")
 
+-- unary minus (Language Reference 6.6); what stands for something in the machine is no operand
 abbrev pub negated : Value → Applied
 negated value = if is_special value then not_in_profile else negated_number value (number_of value)

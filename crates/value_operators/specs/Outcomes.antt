@@ -15,9 +15,11 @@ use Rattle.py_value.specs.Measures.{nesting_of}
 abbrev pub raises : Kind → List ℕ → Applied
 raises kind text = applied.Raised (record { kind = kind; text = text; name = None })
 
+-- the error of an operation that is not for values of such types
 abbrev pub type_error : List ℕ → Applied
 type_error text = raises kinds.TypeError text
 
+-- the error of what this language leaves out, or of what is past its limits; no `except` takes it
 abbrev pub profile_error : List ℕ → Applied
 profile_error text = raises kinds.ProfileError text
 
@@ -32,6 +34,7 @@ is_special_at Value-F.SysPath = true
 is_special_at Value-F.NsPath = true
 is_special_at _ = false
 
+-- whether the value itself stands for something in the machine; one that holds such a value does not
 abbrev pub is_special : Value → Bool
 is_special value = is_special_at (out-Value value)
 
@@ -45,6 +48,7 @@ is_plain_at (Value-F.List are_plain) = list_all (λ b. b) are_plain
 is_plain_at (Value-F.Tuple are_plain) = list_all (λ b. b) are_plain
 is_plain_at _ = true
 
+-- whether the value neither is nor holds, at any depth, an error or a special value
 abbrev pub is_plain : Value → Bool
 is_plain = fold-Value Bool is_plain_at
 
@@ -53,11 +57,13 @@ abbrev pub bool_number : Bool → ℤ
 bool_number true = pos 1
 bool_number false = pos 0
 
+-- only a Bool and an Int are numbers; a text is none, whatever it spells
 abbrev pub number_at : Value-F Value → Option ℤ
 number_at (Value-F.Bool b) = Some (bool_number b)
 number_at (Value-F.Int n) = Some n
 number_at _ = None
 
+-- the number that a value counts as for an operator or as an index, if it is one
 abbrev pub number_of : Value → Option ℤ
 number_of value = number_at (out-Value value)
 
@@ -66,6 +72,7 @@ abbrev pub is_long_text : Value-F Value → Bool
 is_long_text (Value-F.Text text) = nat_lt 65536 (length text)
 is_long_text _ = false
 
+-- whether it has more than 4,096 items of its own; what these hold is not counted
 abbrev pub is_long_list : Value-F Value → Bool
 is_long_list (Value-F.List items) = nat_lt 4096 (length items)
 is_long_list (Value-F.Tuple items) = nat_lt 4096 (length items)
@@ -84,9 +91,11 @@ abbrev pub fitting : ℤ → Option ℤ
 fitting (pos n) = if nat_lt n (2 ^ 127) then Some (pos n) else None
 fitting (negsuc n) = if nat_lt n (2 ^ 127) then Some (negsuc n) else None
 
+-- a number that fits is the value, and one that does not is past the limits
 abbrev pub number : Option ℤ → Applied
 number (Some n) = applied.Value (values.Int n)
 number None = profile_error (codes "number past 128 bits")
 
+-- the answer of a test is a Bool
 abbrev pub truth_value : Bool → Applied
 truth_value b = applied.Value (values.Bool b)

@@ -19,9 +19,11 @@ use Rattle.value_operators.specs.declared.quoting.Quote.{Quote}
 use Rattle.value_operators.specs.declared.quoting.Quote.TheVariants as quotes
 use Rattle.value_operators.specs.Outcomes.{not_in_profile, profile_error, is_plain, limited}
 
+-- whether the byte stands anywhere in the text
 abbrev pub has_byte : ℕ → List ℕ → Bool
 has_byte byte text = list_any (λ b. b == byte) text
 
+-- `'` is 39 and `"` is 34
 abbrev pub quote_byte : Quote → ℕ
 quote_byte quotes.Single = 39
 quote_byte quotes.Double = 34
@@ -30,6 +32,7 @@ quote_byte quotes.Double = 34
 abbrev pub quote_of : List ℕ → Quote
 quote_of text = if has_byte 39 text && not (has_byte 34 text) then quotes.Double else quotes.Single
 
+-- for a number below 16: 0 to 9, and a to f in lower case
 abbrev pub hex_digit : ℕ → ℕ
 hex_digit n = if nat_lt n 10 then 48 + n else 87 + n
 
@@ -47,15 +50,19 @@ escape quote b =
     else if b == 9 then codes "\\t"
     else codes "\\x" ++ (hex_digit (b / 16) ∷ hex_digit (b % 16) ∷ [])
 
+-- a byte that needs no escape stands for itself
 abbrev pub escaped : ℕ → ℕ → List ℕ
 escaped quote b = if is_escaped quote b then escape quote b else b ∷ []
 
+-- the text between two quotes of this kind, which are escaped where they stand in it
 abbrev pub quoted_in : ℕ → List ℕ → List ℕ
 quoted_in quote text = (quote ∷ flat_map (escaped quote) text) ++ quote ∷ []
 
+-- a text as `repr` writes it: in the quote that suits it
 abbrev pub quoted : List ℕ → List ℕ
 quoted text = quoted_in (quote_byte (quote_of text)) text
 
+-- items are parted by a comma and a blank
 abbrev pub with_commas : List (List ℕ) → List ℕ
 with_commas texts = join_by (λ text. text) (codes ", ") texts
 
@@ -73,18 +80,23 @@ abbrev pub native_opening : Native → List ℕ
 native_opening natives.Str = codes "<class '"
 native_opening _ = codes "<built-in function "
 
+-- what closes a native's text, as it was opened
 abbrev pub native_end : Native → List ℕ
 native_end natives.Str = codes "'>"
 native_end _ = codes ">"
 
+-- a native as `repr` writes it: a built-in function, or the class `str`
 abbrev pub native_text : Native → List ℕ
 native_text native = native_opening native ++ native_name native ++ native_end native
 
+-- what follows a module's name (`_module_repr_from_spec` of `importlib._bootstrap`): its file, or what it is else;
+-- the portions of a namespace are left out
 abbrev pub place_text : Place → List ℕ
 place_text (places.File file) = codes " from " ++ quoted file ++ codes ">"
 place_text places.BuiltIn = codes " (built-in)>"
 place_text places.Namespace = codes " (namespace)>"
 
+-- as the two keywords are written
 abbrev pub bool_text : Bool → List ℕ
 bool_text true = codes "True"
 bool_text false = codes "False"
@@ -103,9 +115,11 @@ repr_at (Value-F.Kind kind) = codes "<class '" ++ kind_name kind ++ codes "'>"
 repr_at (Value-F.Module held) = codes "<module " ++ quoted held.name ++ place_text held.place
 repr_at _ = []
 
+-- the text of a value with all that it holds
 abbrev pub repr_text : Value → List ℕ
 repr_text = fold-Value (List ℕ) repr_at
 
+-- `repr`: what is not plain has no text, and a text that is too long is past the limits
 abbrev pub repr_of : Value → Applied
 repr_of value = if is_plain value then limited (values.Text (repr_text value)) else not_in_profile
 
@@ -115,6 +129,7 @@ str_at (Value-F.Text text) otherwise = limited (values.Text text)
 str_at (Value-F.Error error) otherwise = limited (values.Text error.text)
 str_at value otherwise = otherwise
 
+-- `str`: here alone has an error a text, though it is not plain
 abbrev pub str_of : Value → Applied
 str_of value = str_at (out-Value value) (repr_of value)
 
@@ -123,6 +138,7 @@ abbrev pub put : Draft → List ℕ → Draft
 put (drafts.Within text) piece = if nat_lt 65536 (length (text ++ piece)) then drafts.Over else drafts.Within (text ++ piece)
 put drafts.Over piece = drafts.Over
 
+-- a text that stayed within the limit is the value; one that ran over is past the limits
 abbrev pub finished : Draft → Applied
 finished (drafts.Within text) = applied.Value (values.Text text)
 finished drafts.Over = profile_error (codes "text too long")

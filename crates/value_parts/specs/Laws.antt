@@ -1,4 +1,5 @@
--- What a thread knows of the modules and functions in values, through the operators. `KnowsAll s v` says that each module in
+-- What a thread knows of the modules and functions in values, through the operators. `KnowsAll s v` says that each
+-- module in
 -- v, at any depth, exists with its name and place, and that each load whose function stands in v exists.
 use Rattle.std.specs.Prelude.{◌≡◌, ℕ, Bool, false, List, ℤ, Some}
 use Rattle.std.specs.List.{slice_get}
@@ -47,24 +48,31 @@ pub record PlainValues (s : Shown) : Type 0 where
   pub function : (load index : ℕ) (name : List ℕ) → Has s.loads load → KnowsAll s (values.Func load index name)
   pub module_of : (m : ModRef) → Has s.modules m → KnowsAll s (values.Module m)
 
+-- values by themselves are known so, whatever a thread has been shown
 abbrev pub PlainValuesHold : Type 0
 PlainValuesHold = (s : Shown) → PlainValues s
 
+-- a list and a tuple of these items are known
 pub record Displays (s : Shown) (items : List Value) : Type 0 where
   pub list : KnowsAll s (values.List items)
   pub tuple : KnowsAll s (values.Tuple items)
 
+-- what is made of items that are all known is known
 abbrev pub DisplaysHold : Type 0
 DisplaysHold = (s : Shown) (items : List Value) → KnowsItems s items → Displays s items
 
+-- the items of a list or tuple that is known are known, and so is each one by itself
 pub record KnownParts (s : Shown) (items : List Value) : Type 0 where
   pub of_list : KnowsAll s (values.List items) → KnowsItems s items
   pub of_tuple : KnowsAll s (values.Tuple items) → KnowsItems s items
   pub one : (at : ℕ) (item : Value) → KnowsItems s items → slice_get items at ≡ Some item → KnowsAll s item
 
+-- the parts of lists and tuples are known so, whatever a thread has been shown
 abbrev pub ItemsAreKnown : Type 0
 ItemsAreKnown = (s : Shown) (items : List Value) → KnownParts s items
 
+-- what an operator gives is known. Where it may be, hold or come out of an operand, the operand is known first;
+-- numbers, texts and the answers of tests hold no module and no function, so nothing need be known for them
 pub record Operators (s : Shown) : Type 0 where
   pub binary : (op : BinOp) (left right : Value) → KnowsAll s left → KnowsAll s right → KnowsApplied s (binary op left right)
   pub augmented : (op : BinOp) (left right : Value) → KnowsAll s left → KnowsAll s right → KnowsApplied s (augmented op left right)
@@ -77,8 +85,10 @@ pub record Operators (s : Shown) : Type 0 where
   pub str : (value : Value) → KnowsApplied s (str_of value)
   pub repr : (value : Value) → KnowsApplied s (repr_of value)
 
+-- what operators give is known so, whatever a thread has been shown
 abbrev pub OperatorsHold : Type 0
 OperatorsHold = (s : Shown) → Operators s
 
+-- what is known stays known, whatever event and reply come next
 abbrev pub MoreIsKnown : Type 0
 MoreIsKnown = (s : Shown) (event : Event) (reply : Reply) (v : Value) → KnowsAll s v → KnowsAll (shown_more s (event, reply)) v

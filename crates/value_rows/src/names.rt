@@ -8,6 +8,7 @@ use spec_core::{
 };
 use std::alloc::Global;
 
+/// Whether the word is that of a call that is answered here: one on names, on paths or on maps.
 pub fn is_call(word: &str) -> bool {
     matches!(
         word,

@@ -6,6 +6,7 @@ use quoted_text::{read_quoted, read_source, write_quoted, write_source};
 use row_words::{Row, RowError};
 use std::alloc::Global;
 
+/// Whether the word is that of a call that is answered here: one on how a number, a text or a source is spelled.
 pub fn is_call(word: &str) -> bool {
     matches!(word, "number" | "text" | "source" | "bytes" | "quote")
 }

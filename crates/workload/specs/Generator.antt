@@ -1,5 +1,6 @@
 -- A made workload: modules that import earlier ones, and scripts that import modules. Its numbers come from a linear
--- congruential generator, so one seed makes the same workload on each machine. No chain of imports is longer than 14 modules.
+-- congruential generator, so one seed makes the same workload on each machine. No chain of imports is longer than 14
+-- modules.
 use Rattle.std.specs.Prelude.{◌≡◌, ℕ, zero, suc, ◌+◌, ◌*◌, ◌/◌, ◌%◌, ◌^◌, ◌==◌, List, [], ◌∷◌, ◌++◌, codes, if◌then◌else◌, false}
 use Rattle.std.specs.Fmt.{decimal}
 use Rattle.tree_files.specs.Files.{Files, node_at, is_dir}
@@ -7,6 +8,7 @@ use Rattle.tree_files.specs.Edits.{placed}
 use Rattle.tree_files.specs.MemFiles.{root_alone}
 use Rattle.tree_files.specs.declared.tree.Node.TheVariants.{File}
 
+-- a name or a text, as its bytes
 abbrev pub Word : Type 0
 Word = List ℕ
 
@@ -23,15 +25,19 @@ after (suc n) x = stepped (after n x)
 abbrev pub drawn : ℕ → ℕ → ℕ
 drawn bound x = (x / 2 ^ 33) % bound
 
+-- modules are m0, m1 and so on
 abbrev pub module_name : ℕ → Word
 module_name i = codes "m" ++ decimal i
 
+-- scripts are s0, s1 and so on, so none has the name of a module
 abbrev pub script_name : ℕ → Word
 script_name s = codes "s" ++ decimal s
 
+-- the file of a module or of a script is its name with `.py` behind it
 abbrev pub file_of : Word → Word
 file_of name = name ++ codes ".py"
 
+-- one line, `import mI`
 abbrev pub import_of : ℕ → Word
 import_of i = codes "import " ++ (module_name i ++ codes "\n")
 
@@ -48,6 +54,7 @@ own_lines i = codes "print(\"" ++ (module_name i ++ (codes "\")\nx = " ++ (decim
 abbrev pub imports_in : ℕ → ℕ
 imports_in i = if i == 0 then 0 else 2
 
+-- first the imports of earlier modules, by the draws from state x on, then the own lines
 abbrev pub module_text : ℕ → ℕ → Word
 module_text i x = imports_of ((i + 1) / 2) (imports_in i) x ++ own_lines i
 
@@ -65,6 +72,7 @@ abbrev pub before_script : ℕ → ℕ → ℕ
 before_script zero x = x
 before_script (suc s) x = after 4 (before_script s x)
 
+-- each module and each script is one file in the root
 abbrev pub with_file : Files → Word → Word → Files
 with_file files name text = placed files (file_of name ∷ []) (File text)
 

@@ -23,12 +23,15 @@ use Rattle.base_types.specs.contracts.seq.Seq.TheInside as inside
 abbrev pub the_former : Former {0} → Former {0}
 the_former items = list items
 
+-- where its items can be measured a `Seq` can, as a list of them
 abbrev pub the_weighed : {items : Former {0}} → Weighed items → Weighed (the_former items)
 the_weighed weighed = w_list weighed
 
+-- a `Seq` may be empty, even where there is no item that it could hold
 pub the_empty : List ⊥
 the_empty = []
 
+-- the items of a `Seq` are those of the list that it is seen as, in its order
 abbrev pub the_items : (X : Type 0) → List X → List X
 the_items X xs = xs
 
