@@ -1,9 +1,9 @@
 //! A desk as a port.
 ghost use Rattle.std.specs.Prelude.{◌≡◌};
-ghost use Rattle.machine_book.specs.Sight.{Sight, IsReady, Continues};
+ghost use Rattle.machine_desk.specs.Sight.{Sight, IsReady, Continues};
 ghost use Rattle.script_port.specs.View.{View};
 
-use machine_book::Desk;
+use machine_desk::Desk;
 use machine_events::{Event, Reply};
 use script_port::{Halt, Port};
 

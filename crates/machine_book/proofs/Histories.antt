@@ -13,7 +13,7 @@ use Rattle.machine_state.specs.Legal.{Allowed, replay, IsLegal}
 use Rattle.machine_laws.specs.Begun.{Begun, first}
 use Rattle.thread_knowledge.specs.Knowing.{Knows, Waits}
 use Rattle.thread_knowledge.specs.Own.{own, Ready, IsLone}
-use Rattle.machine_book.specs.Histories.{OnlyOf, is_only_of}
+use Rattle.machine_desk.specs.Histories.{OnlyOf, is_only_of}
 
 pub replay_snoc : (s : State) (h : List Entry) (e : Entry) → replay s (h ++ e ∷ []) ≡ (step (replay s h) e.thread e.event).1
 replay_snoc s [] e = refl

@@ -1,6 +1,2 @@
-pub mod Histories
-pub mod Outgo
-pub mod StartCode
-pub mod Sight
 pub mod Bound
 pub mod Reads

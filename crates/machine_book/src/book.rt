@@ -4,13 +4,13 @@ ghost use Rattle.machine_events.specs.Fitting.{Fits};
 ghost use Rattle.machine_state.specs.Legal.{Allowed, IsLegal, replay};
 ghost use Rattle.machine_laws.specs.Begun.{Begun, first};
 ghost use Rattle.machine_book.specs.Bound.{opened, CanOpen};
-ghost use Rattle.machine_book.specs.Outgo.{Kept};
+ghost use Rattle.machine_desk.specs.Outgo.{Kept};
 
 use crate::answered::answered;
 use crate::opening::Opening;
-use crate::outlet::Outlet;
 use base_types::{NoMemory, Seq};
 use import_machine::Machine;
+use machine_desk::Outlet;
 use machine_events::{Entry, Event, Reply};
 use std::marker::Model;
 

@@ -4,13 +4,9 @@
 
 mod answered;
 mod book;
-mod desk;
 mod opening;
-mod outlet;
 mod solo;
 
 pub use book::Book;
-pub use desk::{Desk, Halt};
 pub use opening::Opening;
-pub use outlet::{Flow, Outlet, outlets_keep_up};
 pub use solo::{Borrowed, SoloDesk};

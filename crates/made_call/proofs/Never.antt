@@ -4,8 +4,8 @@ use Rattle.machine_events.specs.declared.event.Entry.{Entry}
 use Rattle.machine_events.specs.declared.event.Outcome.{Outcome}
 use Rattle.machine_events.specs.declared.event.Outcome.TheVariants as outcome
 use Rattle.thread_knowledge.specs.Own.{own}
-use Rattle.machine_book.specs.declared.outlet.Flow.{Flow}
-use Rattle.machine_book.specs.declared.outlet.Flow.TheVariants.{Open, Failed, Short}
+use Rattle.machine_desk.specs.declared.outlet.Flow.{Flow}
+use Rattle.machine_desk.specs.declared.outlet.Flow.TheVariants.{Open, Failed, Short}
 use Rattle.program_call.specs.Alone.{Means}
 use Rattle.program_call.specs.Counts.{read_at, reads_of}
 use Rattle.program_call.specs.Ends.{end_of, number_at, status_of}

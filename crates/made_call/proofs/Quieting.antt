@@ -3,8 +3,8 @@ use Rattle.std.proofs.Common.{◌≡◌, ◌⊎◌, ◌∙◌, refl, sym, ap, su
 use Rattle.tree_files.specs.Files.{Files}
 use Rattle.tree_files.specs.Count.{raised, Rose}
 use Rattle.machine_events.specs.declared.event.Entry.{Entry}
-use Rattle.machine_book.specs.declared.outlet.Flow.{Flow}
-use Rattle.machine_book.specs.declared.outlet.Flow.TheVariants.{Open, Failed, Short}
+use Rattle.machine_desk.specs.declared.outlet.Flow.{Flow}
+use Rattle.machine_desk.specs.declared.outlet.Flow.TheVariants.{Open, Failed, Short}
 use Rattle.import_words.specs.declared.plan.RunPlan.{RunPlan}
 use Rattle.program_call.specs.Alone.{Means, setting, whole as run_whole, part as run_part}
 use Rattle.program_call.specs.Prints.{out_text}

@@ -3,8 +3,8 @@ use Rattle.std.specs.Prelude.{◌≡◌, ◌⊎◌, ℕ, false, List, [], ◌∷
 use Rattle.machine_events.specs.declared.event.Entry.{Entry}
 use Rattle.machine_state.specs.declared.state.State.{State}
 use Rattle.machine_state.specs.Legal.{IsLegal}
-use Rattle.machine_book.specs.declared.outlet.Flow.{Flow}
-use Rattle.machine_book.specs.declared.outlet.Flow.TheVariants.{Open, Failed, Short}
+use Rattle.machine_desk.specs.declared.outlet.Flow.{Flow}
+use Rattle.machine_desk.specs.declared.outlet.Flow.TheVariants.{Open, Failed, Short}
 use Rattle.import_words.specs.Words.{Word}
 use Rattle.import_words.specs.declared.plan.RunPlan.{RunPlan}
 use Rattle.program_call.specs.Alone.{Means, setting, opening_of}

@@ -5,7 +5,7 @@ ghost use Rattle.program_call.specs.Sinks.{at};
 ghost use Rattle.made_call.specs.MadeRuns.{status_after, Summed};
 
 use crate::worst::worst_in;
-use machine_book::Flow;
+use machine_desk::Flow;
 use machine_events::Entry;
 use program_call::{SINK_FAULT, WANT_OF_MEMORY, say_line};
 use run_summary::write_summary;

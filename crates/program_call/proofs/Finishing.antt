@@ -3,8 +3,8 @@ use Rattle.std.proofs.Common.{◌≡◌, ◌⊎◌, inl, inr, ℕ, max, List, []
 use Rattle.std.proofs.lemmas.List.{append-nil, append_assoc}
 use Rattle.base_types.specs.declared.no_memory.NoMemory.{NoMemory}
 use Rattle.machine_events.specs.declared.event.Entry.{Entry}
-use Rattle.machine_book.specs.declared.outlet.Flow.{Flow}
-use Rattle.machine_book.specs.declared.outlet.Flow.TheVariants.{Open, Failed, Short}
+use Rattle.machine_desk.specs.declared.outlet.Flow.{Flow}
+use Rattle.machine_desk.specs.declared.outlet.Flow.TheVariants.{Open, Failed, Short}
 use Rattle.script_end.specs.declared.end.Ending.{Ending}
 use Rattle.program_call.specs.Statuses.{sink_fault, want_of_memory}
 use Rattle.program_call.specs.Ends.{err_text, status_of}

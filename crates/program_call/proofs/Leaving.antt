@@ -4,10 +4,10 @@ use Rattle.std.proofs.lemmas.List.{append-nil, take-append-drop}
 use Rattle.tree_files.specs.Count.{Rose}
 use Rattle.tree_files.specs.Writing.{appended, HasPrefixOf}
 use Rattle.machine_events.specs.declared.event.Entry.{Entry}
-use Rattle.machine_book.specs.declared.outlet.Flow.{Flow}
-use Rattle.machine_book.specs.declared.outlet.Flow.TheVariants.{Open, Failed, Short}
-use Rattle.machine_book.proofs.Keeping.{appends_then, part_then, part_still}
-use Rattle.machine_book.specs.Outgo.{Outgo, Kept, Flows, FlowsFrom, Appends, AppendsPart, text_of}
+use Rattle.machine_desk.specs.declared.outlet.Flow.{Flow}
+use Rattle.machine_desk.specs.declared.outlet.Flow.TheVariants.{Open, Failed, Short}
+use Rattle.machine_desk.proofs.Keeping.{appends_then, part_then, part_still}
+use Rattle.machine_desk.specs.Outgo.{Outgo, Kept, Flows, FlowsFrom, Appends, AppendsPart, text_of}
 use Rattle.program_call.specs.Statuses.{sink_fault}
 use Rattle.program_call.specs.Prints.{piece, opening_text, out_text}
 use Rattle.program_call.specs.Ends.{err_text, status_of}

@@ -12,7 +12,7 @@ use Rattle.machine_state.specs.declared.state.State.{State}
 use Rattle.machine_state.specs.Legal.{IsLegal}
 use Rattle.machine_state.specs.Opening.{round_starts}
 use Rattle.machine_book.specs.Bound.{BoundTo}
-use Rattle.machine_book.specs.Outgo.{Outgo, Pieces, Kept}
+use Rattle.machine_desk.specs.Outgo.{Outgo, Pieces, Kept}
 use Rattle.thread_knowledge.specs.Own.{own}
 use Rattle.run_rules.specs.Runs.{Run}
 use Rattle.run_rules.specs.Follows.{Follows}

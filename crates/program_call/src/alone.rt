@@ -2,7 +2,7 @@
 ghost use Rattle.std.specs.Prelude.{◌≡◌, ◌≤◌, ◌∷◌, [], length};
 ghost use Rattle.machine_state.specs.Legal.{IsLegal};
 ghost use Rattle.machine_book.specs.Bound.{opened, CanOpen};
-ghost use Rattle.machine_book.specs.Outgo.{Kept};
+ghost use Rattle.machine_desk.specs.Outgo.{Kept};
 ghost use Rattle.thread_knowledge.specs.Own.{own};
 ghost use Rattle.round_run.specs.Ran.{Ran, counted};
 ghost use Rattle.program_call.specs.Runs.{Gives};
@@ -15,7 +15,8 @@ use crate::report::{Left, of_run, unbegun};
 use crate::scripts::Scripts;
 use base_types::Seq;
 use import_words::RunPlan;
-use machine_book::{Book, Outlet, SoloDesk};
+use machine_book::{Book, SoloDesk};
+use machine_desk::Outlet;
 use machine_events::Entry;
 use std::alloc::Global;
 use tree_files::{Sink, Tree};

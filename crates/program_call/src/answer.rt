@@ -19,7 +19,7 @@ use crate::scripts::Scripts;
 use crate::status::{REFUSAL, SINK_FAULT, TREE_FAULT, WANT_OF_MEMORY};
 use base_types::{NoMemory, Seq};
 use import_words::{Plan, RunPlan, WordsError, read_words, usage_line};
-use machine_book::Flow;
+use machine_desk::Flow;
 use round_run::Gate;
 use std::alloc::Global;
 use std::sync::Wait;

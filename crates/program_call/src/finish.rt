@@ -1,7 +1,7 @@
 //! What is said when all scripts are over.
 ghost use Rattle.std.specs.Prelude.{◌≡◌, ◌≤◌, ◌⊎◌, ℕ, List, IfOk, OnOk, OnErr, length};
 ghost use Rattle.machine_events.specs.declared.event.Entry.{Entry};
-ghost use Rattle.machine_book.specs.declared.outlet.Flow.{Flow};
+ghost use Rattle.machine_desk.specs.declared.outlet.Flow.{Flow};
 ghost use Rattle.program_call.specs.Ends.{err_text, status_of};
 ghost use Rattle.program_call.specs.Results.{number_by, worst_by, lines_by, AreWhole, AllEnded};
 ghost use Rattle.program_call.specs.Sinks.{at, Gets, status_by};
@@ -11,7 +11,7 @@ use crate::line::line_of;
 use crate::outlet::say;
 use crate::status::{ERROR_END, NORMAL_END, SINK_FAULT, SPENT_BUDGET, TREE_FAULT, WANT_OF_MEMORY};
 use base_types::{NoMemory, Text};
-use machine_book::Flow;
+use machine_desk::Flow;
 use script_end::Ending;
 use std::alloc::Global;
 use tree_files::Sink;

@@ -4,7 +4,7 @@ ghost use Rattle.program_call.specs.Prints.{opening_text, piece, printed};
 ghost use Rattle.program_call.specs.Sinks.{Gets, at, outgo_at};
 ghost use Rattle.trace_text.specs.Trace.{line};
 
-use machine_book::{Flow, Outlet};
+use machine_desk::{Flow, Outlet};
 use machine_events::{Entry, Event};
 use std::alloc::Global;
 use trace_text::write_entry;

@@ -2,7 +2,7 @@
 ghost use Rattle.std.specs.Prelude.{◌≡◌, ◌≤◌, ◌+◌, [], IfOk, OnOk, OnErr, Some};
 ghost use Rattle.tree_files.specs.Count.{Rose};
 ghost use Rattle.tree_files.specs.Files.{Files};
-ghost use Rattle.machine_book.specs.Sight.{Sight, IsReady, Continues};
+ghost use Rattle.machine_desk.specs.Sight.{Sight, IsReady, Continues};
 ghost use Rattle.run_rules.specs.Follows.{Follows};
 ghost use Rattle.run_rules.specs.Lists.{lists_in, ends_in};
 ghost use Rattle.script_end.specs.Ending.{Ended, Broken, IsRead, outcome};
@@ -11,7 +11,7 @@ ghost use Rattle.py_sources.specs.Sources.{sources};
 
 use base_types::{NoMemory, Seq};
 use desk_port::OnDesk;
-use machine_book::Desk;
+use machine_desk::Desk;
 use py_drive::{Ending, run_script_on};
 use std::alloc::Global;
 use tree_files::Tree;

@@ -4,7 +4,7 @@ ghost use Rattle.py_safety.proofs.Meaning.{meaning_safe};
 ghost use Rattle.py_sources.specs.Sources.{sources};
 
 use base_types::{NoMemory, Seq};
-use machine_book::Desk;
+use machine_desk::Desk;
 use program_call::Scripts;
 use py_run::run_script;
 use round_run::Program;

@@ -35,12 +35,12 @@ use Rattle.module_table.specs.contracts.module.Object as object_type
 use Rattle.module_table.specs.contracts.module.Reload as reload_type
 use Rattle.module_table.specs.contracts.objects.Objects as objects_type
 use Rattle.module_table.specs.contracts.objects.Objects.TheInside as objects_inside
+use Rattle.module_table.proofs.cache.Cache.TheSendSync as cache
 use Rattle.module_table.proofs.module.Phase.TheSendSync as phase
 use Rattle.module_table.proofs.module.Reload.TheSendSync as reload
 use Rattle.indexmap.proofs.map.IndexMap.TheSendSync as index_map
 use Rattle.std.proofs.hash.BuildHasherDefault.TheSendSync as builder
 use Rattle.module_table.proofs.loads.Loads.TheSendSync as loads
-use Rattle.machine_events.specs.contracts.module.Slot as slot_type
 use Rattle.machine_events.proofs.module.Slot.TheSendSync as slot
 use Rattle.machine_events.proofs.event.Outcome.TheSendSync as outcome
 use Rattle.machine_events.specs.contracts.event.Event as event_type
@@ -62,7 +62,7 @@ use denote.Struct.Tuple.{Tuple}
 use mathlib.Core.List.{[], ◌∷◌}
 use Rattle.atomic_table.proofs.owned.Table.TheSendSync as atomic
 use Rattle.machine_book.proofs.opening.Opening.TheSendSync as opening
-use Rattle.machine_book.specs.declared.outlet.Outlet as outlet
+use Rattle.machine_desk.specs.declared.outlet.Outlet as outlet
 use Rattle.machine_book.specs.contracts.book.Book as book_type
 use Rattle.machine_book.specs.contracts.book.Book.TheInside as book_inside
 
@@ -115,7 +115,7 @@ objects-send = view_send objects_inside.the_row _ _ _ _ (recorded_send objects_i
 
 table-field : IsSend table_type.the_field.row
 table-field = struct_send (structs.shape table_type.the_type) (
-  name_map.the_send slot_type.the_row slot.the_send,
+  cache.the_send,
   (
     objects-send,
     (

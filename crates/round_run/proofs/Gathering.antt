@@ -8,7 +8,7 @@ use Rattle.trace_book.specs.Told.{TableId, Told}
 use Rattle.machine_events.specs.declared.event.Entry.{Entry}
 use Rattle.machine_state.specs.Legal.{IsLegal}
 use Rattle.machine_book.specs.Bound.{BoundTo}
-use Rattle.machine_book.specs.Outgo.{Outgo, Pieces}
+use Rattle.machine_desk.specs.Outgo.{Outgo, Pieces}
 use Rattle.trace_book.specs.Rule.{Written}
 use Rattle.trace_book.specs.Views.{Has, Within, numbers_from, base_of}
 use Rattle.trace_book.specs.declared.view.Base.{Base}

@@ -6,7 +6,7 @@ use Rattle.std.proofs.lemmas.List.Elements.{recursion_from_All}
 use Rattle.tree_files.specs.Files.{Files}
 use Rattle.thread_knowledge.specs.Own.{own, Ready}
 use Rattle.machine_book.specs.Bound.{BoundTo}
-use Rattle.machine_book.specs.Outgo.{Outgo}
+use Rattle.machine_desk.specs.Outgo.{Outgo}
 use Rattle.trace_book.specs.Told.{TableId, Told, new_pass, new_passes, sight_of, mine_of}
 use Rattle.trace_book.specs.Views.{base_of}
 use Rattle.trace_book.specs.declared.view.Base.{Base}

@@ -12,7 +12,7 @@ use Prim.Native.Nat.{ℕ}
 use mathlib.Core.List.{[], ◌∷◌}
 use denote.Param.Send.{IsSend, IsSync, plain_sync, param_sync, arg_sync, shr_sync, struct_sync, recorded_sync}
 use Rattle.std.proofs.alloc.Global.TheSendSync as global
-use Rattle.machine_book.specs.declared.outlet.Outlet as outlet
+use Rattle.machine_desk.specs.declared.outlet.Outlet as outlet
 use Rattle.trace_book.specs.contracts.shelf.Shelf as shelf_type
 use Rattle.trace_book.proofs.bell.Bell.TheSendSync as bell
 use Rattle.trace_book.specs.contracts.bell.Bell as bell_type

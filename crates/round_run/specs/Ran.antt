@@ -9,7 +9,7 @@ use Rattle.machine_events.specs.declared.event.Entry.{Entry}
 use Rattle.machine_state.specs.Legal.{IsLegal}
 use Rattle.thread_knowledge.specs.Own.{own, Ready}
 use Rattle.machine_book.specs.Bound.{BoundTo}
-use Rattle.machine_book.specs.Outgo.{Outgo, Pieces}
+use Rattle.machine_desk.specs.Outgo.{Outgo, Pieces}
 use Rattle.run_rules.specs.Runs.{Run}
 use Rattle.run_rules.specs.Follows.{Follows}
 use Rattle.run_rules.specs.Lists.{lists_in, ends_in}

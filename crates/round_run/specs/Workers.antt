@@ -4,7 +4,7 @@ use Rattle.std.specs.List.{All, AllZip}
 use Rattle.base_types.specs.declared.no_memory.NoMemory.{NoMemory}
 use Rattle.tree_files.specs.Files.{Files}
 use Rattle.thread_knowledge.specs.Own.{own}
-use Rattle.machine_book.specs.Sight.{IsReady, Continues}
+use Rattle.machine_desk.specs.Sight.{IsReady, Continues}
 use Rattle.run_rules.specs.Runs.{Run}
 use Rattle.script_end.specs.declared.end.Ending.{Ending}
 use Rattle.trace_book.specs.Told.{TableId, Told, new_pass, sight_of, mine_of}

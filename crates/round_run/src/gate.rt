@@ -2,9 +2,9 @@
 ghost use Rattle.std.specs.Prelude.{◌≡◌, IfOk, OnErr};
 ghost use Rattle.thread_knowledge.specs.Knowing.{Knows, Waits};
 ghost use Rattle.machine_events.specs.declared.event.Event.TheVariants as events;
-ghost use Rattle.machine_book.specs.Sight.{Sight, IsReady, Continues, Gains};
+ghost use Rattle.machine_desk.specs.Sight.{Sight, IsReady, Continues, Gains};
 
-use machine_book::{Desk, Halt};
+use machine_desk::{Desk, Halt};
 use machine_events::{Event, Reply};
 
 /// Where programs run in threads of their own, it is called before each event of one, with the number

@@ -1,11 +1,11 @@
 //! What a thread runs.
 ghost use Rattle.std.specs.Prelude.{◌≡◌, ℕ, [], Result};
-ghost use Rattle.machine_book.specs.Sight.{Sight, IsReady, Continues};
+ghost use Rattle.machine_desk.specs.Sight.{Sight, IsReady, Continues};
 ghost use Rattle.run_rules.specs.Runs.{Run};
 ghost use Rattle.round_run.specs.Ran.{RanOver};
 
 use base_types::NoMemory;
-use machine_book::Desk;
+use machine_desk::Desk;
 use script_end::Ending;
 use std::alloc::Global;
 use tree_files::Tree;

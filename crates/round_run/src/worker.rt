@@ -1,6 +1,6 @@
 //! The worker of a thread.
 ghost use Rattle.std.specs.Prelude.{◌≡◌, [], IfSome, Some};
-ghost use Rattle.machine_book.specs.Sight.{IsReady, Continues};
+ghost use Rattle.machine_desk.specs.Sight.{IsReady, Continues};
 ghost use Rattle.trace_book.specs.Told.{sight_of, mine_of};
 ghost use Rattle.round_run.specs.Ran.{RanOver};
 ghost use Rattle.round_run.specs.Workers.{facts, IsNew, Works};
@@ -8,7 +8,7 @@ ghost use Rattle.round_run.specs.Workers.{facts, IsNew, Works};
 use crate::gate::{Gate, Gated};
 use crate::program::Program;
 use base_types::NoMemory;
-use machine_book::Outlet;
+use machine_desk::Outlet;
 use script_end::Ending;
 use std::alloc::Global;
 use std::sync::Wait;

@@ -1,13 +1,14 @@
 //! A shelf that one desk stops.
 ghost use Rattle.std.specs.Prelude.{◌≡◌, ◌∷◌, [], false, None, length, IfOk};
 ghost use Rattle.machine_book.specs.Bound.{CanOpen};
-ghost use Rattle.machine_book.specs.Sight.{IsReady};
-ghost use Rattle.machine_book.specs.declared.outlet.Flow.TheVariants.{Open};
+ghost use Rattle.machine_desk.specs.Sight.{IsReady};
+ghost use Rattle.machine_desk.specs.declared.outlet.Flow.TheVariants.{Open};
 ghost use Rattle.round_run.specs.Ran.{MayBegin};
 ghost use Rattle.trace_book.specs.Told.{sight_of, mine_of};
 
 use base_types::{NoMemory, Seq, Text, Texts};
-use machine_book::{Book, Desk, Halt, Opening, Outlet};
+use machine_book::{Book, Opening};
+use machine_desk::{Desk, Halt, Outlet};
 use machine_events::{Entry, Event};
 use std::alloc::Global;
 use std::sync::Wait;

@@ -12,7 +12,7 @@ use Rattle.machine_events.specs.declared.event.Entry.{Entry}
 use Rattle.trace_book.specs.declared.view.Base.{Base}
 use Rattle.thread_knowledge.specs.Own.{own}
 use Rattle.machine_book.specs.Bound.{BoundTo}
-use Rattle.machine_book.specs.Outgo.{Outgo, Pieces}
+use Rattle.machine_desk.specs.Outgo.{Outgo, Pieces}
 use Rattle.machine_book.proofs.Histories.{own_snoc}
 use Rattle.trace_book.proofs.Owns.{own_append, own_none}
 use Rattle.trace_book.specs.declared.view.View.{View}

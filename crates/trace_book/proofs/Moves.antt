@@ -15,10 +15,10 @@ use Rattle.machine_laws.specs.Begun.{Begun, first}
 use Rattle.thread_knowledge.specs.Own.{own, Ready as HasTurn}
 use Rattle.thread_knowledge.specs.Knowing.{Knows}
 use Rattle.machine_book.specs.Bound.{BoundTo}
-use Rattle.machine_book.specs.Outgo.{Outgo, Pieces, Kept}
-use Rattle.machine_book.specs.Sight.{Sight, Continues, Gains}
+use Rattle.machine_desk.specs.Outgo.{Outgo, Pieces, Kept}
+use Rattle.machine_desk.specs.Sight.{Sight, Continues, Gains}
 use Rattle.machine_book.proofs.Histories.{own_snoc, allowed_here}
-use Rattle.machine_book.proofs.Keeping.{kept_none, kept_next, continues_refl, ready_longer}
+use Rattle.machine_desk.proofs.Keeping.{kept_none, kept_next, continues_refl, ready_longer}
 use Rattle.trace_book.specs.declared.view.Base.{Base}
 use Rattle.trace_book.specs.declared.view.View.{View}
 use Rattle.trace_book.specs.declared.view.Phase.TheVariants.{Idle, New}

@@ -5,7 +5,7 @@ use Rattle.atomic_table.specs.Table.{Me, Step, rest}
 use Rattle.machine_events.specs.declared.event.Entry.{Entry}
 use Rattle.thread_knowledge.specs.Own.{own}
 use Rattle.machine_book.specs.Bound.{BoundTo}
-use Rattle.machine_book.specs.Outgo.{Outgo, Pieces}
+use Rattle.machine_desk.specs.Outgo.{Outgo, Pieces}
 use Rattle.trace_book.specs.declared.view.View.{View}
 use Rattle.trace_book.specs.declared.view.Phase.TheVariants.{New}
 use Rattle.trace_book.specs.Views.{Has, Rounded, holding, idle, merged, taken_seen, taken_numbers, longer}

@@ -7,7 +7,7 @@ use Rattle.atomic_table.specs.Table.{State}
 use Rattle.machine_events.specs.declared.event.Entry.{Entry}
 use Rattle.thread_knowledge.specs.Own.{own}
 use Rattle.machine_book.specs.Bound.{BoundTo}
-use Rattle.machine_book.specs.Outgo.{Outgo, Pieces, Kept}
+use Rattle.machine_desk.specs.Outgo.{Outgo, Pieces, Kept}
 use Rattle.trace_book.specs.declared.view.Base.{Base}
 use Rattle.trace_book.specs.declared.view.View.{View}
 use Rattle.trace_book.specs.declared.view.Phase.{Phase}

@@ -10,8 +10,8 @@ use Rattle.machine_state.specs.Legal.{Allowed, IsLegal, replay}
 use Rattle.thread_knowledge.specs.Own.{own}
 use Rattle.machine_laws.specs.Begun.{Begun, first}
 use Rattle.machine_book.specs.Bound.{BoundTo}
-use Rattle.machine_book.specs.Outgo.{Outgo, Pieces}
-use Rattle.machine_book.specs.Sight.{Continues, Gains}
+use Rattle.machine_desk.specs.Outgo.{Outgo, Pieces}
+use Rattle.machine_desk.specs.Sight.{Continues, Gains}
 use Rattle.trace_book.specs.declared.view.Base.{Base}
 use Rattle.trace_book.specs.declared.view.View.{View}
 use Rattle.trace_book.specs.declared.view.Phase.TheVariants.{Idle}

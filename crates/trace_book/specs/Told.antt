@@ -5,8 +5,8 @@ use Rattle.machine_events.specs.declared.event.Event.{Event}
 use Rattle.machine_events.specs.declared.event.Reply.{Reply}
 use Rattle.machine_events.specs.declared.event.Entry.{Entry}
 use Rattle.thread_knowledge.specs.Own.{own}
-use Rattle.machine_book.specs.Outgo.{Outgo}
-use Rattle.machine_book.specs.Sight.{Sight}
+use Rattle.machine_desk.specs.Outgo.{Outgo}
+use Rattle.machine_desk.specs.Sight.{Sight}
 use Rattle.trace_book.specs.declared.view.Base.{Base}
 use Rattle.trace_book.specs.declared.view.View.{View}
 use Rattle.trace_book.specs.declared.place.Place.{Place}

@@ -2,9 +2,9 @@
 use Rattle.std.specs.Prelude.{◌≡◌, ℕ, zero, suc, ◌+◌, ◌<◌, ◌≤◌, ◌⊎◌, List, [], ◌∷◌, ◌++◌, length, leb, Bool, true, false, Option, Some, None}
 use Rattle.machine_events.specs.declared.event.Entry.{Entry}
 use Rattle.machine_state.specs.Opening.{opening}
-use Rattle.machine_book.specs.declared.outlet.Flow.TheVariants.{Open}
+use Rattle.machine_desk.specs.declared.outlet.Flow.TheVariants.{Open}
 use Rattle.machine_book.specs.Bound.{BoundTo}
-use Rattle.machine_book.specs.Outgo.{Outgo}
+use Rattle.machine_desk.specs.Outgo.{Outgo}
 use Rattle.trace_book.specs.declared.view.Start.{Start}
 use Rattle.trace_book.specs.declared.view.Base.{Base}
 use Rattle.trace_book.specs.declared.view.View.{View}

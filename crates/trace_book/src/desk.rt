@@ -1,6 +1,6 @@
 //! A thread's desk at a shelf.
 ghost use Rattle.std.specs.Prelude.{◌≡◌};
-ghost use Rattle.machine_book.specs.Sight.{Continues};
+ghost use Rattle.machine_desk.specs.Sight.{Continues};
 ghost use Rattle.trace_book.specs.Told.{sight_of};
 ghost use Rattle.trace_book.specs.Views.{Rounded};
 
@@ -8,7 +8,7 @@ use crate::bell::Bell;
 use crate::pass::Pass;
 use crate::place::Place;
 use crate::shelf::{Seat, Shelf};
-use machine_book::{Desk, Halt, Outlet};
+use machine_desk::{Desk, Halt, Outlet};
 use machine_events::{Event, Reply};
 use std::marker::Model;
 use std::sync::Wait;

@@ -5,7 +5,8 @@ ghost use Rattle.trace_book.specs.Plays.{Fills, Takes, Notes, GivesBack, Merges}
 
 use crate::view::View;
 use atomic_table::{Join, Play, Split, TableRule};
-use machine_book::{Book, Outlet};
+use machine_book::Book;
+use machine_desk::Outlet;
 
 /// What a shelf is opened with: the book, the number of the round's first script, and how many
 /// scripts the round has.

@@ -1,5 +1,5 @@
 //! What a pass knows. No value of it is made.
-use machine_book::Flow;
+use machine_desk::Flow;
 use machine_events::Entry;
 use machine_state::State;
 use std::collections::LinkedList;

@@ -1,5 +1,5 @@
 use Rattle.std.proofs.Common.{List, ℕ, refl, sym, ap, subst}
-use Rattle.machine_book.proofs.Keeping.{continues_refl}
+use Rattle.machine_desk.proofs.Keeping.{continues_refl}
 use Rattle.run_rules.specs.Follows.{Follows}
 use Rattle.run_rules.specs.Lists.{ends_in}
 use Rattle.script_end.specs.Ending.{Broken, outcome}

@@ -1,4 +1,4 @@
-use Rattle.machine_book.proofs.Keeping.{continues_trans, ready_on}
+use Rattle.machine_desk.proofs.Keeping.{continues_trans, ready_on}
 use Rattle.desk_port.proofs.on_desk.OnDeskPort.call.Goals as goal
 
 pub returns-in-Ok-clause-stays : goal.returns-in-Ok-clause-stays

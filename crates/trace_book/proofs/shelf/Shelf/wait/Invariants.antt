@@ -1,6 +1,6 @@
 use Rattle.std.proofs.Common.{◌≡◌}
 use Rattle.thread_knowledge.specs.Own.{own}
-use Rattle.machine_book.specs.Sight.{Continues}
+use Rattle.machine_desk.specs.Sight.{Continues}
 use Rattle.trace_book.specs.Seats.{Ready}
 use Rattle.trace_book.specs.Told.{seat_sight}
 use Rattle.trace_book.proofs.shelf.Shelf.wait.Given as goal

@@ -4,12 +4,12 @@ use Rattle.std.proofs.lemmas.List.{append-nil, append_assoc}
 use Rattle.std.proofs.lemmas.Grind.{flat_map-append}
 use Rattle.tree_files.specs.Count.{Rose}
 use Rattle.machine_events.specs.declared.event.Entry.{Entry}
-use Rattle.machine_book.specs.declared.outlet.Flow.{Flow}
-use Rattle.machine_book.specs.declared.outlet.Flow.TheVariants.{Open, Failed, Short}
+use Rattle.machine_desk.specs.declared.outlet.Flow.{Flow}
+use Rattle.machine_desk.specs.declared.outlet.Flow.TheVariants.{Open, Failed, Short}
 use Rattle.machine_state.specs.declared.state.State.{State}
 use Rattle.thread_knowledge.specs.Own.{HasEnded, Ready}
-use Rattle.machine_book.specs.Sight.{Sight, Telling, KeepsUp, IsReady, Continues}
-use Rattle.machine_book.specs.Outgo.{Outgo, Pieces, Kept, text_of, Appends, AppendsPart, Flows, Rests, FlowsFrom}
+use Rattle.machine_desk.specs.Sight.{Sight, Telling, KeepsUp, IsReady, Continues}
+use Rattle.machine_desk.specs.Outgo.{Outgo, Pieces, Kept, text_of, Appends, AppendsPart, Flows, Rests, FlowsFrom}
 
 pub appends_then : (a b c : Option (List ℕ)) (x y : List ℕ) → Appends a b x → Appends b c y → Appends a c (x ++ y)
 appends_then None None None x y p q = tt

@@ -1,9 +1,9 @@
 -- An outlet's start, which is what it was at one moment, as plain data: its code, by which a ghost field may keep it.
 use Rattle.std.specs.Prelude.{◌≡◌, ℕ, zero, suc, Bool, List, Option, refl}
 use Rattle.std.specs.Coded.{Coded, code_by, coded×, coded_ℕ, coded_bool, coded_list, coded_option}
-use Rattle.machine_book.specs.declared.outlet.Flow.{Flow}
-use Rattle.machine_book.specs.declared.outlet.Flow.TheVariants.{Open, Failed, Short}
-use Rattle.machine_book.specs.Outgo.{Outgo}
+use Rattle.machine_desk.specs.declared.outlet.Flow.{Flow}
+use Rattle.machine_desk.specs.declared.outlet.Flow.TheVariants.{Open, Failed, Short}
+use Rattle.machine_desk.specs.Outgo.{Outgo}
 
 -- each state of an outlet has a number of its own
 abbrev pub flow_number : Flow → ℕ

@@ -7,8 +7,8 @@ use Rattle.machine_events.specs.Fitting.{Fits}
 use Rattle.machine_state.specs.declared.state.State.{State}
 use Rattle.machine_state.specs.Legal.{IsLegal}
 use Rattle.thread_knowledge.specs.Own.{Ready}
-use Rattle.machine_book.specs.Histories.{Begins, EndsWith}
-use Rattle.machine_book.specs.Outgo.{Outgo, Pieces, Kept}
+use Rattle.machine_desk.specs.Histories.{Begins, EndsWith}
+use Rattle.machine_desk.specs.Outgo.{Outgo, Pieces, Kept}
 
 -- what a desk can tell of its book's outlet: the pieces that it writes, and what it has written
 pub record Telling : Type 0 where

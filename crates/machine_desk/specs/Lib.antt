@@ -1,0 +1,4 @@
+pub mod Histories
+pub mod Outgo
+pub mod StartCode
+pub mod Sight
