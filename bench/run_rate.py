@@ -91,7 +91,7 @@ def write_scripts(folder):
 def events_a_second(program):
     """The rate of the machine alone."""
     runs = [machine_rate.measure(program, 10_000) for _ in range(ROUNDS)]
-    return max(events / (spent / 1e9) for events, spent, _ in runs)
+    return max(events / (spent / 1e9) for events, _, spent, _ in runs)
 
 
 def compare(program, folder, empty):
