@@ -56,8 +56,7 @@ allows keys s = list_all (λ k. has keys k || not (is_given k s)) all_keys
 abbrev pub only : List Key → Option Front → Option Front
 only keys found = option_and_then (λ it. if allows keys it.settings then Some it else None) found
 
--- the options that stand in front of a command's other words, and those words; None where one of them is no option of
--- the
--- command
+-- the options that stand in front of a command's other words, and
+-- those words; None where one of them is no option of the command
 abbrev pub taken : Command → List Word → Option Front
 taken of words = only (keys_of of) (options no_settings words)

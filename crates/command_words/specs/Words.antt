@@ -71,8 +71,8 @@ front rest settings = Some (record { settings = settings; rest = rest })
 abbrev pub goes_on : Option Setting → Settings → (Settings → Option Front) → Option Front
 goes_on found s next = option_and_then next (option_and_then (λ it. added it s) found)
 
--- the options at the beginning of the words, added to the settings, and the words from the first on that does not begin
--- with `-`
+-- the options at the beginning of the words, added to the settings,
+-- and the words from the first on that does not begin with `-`
 abbrev pub options : Settings → List Word → Option Front
 options s [] = front [] s
 options s (word ∷ []) = if is_dashed word then goes_on (joined word) s (front []) else front (word ∷ []) s

@@ -1,5 +1,5 @@
--- Decimal numbers as traces and rounds files spell them: digits without leading zeros. The format is this project's
--- own.
+-- Decimal numbers as traces and rounds files spell them: digits
+-- without leading zeros. The format is this project's own.
 use Rattle.std.specs.Prelude.{ℕ, ◌^◌, List, [], ◌∷◌, length, Bool, false, not, nat_le, nat_lt, ◌==◌, ◌&&◌, ◌||◌, Option, Some, None, if◌then◌else◌}
 use Rattle.std.specs.List.{list_all}
 use Rattle.std.specs.Char.{is_ascii_digit}

@@ -281,8 +281,8 @@ unfoldable pub form : ℕ → Form → List Lexeme → Read Lexeme Spelled
 form zero f ts = form_by None f ts
 form (suc room) f ts = form_by (Some (form room)) f ts
 
--- the forms one level further in, where so many levels may be opened: they have one fewer, and without any there are
--- none
+-- the forms one level further in, where so many levels may be
+-- opened: they have one fewer, and without any there are none
 abbrev pub inner_of : ℕ → Inner
 inner_of zero = None
 inner_of (suc room) = Some (form room)

@@ -1,5 +1,5 @@
--- Each value and each cache entry of a table names modules of the table, and a namespace's path stands only in a module that has
--- the state of a namespace.
+-- Each value and each cache entry of a table names modules of the table, and a
+-- namespace's path stands only in a module that has the state of a namespace.
 use Rattle.std.proofs.Common.{◌≡◌, ◌⊎◌, ℕ, Bool, true, false, cond, ◌&&◌, List, [], ◌∷◌, map, codes, Option, Some, None, refl, sym, ap, subst, ◌∙◌, inl, inr}
 use Rattle.std.specs.Prelude.{slice_get, nat_eq, is_some}
 use Rattle.std.specs.List.{list_all}

@@ -1,5 +1,5 @@
--- What holds in every state is kept where a load goes on with its module, where a reload begins or ends its load, and where a
--- thread ends.
+-- What holds in every state is kept where a load goes on with its module,
+-- where a reload begins or ends its load, and where a thread ends.
 use Rattle.std.proofs.Common.{◌≡◌, ℕ, ◌+◌, ◌≤◌, true, false, List, Some, refl, sym, ap, subst, ◌∙◌, eqb, inl, inr}
 use Rattle.std.specs.Prelude.{slice_get, slice_set, is_some}
 use Rattle.std.specs.FinMap.{get}

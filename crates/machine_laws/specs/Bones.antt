@@ -1,6 +1,5 @@
--- What the facts on all states speak of: who owns and awaits which lock, how far each module and each load is, and
--- which
--- threads have ended.
+-- What the facts on all states speak of: who owns and awaits which lock,
+-- how far each module and each load is, and which threads have ended.
 use Rattle.std.specs.Prelude.{ℕ, ◌==◌, ◌&&◌, not, count_by, nat_eq, Bool, false, List, Option, Some, None, map, slice_get, if◌then◌else◌}
 use Rattle.std.specs.Ordering.{nat_cmp}
 use Rattle.std.specs.Cmp.Lexicographic.{slice_cmp, pointwise}

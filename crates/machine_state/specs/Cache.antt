@@ -21,8 +21,8 @@ tab_get s n = (replies.Slot (entry_of (get s.table.cache n)), s)
 abbrev pub tab_set : State → List ℕ → Slot → Reply × State
 tab_set s n slot = if is_fixed n then (replies.Fixed, s) else (replies.Done, record s { table = with_entry s.table n slot })
 
--- an item of `sys.modules` is deleted and answered, unless its name is fixed; a module lives on without its entry
--- (Language Reference 5.3.1)
+-- an item of `sys.modules` is deleted and answered, unless its name is
+-- fixed; a module lives on without its entry (Language Reference 5.3.1)
 abbrev pub tab_del : State → List ℕ → Reply × State
 tab_del s n =
     if is_fixed n then (replies.Fixed, s)

@@ -55,8 +55,8 @@ reload_start s t mid spec text = (
   record s { table = with_reloaded s.table t mid spec text; locks = got s.locks t spec.name },
 )
 
--- under the lock of its name the module must still be the entry (`importlib._bootstrap._exec`); a lock that another
--- owns is waited for
+-- under the lock of its name the module must still be the entry
+-- (`importlib._bootstrap._exec`); a lock that another owns is waited for
 abbrev pub reload_take : State → ℕ → ℕ → Spec → List ℕ → Reply × State
 reload_take s t mid spec text =
     if is_free s.locks t spec.name

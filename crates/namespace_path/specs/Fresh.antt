@@ -1,6 +1,5 @@
--- When the portions that are kept of a namespace may be used: they were computed from this parent path, in this epoch
--- (PEP 420,
--- "Dynamic path computation").
+-- When the portions that are kept of a namespace may be used: they were computed
+-- from this parent path, in this epoch (PEP 420, "Dynamic path computation").
 use Rattle.std.specs.Prelude.{◌≡◌, ◌↔◌, IsTrue, ℕ, Bool, true, false, ◌&&◌, nat_eq, List, [], ◌∷◌, Option, Some, None}
 use Rattle.std.specs.Ordering.{int_eq}
 use Rattle.std.specs.Str.{bytes_eq}

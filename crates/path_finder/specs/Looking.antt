@@ -110,8 +110,8 @@ is_quiet (wanted.Pay of_tree) = Unit {0}
 is_quiet (wanted.DirGet dir part) = Unit {0}
 is_quiet (wanted.Done found) = Unit {0}
 
--- how a call counts as one that listed: it lists where it answers that a listing is to be kept, and may have where it
--- wanted memory
+-- how a call counts as one that listed: it lists where it answers
+-- that a listing is to be kept, and may have where it wanted memory
 abbrev pub CountsLists : Result LookWant TreeFault → ℕ → ℕ → Type 0
 CountsLists (Ok (wanted.DirSet dir listing)) old new = new ≡ raised old 1
 CountsLists (Ok (wanted.Pay of_tree)) old new = new ≡ old

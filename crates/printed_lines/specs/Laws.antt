@@ -6,8 +6,7 @@ use Rattle.py_syntax.specs.Grammar.{Spells}
 use Rattle.printed_tokens.specs.Statements.{printed}
 use Rattle.printed_lines.specs.Lines.{Passes, Held, Laid}
 
--- The print of a script that some lexemes spell stands on lines, and each name, number and string of it passes where
--- all
--- those lexemes pass.
+-- The print of a script that some lexemes spell stands on lines, and each
+-- name, number and string of it passes where all those lexemes pass.
 abbrev pub PrintedIsLaid : Type 0
 PrintedIsLaid = (p : Lexeme → Bool) (room : ℕ) (ts : List Lexeme) (s : Script) → Spells room ts s → Held (Passes p) ts → Laid (Passes p) zero (printed s)

@@ -1,6 +1,5 @@
--- Lexemes that stand on lines: rows of lexemes with their brackets closed, a line end behind each, and Indent and
--- Dedent
--- where a block begins and behind it.
+-- Lexemes that stand on lines: rows of lexemes with their brackets closed, a line
+-- end behind each, and Indent and Dedent where a block begins and behind it.
 use Rattle.std.specs.Prelude.{◌≡◌, ℕ, zero, suc, ◌<◌, ℤ, Bool, true, false, List, [], ◌∷◌, ◌++◌, length}
 use Rattle.py_syntax.specs.declared.lexeme.Lexeme.{Lexeme}
 use Rattle.py_syntax.specs.declared.lexeme.Lexeme.TheVariants as token

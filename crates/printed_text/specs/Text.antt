@@ -1,6 +1,5 @@
--- The text of lexemes: four blanks for each open level stand before a line, a blank before each other lexeme, and a
--- line
--- end (10) behind each line.
+-- The text of lexemes: four blanks for each open level stand before a line,
+-- a blank before each other lexeme, and a line end (10) behind each line.
 use Rattle.std.specs.Prelude.{ℕ, zero, suc, ◌-◌, Bool, true, false, if◌then◌else◌, List, [], ◌∷◌, ◌++◌, codes}
 use Rattle.py_syntax.specs.declared.lexeme.Lexeme.{Lexeme}
 use Rattle.py_syntax.specs.declared.lexeme.Lexeme.TheVariants as token

@@ -121,8 +121,8 @@ branch_at b = expr_tokens b.test ++ token.Colon ∷ block b.body
 abbrev pub handler_at : Handler-F (List Lexeme) (List Lexeme) (List Lexeme) (List Lexeme) → List Lexeme
 handler_at h = token.Except ∷ (optional h.kinds ++ (bound_tokens h.bound ++ token.Colon ∷ block h.body))
 
--- a function (Language Reference 8.7): no comma behind its last parameter, and its names of `global` at the head of its
--- body
+-- a function (Language Reference 8.7): no comma behind its last
+-- parameter, and its names of `global` at the head of its body
 abbrev pub function_at : FuncDef-F (List Lexeme) (List Lexeme) (List Lexeme) (List Lexeme) → List Lexeme
 function_at f =
     token.Def ∷ token.Name f.name ∷ token.OpenParen ∷ (names_with token.Comma f.parameters ++ token.CloseParen ∷ token.Colon

@@ -28,8 +28,8 @@ HasCause (Some k) old new = Rose old new
 abbrev pub turn_of : Files → Run → Option ℕ → Turn
 turn_of files run stop = record { files = files; run = run; stop = stop }
 
--- what scripts of a call run under: their files and the fuel of each, the tree's count of faults before and after, and
--- the status of the call
+-- what scripts of a call run under: their files and the fuel of each, the
+-- tree's count of faults before and after, and the status of the call
 pub record Setting : Type 0 where
   pub files : Files
   pub fuel : ℕ
@@ -42,9 +42,8 @@ abbrev pub setting : Files → ℕ → ℕ → ℕ → ℕ → Setting
 setting files fuel old new status =
     record { files = files; fuel = fuel; old_faults = old; new_faults = new; status = status }
 
--- the history of one script over these files: the one that it has alone, with a stop only where a call of the tree
--- failed;
--- at want of memory a beginning of such a one
+-- the history of one script over these files: the one that it has alone, with a stop
+-- only where a call of the tree failed; at want of memory a beginning of such a one
 pub data IsRun (under : Setting) (opened : State) (run : Run) (history : List Entry) : Type 0 where
   whole : (stop : Option ℕ) → IsSolo opened (turn_of under.files run stop ∷ []) under.fuel history
       → HasCause stop under.old_faults under.new_faults → IsRun under opened run history

@@ -12,8 +12,8 @@ use Rattle.program_call.specs.Alone.{Means, Setting, setting, opening_of, IsRun}
 use Rattle.program_call.specs.Together.{AllAct}
 use Rattle.program_call.specs.declared.report.Left.{Left}
 
--- the scripts of these texts over these files: one has the history that it has alone; of several, each acts by its
--- meaning
+-- the scripts of these texts over these files: one has the
+-- history that it has alone; of several, each acts by its meaning
 abbrev pub RunOver : Means → Setting → RunPlan → List (List ℕ) → List Entry → Type 0
 RunOver means under plan (text ∷ []) history = IsRun under (opening_of plan (text ∷ [])) (means 0 text) history
 RunOver means under plan texts history = AllAct means under 0 texts history

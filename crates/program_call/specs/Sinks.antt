@@ -20,8 +20,8 @@ at written faults sink = record { written = written sink; faults = faults sink }
 abbrev pub outgo_at : Outgo → At
 outgo_at outgo = record { written = outgo.written; faults = outgo.faults }
 
--- what a call works on, at one moment: the files that the tree tells, its count of failed calls and that of its lists,
--- and both sinks
+-- what a call works on, at one moment: the files that the tree tells,
+-- its count of failed calls and that of its lists, and both sinks
 pub record Moment : Type 0 where
   pub files : Option Files
   pub faults : ℕ
@@ -34,9 +34,8 @@ abbrev pub moment : {T : Type 0} → (T → Option Files) → (T → ℕ) → (T
 moment files faults lists tree out err =
     record { files = files tree; faults = faults tree; lists = lists tree; out = out; err = err }
 
--- from one moment to a later one the files are as they were, and no count of faults has fallen, neither the tree's nor
--- one
--- of a sink
+-- from one moment to a later one the files are as they were, and no
+-- count of faults has fallen, neither the tree's nor one of a sink
 pub record Passes (old new : Moment) : Type 0 where
   pub files : new.files ≡ old.files
   pub tree_faults : old.faults ≤ new.faults

@@ -25,9 +25,8 @@ pub record RanTogether (tree : Option Files) (runs : Runs) (fuel : ℕ) (old new
   pub threads : AllRan tree 0 runs fuel history counts results
   pub absorbs : new ≡ fold absorbed old counts
 
--- the pairs of script t in a history: they are those of its meaning on their replies, up to its End; at want of memory
--- a
--- part of those
+-- the pairs of script t in a history: they are those of its meaning
+-- on their replies, up to its End; at want of memory a part of those
 pub data Acts (under : Setting) (t : ℕ) (run : Run) (mine : List (Event × Reply)) : Type 0 where
   whole : (outcome : Outcome) → Follows under.files t run under.fuel mine outcome → Acts under t run mine
   part : under.status ≡ want_of_memory → Broken under.files t run under.fuel mine under.old_faults under.new_faults

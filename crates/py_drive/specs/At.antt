@@ -14,8 +14,8 @@ abbrev pub MayBeUnread : Option Files → Run → ℕ → List (Event × Reply) 
 MayBeUnread files whole fuel mine None = Unit {0}
 MayBeUnread files whole fuel mine (Some left) = IsUnread files whole fuel mine left
 
--- the script stands here; where the purse tells what was left before a payment for the tree, a call of the tree may
--- fail
+-- the script stands here; where the purse tells what was left
+-- before a payment for the tree, a call of the tree may fail
 pub record At (files : Option Files) (whole : Run) (fuel : ℕ) (mine : List (Event × Reply)) (purse : Purse) (run : Run) : Type 0 where
   pub stands : Stands files whole fuel mine purse.budget run
   pub unread : MayBeUnread files whole fuel mine purse.read

@@ -26,9 +26,8 @@ pub record Fresh (script fuel : ℕ) (c : Course) : Type 0 where
   pub thread : c.thread ≡ record { left = 200; state = first_state script }
   pub work : c.work ≡ []
 
--- how a run is over: it ended, it is spent, or it could not read, with this budget before the payment; then the tree's
--- count
--- of faults rose
+-- how a run is over: it ended, it is spent, or it could not read, with
+-- this budget before the payment; then the tree's count of faults rose
 abbrev pub Overs : Option Files → ℕ → ℕ → Run → ℕ → List (Event × Reply) → Over → Type 0
 Overs files faults faults' whole fuel mine (over.Came flow) = (budget : ℕ) × Stands files whole fuel mine budget (ended flow)
 Overs files faults faults' whole fuel mine over.Out = (budget : ℕ) × IsSpent files whole fuel mine budget

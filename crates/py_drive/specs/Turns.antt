@@ -47,8 +47,8 @@ abbrev pub Counts : ℕ → ℕ → Turn → Type 0
 Counts old new (turn.Unread left) = Rose old new
 Counts old new t = Unit {0}
 
--- a turn from `run` on: whatever script stood there stands where the turn leads; and how the tree's count of faults
--- went
+-- a turn from `run` on: whatever script stood there stands
+-- where the turn leads; and how the tree's count of faults went
 pub record Turned (files : Option Files) (faults faults' : ℕ) (mine mine' : List (Event × Reply)) (purse : Purse) (after : Course) (run : Run) (t : Turn) : Type 0 where
   pub moves : (whole : Run) (fuel : ℕ) → At files whole fuel mine purse run → After files whole fuel mine' after t
   pub counts : Counts faults faults' t

@@ -4,8 +4,8 @@ use Rattle.py_value.specs.declared.value.Value.{Value}
 use Rattle.py_meaning.specs.Pieces.{Piece}
 use Rattle.py_meaning.specs.Entries.{tested, looks_up, takes_out, entry_or, tells_entry, dropped, puts_named}
 
--- `sys.modules[k]` and `.get`: the entry of the key, else the default, else KeyError; here and below, a key that cannot
--- be hashed raises TypeError
+-- `sys.modules[k]` and `.get`: the entry of the key, else the default, else
+-- KeyError; here and below, a key that cannot be hashed raises TypeError
 abbrev pub reads : Value → Option Value → Piece
 reads key default = tested (λ key n. looks_up n (entry_or key default)) key
 

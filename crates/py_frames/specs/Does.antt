@@ -161,8 +161,8 @@ abbrev pub fronts_some : Around → Option Alias → Piece
 fronts_some around None = fails fault.NotInProfile
 fronts_some around (Some a) = fronts_parts around a.parts a.bound
 
--- the value of the first part is bound to that part, or, with `as`, followed to its last part, which is bound
--- (Language Reference 7.11)
+-- the value of the first part is bound to that part, or, with `as`,
+-- followed to its last part, which is bound (Language Reference 7.11)
 abbrev pub binds_parts : Around → List (List ℕ) → Option (List ℕ) → Value → Piece
 binds_parts around [] bound v = fails fault.NotInProfile
 binds_parts around (x ∷ cs) bound v = binds_import around x cs bound v

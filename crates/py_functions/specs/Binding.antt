@@ -1,8 +1,7 @@
--- The names that are local in a function (Language Reference 4.2.1 and 7.12): its parameters, and those that a
--- statement
--- of its body binds, but for those of its `global` lines. A statement binds the name that it assigns or deletes, those
--- that it imports and that of a handler's error; `import a.b` binds `a`. A function within binds its name, and what its
--- body binds is its own.
+-- The names that are local in a function (Language Reference 4.2.1 and 7.12): its parameters, and
+-- those that a statement of its body binds, but for those of its `global` lines. A statement
+-- binds the name that it assigns or deletes, those that it imports and that of a handler's error;
+-- `import a.b` binds `a`. A function within binds its name, and what its body binds is its own.
 use Rattle.std.specs.Prelude.{◌≡◌, ℕ, Bool, not, ◌&&◌, List, [], ◌∷◌, ◌++◌, map, flat_map, Option, Some, None}
 use Rattle.py_syntax.specs.declared.expr.Expr.{Expr, out-Expr}
 use Rattle.py_syntax.specs.declared.expr.Expr.TheOpen.{Expr-F}

@@ -1,5 +1,5 @@
--- The functions of a script, in the order of their `def` tokens (Language Reference 8.7). A function has the number of
--- its place in this list.
+-- The functions of a script, in the order of their `def` tokens (Language
+-- Reference 8.7). A function has the number of its place in this list.
 use Rattle.std.specs.Prelude.{ℕ, List, [], ◌∷◌, ◌++◌, map, flat_map, Option}
 use Rattle.std.specs.List.{slice_get}
 use Rattle.py_syntax.specs.declared.stmt.Stmt.{Stmt, roll-Stmt, map-Stmt}
@@ -24,8 +24,8 @@ alone forms = map (λ form. form.0) forms
 
 -- ---- a layer of each type, with its parts beside their functions
 
--- the functions in a statement, in the order in which its parts are written: those of its blocks, and of a definition
--- its function with those within
+-- the functions in a statement, in the order in which its parts are written:
+-- those of its blocks, and of a definition its function with those within
 abbrev pub found_at : Stmt-F (Beside Stmt) (Beside Branch) (Beside FuncDef) (Beside Handler) → List FuncDef
 found_at (Stmt-F.If branches otherwise) = in_order branches ++ in_order otherwise
 found_at (Stmt-F.While test body) = in_order body

@@ -1,6 +1,5 @@
--- The two columns of leading white space (Language Reference 2.1.8): in the first a tab goes to the next multiple of 8,
--- in
--- the second it counts 1. A blank counts 1 in both, and a form feed sets both to 0.
+-- The two columns of leading white space (Language Reference 2.1.8): in the first a tab goes to the next
+-- multiple of 8, in the second it counts 1. A blank counts 1 in both, and a form feed sets both to 0.
 use Rattle.std.specs.Prelude.{ℕ, ◌+◌, ◌*◌, ◌/◌, ◌==◌, if◌then◌else◌, List, [], ◌∷◌}
 use Rattle.py_lexer.specs.declared.columns.Columns.{Columns}
 use Rattle.py_lexer.specs.Chars.{is_white}

@@ -20,9 +20,8 @@ closed_to at count (top ∷ below) =
     then (if top.second == at.second then Ok (Dedents (count - length (top ∷ below)), top ∷ below) else Err MixedTabs)
     else Err BadDedent
 
--- What a logical line with the columns `at` does to the open columns. A greater first column makes Indent and is
--- pushed;
--- where the second is not greater it is MixedTabs. Any other closes levels.
+-- What a logical line with the columns `at` does to the open columns. A greater first column makes
+-- Indent and is pushed; where the second is not greater it is MixedTabs. Any other closes levels.
 unfoldable pub settled : List Columns → Columns → Result (Change × List Columns) Kind
 settled [] at = Err BadDedent
 settled (top ∷ below) at =

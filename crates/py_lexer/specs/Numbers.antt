@@ -1,5 +1,5 @@
--- Numbers (Language Reference 2.4.5, decimal integers alone): zeros, or a digit 1 to 9 and digits, with single `_` (95)
--- between digits.
+-- Numbers (Language Reference 2.4.5, decimal integers alone): zeros,
+-- or a digit 1 to 9 and digits, with single `_` (95) between digits.
 use Rattle.std.specs.Prelude.{◌≡◌, ℕ, ◌+◌, ◌-◌, ◌*◌, List, [], ◌∷◌, IsTrue}
 use Rattle.py_lexer.specs.Chars.{is_digit}
 

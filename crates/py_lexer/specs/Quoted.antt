@@ -6,9 +6,8 @@ use Rattle.py_lexer.specs.declared.quoted.Quotes.{Quotes}
 use Rattle.py_lexer.specs.Strings.{closing_quotes, escaped, hex_pair, hex_four as hex_quad, is_surrogate}
 use Rattle.py_lexer.specs.Chars.{is_end, IsLineEnd}
 
--- Escapes (Language Reference 2.4.1.1): what may stand behind a backslash, the text that it stands for, over so many
--- line
--- ends, and what follows it
+-- Escapes (Language Reference 2.4.1.1): what may stand behind a backslash,
+-- the text that it stands for, over so many line ends, and what follows it
 pub data Escape : List ℕ → List ℕ → ℕ → List ℕ → Type 0 where
   -- `\\ \' \" \n \r \t`
   simple : {c d : ℕ} {after : List ℕ} → escaped c ≡ Some d → Escape (c ∷ after) (d ∷ []) 0 after
@@ -19,8 +18,8 @@ pub data Escape : List ℕ → List ℕ → ℕ → List ℕ → Type 0 where
   -- `\uHHHH`, and no surrogate
   hex_four : {u n : ℕ} {cs : List ℕ} → u ≡ 117 → hex_quad cs ≡ Some n → IsFalse (is_surrogate n) → Escape (u ∷ cs) (n ∷ []) 0 (drop 4 cs)
 
--- a part of a string at the front, where the string is not closed: its text, over so many line ends, and what follows
--- it; a backslash is 92
+-- a part of a string at the front, where the string is not closed: its
+-- text, over so many line ends, and what follows it; a backslash is 92
 pub data Item : Quotes → List ℕ → List ℕ → ℕ → List ℕ → Type 0 where
   plain : {q : Quotes} {c : ℕ} {after : List ℕ} → c ≢ 92 → IsFalse (is_end c) → Item q (c ∷ after) (c ∷ []) 0 after
   -- a line end in three quotes is read as LF

@@ -1,5 +1,5 @@
--- How the code reads, as functions that its contracts name: what stands at the front, and what follows it; and the
--- whole text, piece by piece.
+-- How the code reads, as functions that its contracts name: what stands
+-- at the front, and what follows it; and the whole text, piece by piece.
 use Rattle.std.specs.Prelude.{pos, ℕ, zero, suc, ◌+◌, ◌-◌, ◌*◌, ◌^◌, min, ◌==◌, Bool, true, false, not, ◌&&◌, nat_lt, if◌then◌else◌, List, [], ◌∷◌, ◌++◌, length, take, drop, Option, Some, None, Result, Ok, Err}
 use Rattle.std.specs.List.{prefix_len}
 use Rattle.py_lexer.specs.declared.chars.Class.{Class}
@@ -226,8 +226,8 @@ take_word s cs = begin s >>= λ t. elim (word cs) [ Err kind ↦ Err (record { k
 unfoldable pub step : State → List ℕ → Result (State × List ℕ) Fault
 step s cs = elim (gap cs) [ Some x ↦ Ok (pass x.0 s x.1) | None ↦ take_word s cs ]
 
--- what the end of the text gives for the last logical line: its Newline, unless it has no token yet or a bracket is
--- open
+-- what the end of the text gives for the last logical line:
+-- its Newline, unless it has no token yet or a bracket is open
 abbrev pub last_line : Mode → ℕ → List Token
 last_line (Fresh at first) line = []
 last_line (Inside depth) line = if depth == 0 then mark Newline line else []

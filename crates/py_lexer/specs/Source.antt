@@ -42,8 +42,7 @@ answer_of (Ok ts) = Ok ts
 answer_of (Err fault) = Err (error_at fault.kind fault.line)
 
 -- A source of more than 1,048,576 bytes is TooLong. Else one that is not UTF-8 is NotUtf8, with the line of its first
--- bad
--- byte. Else its tokens, or its first fault in text order, are those of its lines; a leading U+FEFF is dropped.
+-- bad byte. Else its tokens, or its first fault in text order, are those of its lines; a leading U+FEFF is dropped.
 pub data Tokens : List ℕ → Answer → Type 0 where
   too_long : {src : List ℕ} → LONGEST_SOURCE < length src → Tokens src (Err error.TooLong)
   -- the first n bytes are the longest front that is UTF-8, and more follow

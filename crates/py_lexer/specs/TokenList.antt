@@ -53,9 +53,8 @@ abbrev pub newline_at_end : ℕ → ℕ → List Token
 newline_at_end zero line = mark Newline line
 newline_at_end (suc depth) line = []
 
--- The open brackets after a token: one more at `(` (40), `[` (91) and `{` (123), one fewer at `)` (41), `]` (93) and
--- `}`
--- (125), whichever opened, and never below 0.
+-- The open brackets after a token: one more at `(` (40), `[` (91) and `{` (123), one
+-- fewer at `)` (41), `]` (93) and `}` (125), whichever opened, and never below 0.
 abbrev pub depth_after : Tok → ℕ → ℕ
 depth_after (Op (c ∷ [])) depth =
     if (c == 40 || c == 91) || c == 123 then depth + 1

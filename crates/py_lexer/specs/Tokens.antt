@@ -1,7 +1,6 @@
--- Lines and logical lines (Language Reference 2.1). A text is cut into logical lines and lines without tokens; a
--- logical
--- line has its two columns, which open or close levels, and its tokens. `line` is the line of the front, from 1, and
--- `depth` counts the open brackets.
+-- Lines and logical lines (Language Reference 2.1). A text is cut into logical lines and
+-- lines without tokens; a logical line has its two columns, which open or close levels, and
+-- its tokens. `line` is the line of the front, from 1, and `depth` counts the open brackets.
 use Rattle.std.specs.Prelude.{◌≡◌, ℕ, zero, suc, ◌+◌, List, [], ◌++◌, Ok, Err, IsTrue}
 use Rattle.py_lexer.specs.declared.columns.Columns.{Columns}
 use Rattle.py_lexer.specs.declared.error.Kind.{Kind}
@@ -23,9 +22,8 @@ pub data Passed : ℕ → List ℕ → ℕ → List ℕ → Type 0 where
   blank : {line next : ℕ} {text after rest : List ℕ} → Stands text Blank after → Passed line after next rest → Passed line text next rest
   joined : {line next : ℕ} {text after rest : List ℕ} → Stands text Joined after → Passed (line + 1) after next rest → Passed line text next rest
 
--- The start of a line: the two columns of its leading white space, then nothing that is a token, as far as the next
--- line
--- and what follows. With a joined line the columns are those before the first backslash.
+-- The start of a line: the two columns of its leading white space, then nothing that is a token, as far
+-- as the next line and what follows. With a joined line the columns are those before the first backslash.
 pub data Start : ℕ → List ℕ → Columns → ℕ → List ℕ → Type 0 where
   start : {line next : ℕ} {white after rest : List ℕ} → IsRun is_white white after → Passed line after next rest → Start line (white ++ after) (columns_after margin white) next rest
 
@@ -48,16 +46,14 @@ pub data Lines : List Columns → ℕ → List ℕ → Outcome → Type 0 where
   -- a line of white space and comment alone makes no tokens (2.1.7)
   empty : {stack : List Columns} {at : Columns} {line next : ℕ} {text rest after : List ℕ} {out : Outcome}
       → Start line text at next rest → Stands rest Ended after → Lines stack (next + 1) after out → Lines stack line text out
-  -- A logical line: its columns open a level or close levels (2.1.8), which gives Indent or Dedents with the line of
-  -- the
-  -- token behind them; then come its tokens, and Newline with the line of the line end that ends it.
+  -- A logical line: its columns open a level or close levels (2.1.8), which gives Indent or Dedents with the
+  -- line of the token behind them; then come its tokens, and Newline with the line of the line end that ends it.
   logical : {stack levels : List Columns} {at : Columns} {change : Change} {line next last : ℕ} {text rest end after : List ℕ} {ts : List Token} {out : Outcome}
       → Start line text at next rest → IsTrue (begins_token rest) → settled stack at ≡ Ok (change, levels)
       → Pieces zero next rest ts zero last end → Stands end Ended after → Lines levels (last + 1) after out
       → Lines stack line text (before (marks change next) (before ts (before (mark Newline last) out)))
-  -- The logical line that the text ends: it ends with Newline too, unless a bracket is open there. Then come the
-  -- Dedents
-  -- of all open levels and End.
+  -- The logical line that the text ends: it ends with Newline too, unless a
+  -- bracket is open there. Then come the Dedents of all open levels and End.
   last : {stack levels : List Columns} {at : Columns} {change : Change} {line next last depth : ℕ} {text rest : List ℕ} {ts : List Token}
       → Start line text at next rest → IsTrue (begins_token rest) → settled stack at ≡ Ok (change, levels)
       → Pieces zero next rest ts depth last []

@@ -1,5 +1,5 @@
--- The cache as scripts see it, `sys.modules` (Library Reference, sys): a table whose keys are texts. Only dotted names
--- have entries.
+-- The cache as scripts see it, `sys.modules` (Library Reference,
+-- sys): a table whose keys are texts. Only dotted names have entries.
 use Rattle.std.specs.Prelude.{ℕ, List, [], Option, Some, None, Bool, true, false, not, if◌then◌else◌}
 use Rattle.std.specs.List.{list_any}
 use Rattle.py_value.specs.declared.kind.Kind.TheVariants as kinds

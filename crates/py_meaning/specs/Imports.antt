@@ -1,5 +1,5 @@
--- Import of one name (`importlib._bootstrap._find_and_load`): its parent first, then its lock, then the search on the
--- parent's path.
+-- Import of one name (`importlib._bootstrap._find_and_load`): its
+-- parent first, then its lock, then the search on the parent's path.
 use Rattle.std.specs.Prelude.{ℕ, zero, suc, List, [], Option, Some, None, Bool, true, false, if◌then◌else◌}
 use Rattle.base_types.specs.Path.{Path}
 use Rattle.py_value.specs.declared.value.ModRef.{ModRef}

@@ -1,5 +1,5 @@
--- The methods of `sys.path` and `sys.modules`, which stand for the search path and the cache. They are read as callees
--- alone.
+-- The methods of `sys.path` and `sys.modules`, which stand for
+-- the search path and the cache. They are read as callees alone.
 use Rattle.std.specs.Prelude.{ℕ, List, [], ◌∷◌, codes, Option, Some, None, Bool, false, ◌||◌, if◌then◌else◌, ℤ}
 use Rattle.std.specs.Str.{bytes_eq}
 use Rattle.py_value.specs.declared.value.Value.{Value, out-Value}

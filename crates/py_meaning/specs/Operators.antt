@@ -144,8 +144,8 @@ conjoins b v = listed v (λ v s k. if is_true v then b s (sized k) else sized k 
 abbrev pub disjoins : Piece → Value → Piece
 disjoins b v = listed v (λ v s k. if is_true v then sized k (Went v) s else b s (sized k))
 
--- Callees. An attribute that is called may be a method of `sys.path` or `sys.modules`, which have no values of their
--- own.
+-- Callees. An attribute that is called may be a method of
+-- `sys.path` or `sys.modules`, which have no values of their own.
 
 -- an attribute as a callee: what its object does, and its name
 pub record AttributePart : Type 0 where
@@ -157,8 +157,8 @@ pub record Part : Type 0 where
   pub does : Piece
   pub attribute : Option AttributePart
 
--- behind the object of an attribute that is called, and its unit: the arguments of the method, or the attribute and the
--- arguments
+-- behind the object of an attribute that is called, and its unit:
+-- the arguments of the method, or the attribute and the arguments
 abbrev pub calls_member : Around → List ℕ → List Piece → Value → Piece
 calls_member around x ps object =
     if has_method object x

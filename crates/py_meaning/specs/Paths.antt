@@ -1,6 +1,5 @@
--- The path of a module (Language Reference 5.4.5; `_NamespacePath` of `importlib._bootstrap_external`), as a value: the
--- list of its
--- entries; where the module has no path, whether it is initialising.
+-- The path of a module (Language Reference 5.4.5; `_NamespacePath` of `importlib._bootstrap_external`),
+-- as a value: the list of its entries; where the module has no path, whether it is initialising.
 use Rattle.std.specs.Prelude.{ℕ, zero, suc, List, [], map, codes, Option, Some, None, Bool, true, false, if◌then◌else◌}
 use Rattle.py_value.specs.declared.value.ModRef.{ModRef}
 use Rattle.py_value.specs.declared.value.NsState.{NsState}
@@ -34,9 +33,8 @@ has_none init s k = k (Went (values.Bool init)) s
 abbrev pub texts_of : List (List ℕ) → List Value
 texts_of texts = map (λ (text : List ℕ). values.Text text) texts
 
--- Of a namespace, the path is its portions. Where they were computed from another parent path, or before the finders'
--- listings
--- were dropped, they are searched again.
+-- Of a namespace, the path is its portions. Where they were computed from another
+-- parent path, or before the finders' listings were dropped, they are searched again.
 
 -- the path is the portions that are kept
 abbrev pub has_portions : NsState → Piece
@@ -121,8 +119,8 @@ path_read path m reply = fails fault.NotInProfile
 abbrev pub path_came : (ModRef → Piece) → (ModRef → Piece) → Bool → ModRef → Reply → Piece
 path_came roused path raw m reply = accessed raw roused m (e.GetVar m.mid (codes "__path__") true) (path_read path m) reply
 
--- at most so many modules one above the other, since the cache can make a circle of them, and then a payment of more
--- than is left
+-- at most so many modules one above the other, since the cache can
+-- make a circle of them, and then a payment of more than is left
 abbrev pub paths : (ModRef → Piece) → ℕ → ModRef → Piece
 paths roused zero m = λ s k. pay most (fails fault.NotInProfile s k)
 paths roused (suc turns) m = λ s k.

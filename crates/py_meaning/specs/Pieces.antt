@@ -1,5 +1,5 @@
--- What a piece of a script does: from a state, and with what comes after it. The words that all forms of the language
--- share.
+-- What a piece of a script does: from a state, and with what
+-- comes after it. The words that all forms of the language share.
 use Rattle.std.specs.Prelude.{ℕ, List, [], ◌∷◌, ◌++◌, Bool, true, false, if◌then◌else◌}
 use Rattle.py_value.specs.Measures.{is_true}
 use Rattle.py_value.specs.declared.value.ModRef.{ModRef}
@@ -91,8 +91,8 @@ abbrev pub in_order : List Piece → Piece
 in_order [] = passes
 in_order (p ∷ ps) = λ s k. p s (on_value k (λ _ s. in_order ps s k))
 
--- What stands for the search path is, as an operand, the list that PathGet replies; what stands for the cache is no
--- operand.
+-- What stands for the search path is, as an operand, the list
+-- that PathGet replies; what stands for the cache is no operand.
 
 -- goes on with the entries of the search path as a list; PathGet replies nothing else
 abbrev pub as_list : (Value → Piece) → Reply → Piece

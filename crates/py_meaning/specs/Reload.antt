@@ -1,6 +1,5 @@
--- A module is loaded again (`importlib.reload`; `_bootstrap._exec`): its path, a search, its lock, and then its body in
--- the same
--- namespace. However it ends, the reload is ended in the machine.
+-- A module is loaded again (`importlib.reload`; `_bootstrap._exec`): its path, a search, its lock,
+-- and then its body in the same namespace. However it ends, the reload is ended in the machine.
 use Rattle.std.specs.Prelude.{ℕ, zero, suc, List, [], codes, Option, Some, None, Bool, true, false, if◌then◌else◌}
 use Rattle.base_types.specs.Path.{Path}
 use Rattle.py_value.specs.declared.value.ModRef.{ModRef}
@@ -51,8 +50,8 @@ abbrev pub kept : Slot → Flow → Piece
 kept slot (Went v) = reloaded_entry slot
 kept slot (Left leave) = λ s k. k (Left leave) s
 
--- the entry of the name was there at the end, or was gone: then KeyError, as the `finally` of `_exec` raises it,
--- whatever the body raised
+-- the entry of the name was there at the end, or was gone: then KeyError,
+-- as the `finally` of `_exec` raises it, whatever the body raised
 abbrev pub ended : ModRef → Flow → Reply → Piece
 ended m flow (r.Kept slot) = kept slot flow
 ended m flow r.Lost = fails (fault.Lost m.name)

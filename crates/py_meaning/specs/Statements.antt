@@ -76,8 +76,8 @@ deletes_item_at other object index = listed object refuses_item
 abbrev pub deletes_item : Value → Value → Piece
 deletes_item object index = deletes_item_at (out-Value object) object index
 
--- `target = v`, with the value first and then the operands of the target: a name is bound, an attribute or an item of
--- the object is set (7.2)
+-- `target = v`, with the value first and then the operands of the target:
+-- a name is bound, an attribute or an item of the object is set (7.2)
 abbrev pub assigns_at : Access → Expr-F Expr → List Value → Piece
 assigns_at access (Expr-F.Name x) vs = with_one vs (λ v. stores x v)
 assigns_at access (Expr-F.Attribute object x) vs = with_two vs (λ v o. sets_member access o x v)
@@ -140,8 +140,8 @@ optional (Some e) = e ∷ []
 
 -- The simple statements: their operands, and what they do with the values of these.
 
--- the value comes before the operands of its target (7.2); of `x op= e` the name is read before the expression is
--- evaluated (7.2.1)
+-- the value comes before the operands of its target (7.2); of `x op=
+-- e` the name is read before the expression is evaluated (7.2.1)
 abbrev pub stmt_operands_at : {B F H S : Type 0} → Stmt-F S B F H → List Expr
 stmt_operands_at (Stmt-F.Evaluate e) = e ∷ []
 stmt_operands_at (Stmt-F.Assign target e) = e ∷ target_operands target

@@ -36,8 +36,8 @@ jumps = codes "return" ∷ codes "break" ∷ codes "continue" ∷ []
 abbrev pub is_among : List (List ℕ) → List ℕ → Bool
 is_among words text = list_any (bytes_eq text) words
 
--- a keyword belongs to what is left out where it is listed, and `return`, `break` and `continue` inside a `finally`
--- block
+-- a keyword belongs to what is left out where it is listed, and
+-- `return`, `break` and `continue` inside a `finally` block
 abbrev pub is_left_out_word : Bool → List ℕ → Bool
 is_left_out_word inside_finally text = is_among listed_words text || (inside_finally && is_among jumps text)
 
@@ -57,8 +57,8 @@ abbrev pub by_what : Option (List ℕ) → ℕ → ParseError
 by_what (Some what) line = error.Profile line what
 by_what None line = error.Syntax line
 
--- TooDeep, where only the limit on levels refuses the token; else Profile, where it belongs to what is left out; else
--- Syntax
+-- TooDeep, where only the limit on levels refuses the token; else
+-- Profile, where it belongs to what is left out; else Syntax
 abbrev pub refusal_of : Refusal → Bool → Token → ParseError
 refusal_of refusal.TooDeep inside_finally t = error.TooDeep t.line
 refusal_of refusal.Syntax inside_finally t = by_what (what_of inside_finally t.kind) t.line

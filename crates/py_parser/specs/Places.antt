@@ -14,9 +14,8 @@ start = record { blocks = []; is_fresh = true; opening = Same; here = false }
 abbrev pub around : List Bool → Bool
 around blocks = slice_index_or blocks (length blocks - 1) false
 
--- what the first token of a line makes of the block behind its colon: a `finally` block, the body of a function, in
--- which
--- no `finally` block around counts, or a block of another form
+-- what the first token of a line makes of the block behind its colon: a `finally` block, the
+-- body of a function, in which no `finally` block around counts, or a block of another form
 abbrev pub opening_of : Lexeme → Opening
 opening_of token.Finally = Within
 opening_of token.Def = Anew

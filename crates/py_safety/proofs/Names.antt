@@ -92,8 +92,8 @@ pub path_shown : (s : Shown) (mid : ℕ) (x : List ℕ) (raw : Bool) (v : Value)
     → Has (shown_more s (e.GetVar mid x raw, r.Value v)).namespaces mid
 path_shown s mid x raw v is named = rw named (rw is (inl refl))
 
--- the first uses of modules that exist are safe, and what comes in place of the path of a namespace is where it is shown that
--- the module is one
+-- the first uses of modules that exist are safe, and what comes in place
+-- of the path of a namespace is where it is shown that the module is one
 pub record SafeAccess (access : names.Access) : Type 0 where
   pub roused : SafeModules access.roused
   pub replaced : (s : Shown) (mid : ℕ) (n : List ℕ) → Has s.namespaces mid → SafeAt s (access.replaced mid n)

@@ -10,9 +10,8 @@
 --   items "]"
 --   items   := [ expr { "," expr } [ "," ] ]
 --
--- `room` is how many levels may still be opened. An opening bracket, a prefix `not` and a unary `-` open one each,
--- which
--- stays open to the end of the bracket or operand.
+-- `room` is how many levels may still be opened. An opening bracket, a prefix `not` and
+-- a unary `-` open one each, which stays open to the end of the bracket or operand.
 use Rattle.std.specs.Prelude.{ℕ, suc, Bool, true, false, ℤ, List, [], ◌∷◌, ◌++◌}
 use Rattle.py_syntax.specs.declared.lexeme.Lexeme.{Lexeme}
 use Rattle.py_syntax.specs.declared.lexeme.Lexeme.TheVariants as token

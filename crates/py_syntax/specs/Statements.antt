@@ -34,9 +34,8 @@ abbrev pub is_among : List ℕ → List (List ℕ) → Bool
 is_among n [] = false
 is_among n (m ∷ ms) = pointwise nat_eq n m || is_among n ms
 
--- Parameters behind those that are found already, with all of them, and with whether another one may follow. Each
--- differs
--- from those before it.
+-- Parameters behind those that are found already, with all of them, and
+-- with whether another one may follow. Each differs from those before it.
 pub data IsParameters : List (List ℕ) → ℕ → List Lexeme → List (List ℕ) × Bool → Type 0 where
   no_parameters : {found : List (List ℕ)} {room : ℕ} → IsParameters found room [] (found, true)
   last_parameter : {found : List (List ℕ)} {room : ℕ} (n : List ℕ) → is_among n found ≡ false → IsParameters found room (token.Name n ∷ []) (found ++ n ∷ [], false)

@@ -1,5 +1,5 @@
--- What bytes would spell, whether they are a spelling or not: a text or source is spelled by them exactly where its
--- spelling gives them back.
+-- What bytes would spell, whether they are a spelling or not: a text or
+-- source is spelled by them exactly where its spelling gives them back.
 use Rattle.std.specs.Prelude.{ℕ, ◌+◌, ◌*◌, ◌-◌, ◌%◌, List, [], ◌∷◌, ◌++◌, drop, Bool, false, ◌==◌, nat_lt, fold, if◌then◌else◌}
 use Rattle.quoted_text.specs.declared.candidate.Reading.{Reading}
 use Rattle.quoted_text.specs.declared.candidate.Reading.TheVariants as reading

@@ -47,9 +47,9 @@ absorbed old fork = record { faults = raised old.faults fork.faults; lists = rai
 abbrev pub Absorbs : {T : Type 0} → (T → ℕ) → (T → ℕ) → T → T → T → Type 0
 Absorbs faults lists old new fork = counted faults lists new ≡ absorbed (counted faults lists old) (counted faults lists fork)
 
--- thread t ran over this tree with this fuel, which made these pairs of it: with an ending they are those of its
--- meaning up to its End, and `Read` comes only where a call of the tree failed; at want of memory they are a part of
--- those, with no End
+-- thread t ran over this tree with this fuel, which made these pairs of it: with an
+-- ending they are those of its meaning up to its End, and `Read` comes only where a
+-- call of the tree failed; at want of memory they are a part of those, with no End
 pub record Ran (tree : Option Files) (t : ℕ) (run : Run) (fuel : ℕ) (old new : Counts) (mine : Pairs)
     (result : Result Ending NoMemory) : Type 0 where
   pub faults : old.faults ≤ new.faults
@@ -85,8 +85,8 @@ abbrev pub MayBegin : {O : Type 0} → BoundTo O → ℕ → ℕ → Type 0
 MayBegin book t zero = Unit {0}
 MayBegin book t (suc n) = Ready book.opening.rounds book.history t × (own t book.history ≡ []) × MayBegin book (suc t) n
 
--- a round ran on a book: the history, which is legal, gained entries of these threads alone, the outlet kept up with
--- them, and each thread has run
+-- a round ran on a book: the history, which is legal, gained entries of
+-- these threads alone, the outlet kept up with them, and each thread has run
 pub record RoundRan {O : Type 0} (piece : Pieces) (out : O → Outgo) (tree : Option Files) (from : ℕ) (runs : Runs)
     (fuel : ℕ) (before after : BoundTo O) (old new : Counts) (results : Results) : Type 0 where
   pub written : Written piece out (base_of out (before, from, length runs)) after.history after

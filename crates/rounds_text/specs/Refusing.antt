@@ -1,6 +1,5 @@
--- The line at which a rounds file is refused: the first at which no rounds file goes on. That is one more than the last
--- line where
--- only a line is missing, and a last line without LF is such a line.
+-- The line at which a rounds file is refused: the first at which no rounds file goes on. That is one
+-- more than the last line where only a line is missing, and a last line without LF is such a line.
 use Rattle.std.specs.Prelude.{◌≡◌, ◌⊎◌, ℕ, ◌+◌, List, [], ◌∷◌, ◌++◌, length, true, Result, Ok, Err}
 use Rattle.std.specs.List.{list_all}
 use Rattle.rounds_text.specs.declared.rounds.Round.{Round}

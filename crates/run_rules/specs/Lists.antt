@@ -20,8 +20,7 @@ abbrev pub ends_in : List (Event × Reply) → ℕ
 ends_in [] = 0
 ends_in (p ∷ pairs) = ends p.0 + ends_in pairs
 
--- from a count of lists to a later one, where the script has made these pairs and the rest of its run is due: each list
--- but
--- the last is one of its DirSet events, and so is the last, unless that event is due next
+-- from a count of lists to a later one, where the script has made these pairs and the rest of its run is
+-- due: each list but the last is one of its DirSet events, and so is the last, unless that event is due next
 pub record Listed (old new : ℕ) (mine : List (Event × Reply)) (rest : Run) : Type 0 where
   pub bound : new ≤ old + (lists_in mine + due rest)

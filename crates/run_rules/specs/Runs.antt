@@ -47,8 +47,8 @@ abbrev pub IsTold : Option Files → (question : Question) → Answer question �
 IsTold None question answer = Unit {0}
 IsTold (Some files) question answer = answer ≡ told files question
 
--- a run: it is over, or it pays, or it looks into the tree and goes on by the answer, or it makes an event and goes on
--- by the reply
+-- a run: it is over, or it pays, or it looks into the tree and goes
+-- on by the answer, or it makes an event and goes on by the reply
 pub data Run : Type 0 where
   Over : (how : How) → Run
   Pays : (of_tree : Bool) (units : ℕ) (next : Run) → Run
@@ -78,8 +78,8 @@ pub data Stop : Type 0 where
   Came : (how : How) → Stop
   Cut : (event : Event) → Stop
 
--- what a run gives on a list of replies: the events that were made with their replies, where it stops, and the replies
--- that are left
+-- what a run gives on a list of replies: the events that were made
+-- with their replies, where it stops, and the replies that are left
 pub record Ending : Type 0 where
   pub pairs : List (Event × Reply)
   pub stop : Stop

@@ -35,10 +35,9 @@ pub record Ended (mine : List (Event × Reply)) (outcome : Outcome) : Type 0 whe
   pub paid : ℕ
   pub whole : mine ≡ before ++ (End outcome paid, Done) ∷ []
 
--- at want of memory the pairs are a part of those of the whole run with the whole fuel; only where the tree's count of
--- faults rose may they be on the way that a failed call leaves: with a budget k the run is spent at a payment for a
--- call of
--- the tree, and what the script holds is being given up
+-- at want of memory the pairs are a part of those of the whole run with the whole fuel; only where
+-- the tree's count of faults rose may they be on the way that a failed call leaves: with a budget k
+-- the run is spent at a payment for a call of the tree, and what the script holds is being given up
 pub data Broken (files : Files) (t : ℕ) (run : Run) (fuel : ℕ) (mine : List (Event × Reply)) (old new : ℕ) : Type 0 where
   in_run : IsPart files t run fuel mine → Broken files t run fuel mine old new
   at_read : (k : ℕ) → k + 1 ≤ fuel → Rose old new → GivesUp (Some files) t run k mine true → Broken files t run fuel mine old new

@@ -9,9 +9,8 @@ use Rattle.machine_events.specs.Fitting.{Fits}
 abbrev pub pairs_of : List Pair → List (Event × Reply)
 pairs_of own = map (λ (p : Pair). (p.event, p.reply)) own
 
--- why the pair at a place of the list does not serve an event: there is none or it has another event; or, under the
--- flag, it has
--- this event with a reply that is of no kind for it
+-- why the pair at a place of the list does not serve an event: there is none or it has
+-- another event; or, under the flag, it has this event with a reply that is of no kind for it
 abbrev pub IsOther : Bool → Option Pair → Event → Type 0
 IsOther false None event = Unit {0}
 IsOther false (Some p) event = p.event ≡ event → ⊥

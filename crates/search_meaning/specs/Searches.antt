@@ -53,8 +53,8 @@ KeepsAll (search.Keeps dir listing next) = KeepsAll next
 KeepsAll (search.Stamps path next) = (stamp : Stamp) → KeepsAll (next stamp)
 KeepsAll (search.Lists dir next) = (names : List (List ℕ)) → IsKeeping (next names) × KeepsAll (next names)
 
--- what the events of a search leave shown: what is held and what the thread does is as it was, and what exists still
--- exists
+-- what the events of a search leave shown: what is held and what
+-- the thread does is as it was, and what exists still exists
 pub record Same (s later : Shown) : Type 0 where
   pub held : later.held ≡ s.held
   pub runs : later.doing ≡ Running

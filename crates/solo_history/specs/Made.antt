@@ -81,9 +81,8 @@ abbrev pub history_of : State → List Turn → ℕ → ℕ → List Entry
 history_of s [] t fuel = []
 history_of s (turn ∷ turns) t fuel = turn_entries s turn t fuel ++ history_of (replay s (turn_entries s turn t fuel)) turns (t + 1) fuel
 
--- a script can stop there: with that budget its run comes to a payment for a call of the tree that it cannot make, and
--- that
--- payment is within its fuel
+-- a script can stop there: with that budget its run comes to a payment for a
+-- call of the tree that it cannot make, and that payment is within its fuel
 abbrev pub CanStopAt : Option ℕ → ℕ → How → Type 0
 CanStopAt None fuel how = Unit {0}
 CanStopAt (Some stop) fuel how = (how ≡ Spent true) × (stop + 1 ≤ fuel)

@@ -46,9 +46,8 @@ abbrev pub AllSafe : List Turn → ℕ → Type 0
 AllSafe [] t = Unit {0}
 AllSafe (turn ∷ turns) t = Safe (shown_first t) turn.run × AllSafe turns (t + 1)
 
--- where memory was wanted in a script: its pairs are a part of those of its run; or a call of the tree had failed, and
--- with the
--- budget that was paid before it, all that was held was being given up
+-- where memory was wanted in a script: its pairs are a part of those of its run; or a call of the
+-- tree had failed, and with the budget that was paid before it, all that was held was being given up
 abbrev pub BreaksAt : Option ℕ → Turn → ℕ → ℕ → List (Event × Reply) → Type 0
 BreaksAt None turn t fuel mine = IsPart turn.files t turn.run fuel mine
 BreaksAt (Some stop) turn t fuel mine = GivesUp (Some turn.files) t turn.run stop mine true × (stop + 1 ≤ fuel)

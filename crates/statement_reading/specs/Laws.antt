@@ -16,9 +16,8 @@ ReadIsSpelled = (room : ℕ) (ts rest : List Lexeme) (s : Script) → script roo
 abbrev pub SpelledIsRead : Type 0
 SpelledIsRead = (room : ℕ) (ts : List Lexeme) (s : Script) → Spells room ts s → script room ts ≡ given s []
 
--- The refused token is the first one that no script has after those before it, and it is too deep exactly where with
--- more
--- levels some script has it there.
+-- The refused token is the first one that no script has after those before it,
+-- and it is too deep exactly where with more levels some script has it there.
 abbrev pub RefusedIsFirst : Type 0
 RefusedIsFirst = (room : ℕ) (ts : List Lexeme) (fault : Fault) → script room ts ≡ Err fault → IsFirstRefused Spells room ts fault
 

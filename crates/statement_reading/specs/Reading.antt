@@ -1,6 +1,5 @@
--- Reading statements by descent, a definition for each function of the code. `inner` reads statements with as many
--- levels
--- as `room`.
+-- Reading statements by descent, a definition for each function of
+-- the code. `inner` reads statements with as many levels as `room`.
 use Rattle.std.specs.Prelude.{ℕ, zero, suc, ◌&&◌, Bool, true, false, if◌then◌else◌, List, [], ◌∷◌, ◌++◌, Option, Some, None, Ok, Err}
 use Rattle.token_reading.specs.Reading.{Read, ◌>>=◌, given, refused, too_deep, head_of}
 use Rattle.token_reading.specs.Many.{rounds}

@@ -2,9 +2,8 @@
 use Rattle.std.specs.Prelude.{ℕ, nat_eq, ◌&&◌, Bool, true, false, List, [], ◌∷◌, Option, Some, None, if◌then◌else◌}
 use Rattle.std.specs.Cmp.Lexicographic.{pointwise}
 
--- one thing that is held: a lock, taken once for which no body runs yet; a module's body that was not ended; a reload,
--- with
--- its body where that has begun. Each body counts once more for the lock of its module's name
+-- one thing that is held: a lock, taken once for which no body runs yet; a module's body that was not ended;
+-- a reload, with its body where that has begun. Each body counts once more for the lock of its module's name
 pub data Holding : Type 0 where
   Taken : (name : List ℕ) → Holding
   Loading : (load : ℕ) → Holding

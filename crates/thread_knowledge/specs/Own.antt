@@ -19,9 +19,8 @@ abbrev pub HasEnded : List Entry → ℕ → Type 0
 HasEnded [] t = ⊥
 HasEnded (entry ∷ entries) t = ((entry.thread ≡ t) × IsEnd entry.event) ⊎ HasEnded entries t
 
--- the thread is one of the scripts, and every thread of an earlier round has its End in the history; the rounds tell
--- for each
--- thread the number of the first one of its round
+-- the thread is one of the scripts, and every thread of an earlier round has its End in
+-- the history; the rounds tell for each thread the number of the first one of its round
 pub record Ready (rounds : List ℕ) (history : List Entry) (t : ℕ) : Type 0 where
   pub first : ℕ
   pub round : slice_get rounds t ≡ Some first

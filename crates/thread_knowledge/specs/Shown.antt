@@ -116,9 +116,8 @@ abbrev pub body_answered : SpecKind → Reply → List ℕ
 body_answered kind (r.Load load mid) = if is_namespace_kind kind then mid ∷ [] else []
 body_answered kind reply = []
 
--- the module of an event that is shown to have the state of a namespace: a reply gave its `__path__` as that of a
--- namespace, or
--- a body of it began under the spec of a namespace
+-- the module of an event that is shown to have the state of a namespace: a reply gave its
+-- `__path__` as that of a namespace, or a body of it began under the spec of a namespace
 abbrev pub namespace_of : Event → Reply → List ℕ
 namespace_of (e.GetVar mid x raw) reply = if pointwise nat_eq x (codes "__path__") then path_answered mid reply else []
 namespace_of (e.Add spec text) reply = body_answered spec.kind reply

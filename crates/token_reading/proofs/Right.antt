@@ -1,6 +1,6 @@
--- What reading came to: what is read is spelled so; where a token is refused, the tokens before it can be completed; and
--- no token behind the one that was looked at last matters. Stated once for every form, with a lemma for each way to
--- put forms together.
+-- What reading came to: what is read is spelled so; where a token is refused, the tokens
+-- before it can be completed; and no token behind the one that was looked at last
+-- matters. Stated once for every form, with a lemma for each way to put forms together.
 use Rattle.std.proofs.Common.{◌≡◌, ℕ, zero, suc, ◌+◌, ◌<◌, ◌≤◌, List, [], ◌∷◌, ◌++◌, length, Option, Some, None, Result, Ok, Err, refl, sym, ap, subst, ◌∙◌, append_assoc, arith, length-append}
 use Rattle.token_reading.specs.declared.fault.Refusal.{Refusal}
 use Rattle.token_reading.specs.declared.fault.Refusal.TheVariants.{TooDeep, Syntax}

@@ -1,5 +1,5 @@
--- Rounds of a form, as long as the token ahead begins one: `{ .. }` of a grammar. A round may go by what was read
--- before.
+-- Rounds of a form, as long as the token ahead begins one: `{
+-- .. }` of a grammar. A round may go by what was read before.
 use Rattle.std.specs.Prelude.{ℕ, zero, suc, Bool, List, length, Option, if◌then◌else◌}
 use Rattle.token_reading.specs.Reading.{Read, ◌>>=◌, given, refused, head_of}
 

@@ -15,8 +15,8 @@ pub record IsViable {T A : Type 0} (Spells : ℕ → List T → A → Type 0) (r
   pub value : A
   pub spelled : Spells room (ts ++ rest) value
 
--- The tokens before the refused one begin a list that spells a value, and with it they don't. It is too deep where with
--- more levels they do.
+-- The tokens before the refused one begin a list that spells a value,
+-- and with it they don't. It is too deep where with more levels they do.
 pub record IsFirstRefused {T A : Type 0} (Spells : ℕ → List T → A → Type 0) (room : ℕ) (ts : List T) (fault : Fault) : Type 0 where
   pub front : List T
   pub rest : List T

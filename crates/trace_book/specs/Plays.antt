@@ -50,8 +50,8 @@ module _ {O : Type 0} where
       × (Rounded me.0.base me.0.seen → Rounded me.0.base both)
 
 module _ {O : Type 0} (piece : Pieces) (out : O → Outgo) where
-  -- the turn was had, with a book whose history begins with what was seen, and in which the seat's own events are as it
-  -- knows them
+  -- the turn was had, with a book whose history begins with what was
+  -- seen, and in which the seat's own events are as it knows them
   abbrev pub Took : Seated O → Seated O → Type 0
   Took me after =
       (b : BoundTo O) × (after ≡ (holding me.0 b.history, (0, Some b) ∷ [])) × Written piece out me.0.base b.history b

@@ -66,8 +66,8 @@ lines_in (line ∷ more ∷ lines) = opened (format_in line) (more ∷ lines)
 abbrev pub pieces : List ℕ → List (List ℕ)
 pieces bytes = slice_split (λ b. b == 10) bytes
 
--- the format and the entries of a trace; else the number of the first line that is no line of the format, with the
--- cause
+-- the format and the entries of a trace; else the number of
+-- the first line that is no line of the format, with the cause
 unfoldable pub trace_in : List ℕ → Read (ℕ × List Entry)
 trace_in bytes = lines_in (pieces bytes)
 

@@ -102,8 +102,8 @@ value_text = fold-Value (List ℕ) value_at
 abbrev pub values_text : List Value → List ℕ
 values_text values = in_brackets (map value_text values)
 
--- what a spec has behind its name: `file(TEXT)`, `package(TEXT,[..])` or `namespace([..])`. A spec that is built in
--- stands in no trace.
+-- what a spec has behind its name: `file(TEXT)`, `package(TEXT,[..])`
+-- or `namespace([..])`. A spec that is built in stands in no trace.
 abbrev pub spec_text : SpecKind → List ℕ
 spec_text kinds.Builtin = codes "builtin"
 spec_text (kinds.Source file) = codes "file(" ++ quoted file ++ codes ")"

@@ -1,8 +1,6 @@
--- What a trace can hold: numbers in the range of their type, texts that are UTF-8, names that are dotted names, and
--- values
--- with at most 64 lists and tuples inside one another. Each value of the program's types is so, but that a spec which
--- is
--- built in stands in no trace.
+-- What a trace can hold: numbers in the range of their type, texts that are UTF-8, names that
+-- are dotted names, and values with at most 64 lists and tuples inside one another. Each
+-- value of the program's types is so, but that a spec which is built in stands in no trace.
 use Rattle.std.specs.Prelude.{ℕ, ℤ, ◌^◌, List, Bool, true, false, nat_lt, nat_le, ◌&&◌, Option, Some, None}
 use Rattle.std.specs.List.{list_all}
 use Rattle.std.specs.Str.{is_utf8}

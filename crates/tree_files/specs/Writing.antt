@@ -25,6 +25,7 @@ pub appended-appended : (written : Option (List ℕ)) (a b : List ℕ) → appen
 appended-appended None a b = refl
 appended-appended (Some w) a b = ap Some (append_assoc w a b)
 
+-- an empty piece leaves what is written as it was
 pub appended-nothing : (written : Option (List ℕ)) → appended written [] ≡ written
 appended-nothing None = refl
 appended-nothing (Some w) = ap Some (append-nil w)

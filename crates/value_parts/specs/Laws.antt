@@ -1,6 +1,5 @@
 -- What a thread knows of the modules and functions in values, through the operators. `KnowsAll s v` says that each
--- module in
--- v, at any depth, exists with its name and place, and that each load whose function stands in v exists.
+-- module in v, at any depth, exists with its name and place, and that each load whose function stands in v exists.
 use Rattle.std.specs.Prelude.{◌≡◌, ℕ, Bool, false, List, ℤ, Some}
 use Rattle.std.specs.List.{slice_get}
 use Rattle.py_value.specs.declared.kind.Kind.{Kind}

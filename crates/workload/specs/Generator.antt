@@ -1,6 +1,6 @@
--- A made workload: modules that import earlier ones, and scripts that import modules. Its numbers come from a linear
--- congruential generator, so one seed makes the same workload on each machine. No chain of imports is longer than 14
--- modules.
+-- A made workload: modules that import earlier ones, and scripts that import
+-- modules. Its numbers come from a linear congruential generator, so one seed makes
+-- the same workload on each machine. No chain of imports is longer than 14 modules.
 use Rattle.std.specs.Prelude.{◌≡◌, ℕ, zero, suc, ◌+◌, ◌*◌, ◌/◌, ◌%◌, ◌^◌, ◌==◌, List, [], ◌∷◌, ◌++◌, codes, if◌then◌else◌, false}
 use Rattle.std.specs.Fmt.{decimal}
 use Rattle.tree_files.specs.Files.{Files, node_at, is_dir}

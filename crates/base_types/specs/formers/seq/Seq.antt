@@ -35,6 +35,7 @@ the_empty = []
 abbrev pub the_items : (X : Type 0) → List X → List X
 the_items X xs = xs
 
+-- its parts, told of one after another, are its items
 pub the_items_listed : (X : Type 0) (xs : List X) → listed _ (children (the_former this) X xs) ≡ the_items X xs
 the_items_listed X xs = list-listed X xs
 
