@@ -13,7 +13,7 @@ use boxed::Boxed;
 use py_faults::Fault;
 use py_frames::{Frame, Item, Want};
 use py_functions::Program;
-use py_names::fail;
+use py_ways::fail;
 use py_state::{Flow, Leave, Parsing, Scope, Source, Thread};
 use std::alloc::Global;
 use std::mem;

@@ -11,7 +11,7 @@ use machine_events::Reply;
 use py_calls::sourced;
 use py_faults::Fault;
 use py_frames::Want;
-use py_names::fail;
+use py_ways::fail;
 use py_state::Thread;
 use py_value::{ModRef, Value};
 use std::alloc::Global;

@@ -16,7 +16,7 @@ use base_types::{NoMemory, Seq, Text};
 use machine_events::{Event, Reply};
 use py_faults::Fault;
 use py_frames::{Frame, Item, OnReply, Want};
-use py_names::{fail, went};
+use py_ways::{fail, went};
 use py_state::Thread;
 use py_syntax::Expr;
 use py_value::Value;

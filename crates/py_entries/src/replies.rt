@@ -8,7 +8,7 @@ use base_types::NoMemory;
 use machine_events::Reply;
 use py_faults::Fault;
 use py_frames::Want;
-use py_names::{fail, went};
+use py_ways::{fail, went};
 use py_state::Thread;
 use py_value::Value;
 use std::alloc::Global;

@@ -12,7 +12,7 @@ use base_types::NoMemory;
 use machine_events::{Event, Slot};
 use py_faults::Fault;
 use py_frames::{OnReply, Want};
-use py_names::fail;
+use py_ways::fail;
 use py_state::Thread;
 use py_value::Value;
 use spec_core::Dotted;

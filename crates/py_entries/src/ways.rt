@@ -8,7 +8,7 @@ use base_types::{NoMemory, Text};
 use machine_events::Slot;
 use py_faults::Fault;
 use py_frames::Want;
-use py_names::{fail, went};
+use py_ways::{fail, went};
 use py_state::Thread;
 use py_value::{Applied, Kind, Raised, Value};
 use std::alloc::Global;

@@ -1,25 +1,10 @@
-//! Steps of names and attributes: how they are read, set and deleted.
+//! Steps of names: how they are read, bound and deleted (Language Reference 4.2.2).
 #![tactic(auto)]
 
 mod built_ins;
-mod listing;
 mod locals;
-mod members;
-mod methods;
 mod names;
 mod paths;
-mod rousing;
-mod ways;
 
-pub use listing::{first_listed, is_listed, list_operand, listed, search_path, search_path_read};
 pub use locals::{is_local_name, set_local, unset_local};
-pub use members::{
-    delete_member, member, member_deleted, member_read, member_stored, set_member, stored,
-};
-pub use methods::has_method;
-pub use names::{
-    delete_name, deleted, global, is_namespace_path, read_global, read_name, sized, store,
-};
-pub use paths::replace;
-pub use rousing::{rouse, roused};
-pub use ways::{fail, went};
+pub use names::{delete_name, deleted, global, read_global, read_name, store};

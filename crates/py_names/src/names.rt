@@ -1,10 +1,8 @@
 //! Names (Language Reference 4.2.2).
 ghost use Rattle.std.specs.Prelude.{◌≡◌, IfOk, true};
-ghost use Rattle.thread_knowledge.specs.Shown.{is_namespace_path};
 ghost use Rattle.py_meaning.specs.Meaning.{around_at};
 ghost use Rattle.py_meaning.specs.Names as spec;
 ghost use Rattle.py_meaning.specs.Pieces as words;
-ghost use Rattle.py_state.specs.declared.flow.Flow.TheVariants.{Went};
 ghost use Rattle.py_frames.specs.Does.{Does, pieces, begins, replies};
 ghost use Rattle.py_frames.specs.declared.work.Item.TheVariants as items;
 ghost use Rattle.py_frames.specs.declared.replies.OnReply.TheVariants as ons;
@@ -12,24 +10,14 @@ ghost use Rattle.py_frames.specs.declared.replies.OnReply.TheVariants as ons;
 use crate::built_ins::built_in;
 use crate::locals::{is_local_name, local_value, set_local, unset_local};
 use crate::paths::replace_own;
-use crate::ways::{fail, went};
 use base_types::{Exact, NoMemory, Text};
 use machine_events::{Event, Reply};
 use py_faults::Fault;
 use py_frames::{Frame, Item, OnReply, Want};
 use py_state::{Flow, Thread};
-use py_value::{Value, size};
+use py_value::Value;
+use py_ways::{fail, is_namespace_path, sized, went};
 use std::alloc::Global;
-
-/// Whether a value stands for the path of a namespace.
-pub fn is_namespace_path(value: &Value) -> bool
-    ensures { result ≡ is_namespace_path value.now }
-{
-    match value {
-        Value::NsPath => true,
-        _ => false,
-    }
-}
 
 /// A variable's value.
 fn variable(alloc: Global, thread: &Thread, name: &Text, value: Value) -> Result<Want, NoMemory>
@@ -128,19 +116,6 @@ pub fn deleted(alloc: Global, thread: &Thread, name: Text, reply: Reply) -> Resu
             drop(other);
             fail(alloc, thread, Fault::NotInProfile)
         }
-    }
-}
-
-/// The size of a value is paid, and then it goes on.
-pub fn sized(thread: &Thread, value: Value) -> Want
-    ensures { Does thread.now (pieces (λ w d s k. words.sized k (Went value) s) thread.now) result }
-{
-    let _ = thread;
-    let units = size(&value);
-    Want::Pay {
-        of_tree: false,
-        units,
-        item: Item::Give(Flow::Went(value)),
     }
 }
 

@@ -4,7 +4,7 @@ ghost use Rattle.py_meaning.specs.Meaning.{around_at};
 ghost use Rattle.py_frames.specs.Does.{Does, begins, catches_from, goes_on, pieces};
 ghost use Rattle.py_frames.specs.declared.work.Frame.TheVariants as frames;
 ghost use Rattle.py_frames.specs.declared.work.Item.TheVariants as items;
-ghost use Rattle.py_names.specs.Listing.{is_listed};
+ghost use Rattle.py_ways.specs.Listing.{is_listed};
 ghost use Rattle.py_state.specs.declared.flow.Flow.TheVariants.{Went};
 ghost use Rattle.py_tries.specs.Parts.{chosen_at, handles_by};
 
@@ -13,7 +13,7 @@ use crate::kinds::takes;
 use base_types::{Exact, NoMemory, Seq};
 use py_faults::Fault;
 use py_frames::{Frame, Item, Want};
-use py_names::{fail, is_listed};
+use py_ways::{fail, is_listed};
 use py_state::{Flow, Leave, Thread};
 use py_syntax::Handler;
 use py_value::{Raised, Value};

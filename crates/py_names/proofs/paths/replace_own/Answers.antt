@@ -6,7 +6,7 @@ use Rattle.py_state.specs.declared.thread.State.{State}
 use Rattle.py_meaning.specs.Meaning.{around_at}
 use Rattle.py_meaning.specs.Names.{Access, replaces, replaces_own}
 use Rattle.py_meaning.specs.Pieces.{Onward}
-use Rattle.py_names.proofs.Lifts.{lifted_at}
+use Rattle.py_ways.proofs.Lifts.{lifted_at}
 use Rattle.py_names.proofs.paths.replace_own.Goals as goal
 
 own_is : (access : Access) (o : Option Source) (n x : List ℕ) (s : State) (k : Onward)

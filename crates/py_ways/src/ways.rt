@@ -1,14 +1,15 @@
 //! The plainest ways on.
 ghost use Rattle.std.specs.Prelude.{◌≡◌, IfOk};
+ghost use Rattle.py_meaning.specs.Pieces as words;
 ghost use Rattle.py_meaning.specs.Pieces.{fails, Piece};
 ghost use Rattle.py_frames.specs.Does.{Does, pieces};
 ghost use Rattle.py_state.specs.declared.flow.Flow.TheVariants.{Went};
 
 use base_types::NoMemory;
 use py_faults::{Fault, raised};
-use py_frames::Want;
+use py_frames::{Item, Want};
 use py_state::{Flow, Leave, Thread};
-use py_value::Value;
+use py_value::{Applied, Value, size};
 use std::alloc::Global;
 
 /// The error of a fault is raised.
@@ -26,4 +27,27 @@ pub fn went(thread: &Thread, value: Value) -> Want
 {
     let _ = thread;
     Want::Go(Flow::Went(value))
+}
+
+/// The size of a value is paid, and then it goes on.
+pub fn sized(thread: &Thread, value: Value) -> Want
+    ensures { Does thread.now (pieces (λ w d s k. words.sized k (Went value) s) thread.now) result }
+{
+    let _ = thread;
+    let units = size(&value);
+    Want::Pay {
+        of_tree: false,
+        units,
+        item: Item::Give(Flow::Went(value)),
+    }
+}
+
+/// What an operator gives, with the size of its value paid.
+pub fn given(thread: &Thread, applied: Applied) -> Want
+    ensures { Does thread.now (pieces (λ w d s k. words.gives applied s (words.sized k)) thread.now) result }
+{
+    match applied {
+        Applied::Value(value) => sized(thread, value),
+        Applied::Raised(error) => Want::Go(Flow::Left(Leave::Raised(error))),
+    }
 }

@@ -1,7 +1,7 @@
 //! `sys.path` as an operand: a list comes in its place. `sys.modules` is no operand.
 ghost use Rattle.std.specs.Prelude.{◌≡◌, slice_set, IfOk, true};
 ghost use Rattle.py_meaning.specs.Pieces as words;
-ghost use Rattle.py_names.specs.Listing as spec;
+ghost use Rattle.py_ways.specs.Listing as spec;
 ghost use Rattle.py_frames.specs.Does.{Does, begins, goes_on, item_piece, pieces, replies, with_operand};
 ghost use Rattle.py_frames.specs.declared.work.Item.TheVariants as items;
 ghost use Rattle.py_frames.specs.declared.work.Frame.TheVariants as frames;

@@ -10,8 +10,8 @@ use Rattle.py_meaning.specs.Pieces.{Piece, Onward, listed, all_listed}
 use Rattle.py_meaning.specs.Meaning.{World}
 use Rattle.py_frames.specs.Does.{Does, pieces}
 use Rattle.py_frames.specs.declared.want.Want.{Want}
-use Rattle.py_names.specs.Listing.{is_listed, first_listed}
-use Rattle.py_names.proofs.Operands.{list_is_itself, listed_with, listed_again}
+use Rattle.py_ways.specs.Listing.{is_listed, first_listed}
+use Rattle.py_ways.proofs.Operands.{list_is_itself, listed_with, listed_again}
 
 -- where they are equal in the thread's state
 pub lifted_at : {E : Type 0} (th : Thread) (p q : World → ℕ → Piece) (result : Result Want E)

@@ -19,7 +19,7 @@ use Rattle.py_state.specs.declared.flow.Flow.TheVariants.{Left}
 use Rattle.py_state.specs.declared.thread.State.{State}
 use Rattle.py_meaning.specs.Pieces.{Piece, Onward, calls, as_list, on_value, lists_at, listed, all_listed}
 use Rattle.py_frames.specs.Does.{goes_with}
-use Rattle.py_names.specs.Listing.{is_listed_at, is_listed, first_listed}
+use Rattle.py_ways.specs.Listing.{is_listed_at, is_listed, first_listed}
 
 -- ---- a value in whose place no list comes
 

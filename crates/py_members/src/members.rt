@@ -10,14 +10,13 @@ ghost use Rattle.py_frames.specs.declared.replies.OnReply.TheVariants as ons;
 ghost use Rattle.machine_events.specs.declared.event.Reply.TheVariants as reply_kinds;
 
 use crate::paths::member_value;
-use crate::rousing::rouse;
-use crate::ways::{fail, went};
 use base_types::{Exact, NoMemory, Text};
 use machine_events::{Event, Reply};
 use py_faults::Fault;
 use py_frames::{OnReply, Want};
 use py_state::Thread;
 use py_value::{Kind, ModRef, Raised, Value};
+use py_ways::{fail, rouse, went};
 use std::alloc::Global;
 
 /// Whether an error of the kind tells the name of a module.
