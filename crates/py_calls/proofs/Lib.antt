@@ -1,8 +1,2 @@
-pub mod Lines
 pub mod Bound
 pub mod Depth
-pub mod Alone
-pub mod Asking
-pub mod Missing
-pub mod Lifts
-pub mod Listed

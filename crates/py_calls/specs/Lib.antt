@@ -1,5 +1,1 @@
-pub mod Lines
 pub mod Depth
-pub mod Few
-pub mod Asking
-pub mod Around

@@ -1,16 +1,6 @@
-//! Steps of calls: functions, kinds of errors and built-in functions (Language Reference 6.3.4).
+//! Steps of calls of functions (Language Reference 6.3.4 and 8.7).
 #![tactic(auto)]
 
-mod attributes;
-mod callees;
-mod few;
 mod functions;
-mod kinds;
-mod loading;
-mod natives;
-mod operands;
-mod print;
 
-pub use attributes::{give_default, tell};
-pub use callees::call;
-pub use functions::{come_back, sourced};
+pub use functions::{call_function, come_back, sourced};

@@ -1,4 +1,3 @@
 pub mod Parts
 pub mod Levels
-pub mod Lifts
 pub mod Lists

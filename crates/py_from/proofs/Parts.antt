@@ -1,6 +1,5 @@
 -- What import statements do, by their parts.
-use Rattle.std.proofs.Common.{◌≡◌, ◌∙◌, refl, ap, ℕ, zero, suc, ◌+◌, ◌<◌, ◌≤◌, List, [], ◌∷◌, length, map, drop, slice_get, get_or, add-one, drop-cons, Option, Some, None, Bool, Result, Ok, Err, IfOk, arith}
-use Rattle.std.proofs.lemmas.Option.{slice_get_within, get_or_from_slice_get}
+use Rattle.std.proofs.Common.{◌≡◌, ◌∙◌, refl, ap, ℕ, zero, suc, ◌+◌, ◌<◌, ◌≤◌, List, [], ◌∷◌, length, map, drop, slice_get, Option, Some, None, Bool, Result, Ok, Err, IfOk, arith}
 use Rattle.py_value.specs.declared.value.ModRef.{ModRef}
 use Rattle.py_value.specs.declared.value.Value.{Value, out-Value}
 use Rattle.py_value.specs.declared.value.Value.TheOpen.{Value-F}
@@ -16,31 +15,10 @@ use Rattle.py_state.specs.declared.thread.Thread.{Thread}
 use Rattle.py_meaning.specs.Meaning.{World}
 use Rattle.py_frames.specs.declared.want.Want.{Want}
 use Rattle.py_frames.specs.Does.{Does, Rest, fronts_parts, fronts_some, binds_parts, binds_some_import, follows_some}
+use Rattle.py_ways.proofs.Places.{drop_none, drop_some}
 use Rattle.py_from.specs.Parts.{front_of}
 
--- ---- lists from a place on
-
-drop_none : {T : Type 0} (xs : List T) (at : ℕ) → slice_get xs at ≡ None → drop at xs ≡ []
-drop_none [] zero h = refl
-drop_none [] (suc at) h = refl
-drop_none (x ∷ xs) zero h = absurd cc
-drop_none (x ∷ xs) (suc at) h = drop_none xs at h
-
-drop_some : {T : Type 0} (xs : List T) (at : ℕ) (x : T) → slice_get xs at ≡ Some x → drop at xs ≡ x ∷ drop (at + 1) xs
-drop_some xs at x h =
-    let within : at < length xs = slice_get_within xs at x h in
-    let item : get_or xs at x ≡ x = get_or_from_slice_get xs at x x h in
-    rw (add-one, drop-cons xs at x) (rw item refl)
-
 -- ---- pieces in order
-
-pub order_ends : {T : Type 0} (p : T → Piece) (xs : List T) (at : ℕ) (s : State) (k : Onward) → slice_get xs at ≡ None
-    → passes s k ≡ in_order (map p (drop at xs)) s k
-order_ends p xs at s k h = rw (drop_none xs at h) refl
-
-pub order_goes : {T : Type 0} (p : T → Piece) (xs : List T) (at : ℕ) (x : T) (s : State) (k : Onward) → slice_get xs at ≡ Some x
-    → p x s (on_value k (λ _ s. in_order (map p (drop (at + 1) xs)) s k)) ≡ in_order (map p (drop at xs)) s k
-order_goes p xs at x s k h = rw (drop_some xs at x h) refl
 
 -- the pieces from a place on, where there is none
 pub ends : {T : Type 0} (p : T → Piece) (xs : List T) (at : ℕ) (s : State) (k : Onward) → length xs ≤ at → passes s k ≡ in_order (map p (drop at xs)) s k

@@ -11,10 +11,10 @@ use crate::places::item_at;
 use base_types::{Exact, NoMemory, Seq};
 use py_faults::Fault;
 use py_frames::{Frame, Item, Want};
-use py_names::{fail, went};
 use py_state::{Flow, Thread};
 use py_syntax::{Alias, ImportedNames, Stmt};
 use py_value::{ModRef, Value};
+use py_ways::{fail, went};
 use shared::Shared;
 use std::alloc::Global;
 

@@ -12,10 +12,10 @@ use crate::places::{alias_at, front_at};
 use base_types::{Exact, NoMemory, Seq, Text};
 use py_faults::Fault;
 use py_frames::{Frame, Item, Want};
-use py_names::fail;
 use py_state::{Flow, Thread};
 use py_syntax::{Alias, Stmt};
 use py_value::Value;
+use py_ways::fail;
 use shared::Shared;
 use std::alloc::Global;
 

@@ -1,27 +1,10 @@
 //! Dotted names, and the names that are bound.
-ghost use Rattle.std.specs.Prelude.{◌≡◌, ◌∷◌, ◌++◌, ◌+◌, ◌<◌, IfOk, OnOk, drop, length, map};
-ghost use Rattle.spec_core.specs.Names.{joined};
+ghost use Rattle.std.specs.Prelude.{◌≡◌, ◌∷◌, ◌++◌, ◌+◌, ◌<◌, IfOk, drop, length, map};
 ghost use Rattle.py_meaning.specs.ImportStatements as spec;
 
 use base_types::{Exact, NoMemory, Seq, Text, Texts};
 use py_syntax::Alias;
-
-/// Puts a part behind a name, with a dot between.
-fn put_part(name: &mut Text, part: &str) -> Result<(), NoMemory>
-    ensures { OnOk result (name.new ≡ joined name.old part.now) }
-{
-    name.push_str(".")?;
-    name.push_str(part)
-}
-
-/// The name of a part of a module.
-pub fn joined_name(front: &Text, part: &Text) -> Result<Text, NoMemory>
-    ensures { IfOk result (λ name. name ≡ joined front.now part.now) }
-{
-    let mut name = front.copy()?;
-    put_part(&mut name, part.as_str())?;
-    Ok(name)
-}
+use py_ways::put_part;
 
 /// A name with more parts behind it.
 fn with_parts(front: &Text, parts: &[Text]) -> Result<Text, NoMemory>

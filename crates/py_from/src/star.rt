@@ -14,9 +14,9 @@ use base_types::{Exact, NoMemory, Text, Texts};
 use machine_events::{Event, Reply};
 use py_faults::Fault;
 use py_frames::{Frame, Item, OnReply, Want};
-use py_names::{fail, rouse, went};
 use py_state::{Flow, Thread};
 use py_value::{ModRef, Value};
+use py_ways::{fail, rouse, went};
 use std::alloc::Global;
 
 /// The module's `__all__` is read.

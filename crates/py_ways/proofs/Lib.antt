@@ -1,2 +1,4 @@
 pub mod Operands
 pub mod Lifts
+pub mod Places
+pub mod Awake

@@ -4,7 +4,7 @@ use Rattle.py_faults.specs.declared.fault.Fault.TheVariants as fault
 use Rattle.py_meaning.specs.Pieces.{fails}
 use Rattle.py_meaning.specs.Meaning.{around_at}
 use Rattle.py_frames.specs.Does.{aliases_of, binds_some_import}
-use Rattle.py_from.proofs.Lifts.{lifted}
+use Rattle.py_ways.proofs.Lifts.{lifted}
 use Rattle.py_from.proofs.Parts.{binds_nothing}
 use Rattle.py_from.proofs.import.bind_import.Goals as goal
 

@@ -6,7 +6,7 @@ use Rattle.py_meaning.specs.Meaning.{around_at}
 use Rattle.py_frames.specs.Does.{aliases_of, follows_some, frame_does, pieces}
 use Rattle.py_frames.specs.declared.work.Frame.TheVariants as frames
 use Rattle.py_meaning.specs.ImportStatements.{name_of, with_module}
-use Rattle.py_from.proofs.Lifts.{lifted}
+use Rattle.py_ways.proofs.Lifts.{lifted}
 use Rattle.py_from.proofs.Parts.{follows_none, follows_ends, follows_step, lifted_run}
 use Rattle.py_from.proofs.import.follow_parts.Goals as goal
 

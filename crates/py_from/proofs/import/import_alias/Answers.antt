@@ -3,7 +3,7 @@ use Rattle.py_faults.specs.declared.fault.Fault.TheVariants as fault
 use Rattle.py_meaning.specs.Pieces.{fails}
 use Rattle.py_meaning.specs.Meaning.{around_at}
 use Rattle.py_meaning.specs.ImportStatements.{imports_one}
-use Rattle.py_from.proofs.Lifts.{lifted}
+use Rattle.py_ways.proofs.Lifts.{lifted}
 use Rattle.py_from.proofs.Parts.{imports_none, imports_only, imports_more}
 use Rattle.py_from.proofs.import.import_alias.Goals as goal
 

@@ -5,7 +5,7 @@ use Rattle.py_meaning.specs.Pieces.{fails}
 use Rattle.py_meaning.specs.Meaning.{around_at}
 use Rattle.py_frames.specs.Does.{aliases_of, fronts_some}
 use Rattle.py_from.specs.Parts.{front_of}
-use Rattle.py_from.proofs.Lifts.{lifted}
+use Rattle.py_ways.proofs.Lifts.{lifted}
 use Rattle.py_from.proofs.Parts.{fronts_none, fronts_is}
 use Rattle.py_from.proofs.import.import_front.Goals as goal
 

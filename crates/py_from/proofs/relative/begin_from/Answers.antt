@@ -5,7 +5,7 @@ use Rattle.py_meaning.specs.ImportStatements.{from_import}
 use Rattle.py_frames.specs.Does.{from_some}
 use Rattle.py_from.specs.Parts.{from_of}
 use Rattle.py_from.proofs.Levels.{from_is}
-use Rattle.py_from.proofs.Lifts.{lifted}
+use Rattle.py_ways.proofs.Lifts.{lifted}
 use Rattle.py_from.proofs.relative.begin_from.Goals as goal
 
 pub returns : goal.returns

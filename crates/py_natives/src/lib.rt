@@ -1,0 +1,14 @@
+//! Steps of calls of kinds of errors and of built-in functions (Language Reference 6.3.4).
+#![tactic(auto)]
+
+mod attributes;
+mod few;
+mod kinds;
+mod loading;
+mod natives;
+mod operands;
+mod print;
+
+pub use attributes::{give_default, tell};
+pub use kinds::call_kind;
+pub use natives::call_native;
