@@ -5,7 +5,6 @@ mod built_ins;
 mod listing;
 mod locals;
 mod members;
-mod methods;
 mod names;
 mod paths;
 mod rousing;
@@ -16,7 +15,6 @@ pub use locals::{is_local_name, set_local, unset_local};
 pub use members::{
     delete_member, member, member_deleted, member_read, member_stored, set_member, stored,
 };
-pub use methods::has_method;
 pub use names::{
     delete_name, deleted, global, is_namespace_path, read_global, read_name, sized, store,
 };
