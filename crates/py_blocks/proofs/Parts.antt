@@ -6,7 +6,7 @@ use Rattle.py_meaning.specs.Pieces.{Piece, Onward, pay, on_value, passes, in_ord
 use Rattle.py_meaning.specs.Operators.{Around, eval}
 use Rattle.py_meaning.specs.Statements.{BranchPiece, tests, turn, turns, run_all}
 use Rattle.py_frames.specs.Does.{branches, decides_some}
-use Rattle.py_blocks.proofs.Drops.{drop_none, drop_some}
+use Rattle.py_ways.proofs.Places.{drop_none, drop_some}
 use Rattle.py_blocks.proofs.Forms.{branch_is}
 
 -- the pieces from a place on, where there is none

@@ -12,10 +12,10 @@ use crate::loops::most;
 use base_types::{Exact, NoMemory, Seq};
 use py_faults::Fault;
 use py_frames::{Form, Frame, Item, Want};
-use py_names::{fail, went};
 use py_state::{Flow, Thread};
 use py_syntax::{Expr, Stmt};
 use py_value::Value;
+use py_ways::{fail, went};
 use shared::Shared;
 use std::alloc::Global;
 

@@ -2,20 +2,20 @@
 ghost use Rattle.std.specs.Prelude.{◌≡◌, ◌<◌, IfOk, length, true};
 ghost use Rattle.py_meaning.specs.Meaning.{around_at};
 ghost use Rattle.py_state.specs.declared.flow.Flow.TheVariants.{Went};
-ghost use Rattle.py_names.specs.Listing.{is_listed};
-ghost use Rattle.py_blocks.specs.Known.{acts, behind, picked};
+ghost use Rattle.py_ways.specs.Listing.{is_listed};
+ghost use Rattle.py_ways.specs.Acts.{acts};
+ghost use Rattle.py_blocks.specs.Known.{behind, picked};
 ghost use Rattle.py_frames.specs.Does.{Does, begins, goes_on, pieces};
 ghost use Rattle.py_frames.specs.declared.work.Frame.TheVariants as frames;
 ghost use Rattle.py_frames.specs.declared.work.Item.TheVariants as items;
 
-use crate::few::is_cache;
 use base_types::{NoMemory, Seq};
 use py_faults::Fault;
 use py_frames::{Frame, Item, Want};
-use py_names::{fail, is_listed};
 use py_state::{Flow, Thread};
 use py_syntax::{Branch, Stmt};
 use py_value::{Value, truth};
+use py_ways::{fail, is_cache, is_listed};
 use shared::Shared;
 use std::alloc::Global;
 

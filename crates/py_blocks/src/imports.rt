@@ -6,10 +6,10 @@ ghost use Rattle.py_frames.specs.declared.work.Item.TheVariants as items;
 
 use base_types::{NoMemory, Seq, Text};
 use py_frames::{Frame, Item, Want};
-use py_names::went;
 use py_state::{Flow, Thread};
 use py_syntax::Stmt;
 use py_value::Value;
+use py_ways::went;
 use shared::Shared;
 
 /// How many modules a statement imports.

@@ -3,20 +3,19 @@ ghost use Rattle.std.specs.Prelude.{◌≡◌, IfOk, true};
 ghost use Rattle.py_meaning.specs.Pieces.{most};
 ghost use Rattle.py_meaning.specs.Meaning.{around_at};
 ghost use Rattle.py_state.specs.declared.flow.Flow.TheVariants.{Went};
-ghost use Rattle.py_names.specs.Listing.{is_listed};
+ghost use Rattle.py_ways.specs.Listing.{is_listed};
 ghost use Rattle.py_blocks.specs.Known.{loops};
 ghost use Rattle.py_frames.specs.Does.{Does, begins, goes_on, pieces};
 ghost use Rattle.py_frames.specs.declared.work.Frame.TheVariants as frames;
 ghost use Rattle.py_frames.specs.declared.work.Item.TheVariants as items;
 
-use crate::few::is_cache;
 use base_types::{NoMemory, Seq};
 use py_faults::Fault;
 use py_frames::{Frame, Item, Want};
-use py_names::{fail, is_listed};
 use py_state::{Flow, Leave, Thread};
 use py_syntax::{Expr, Stmt};
 use py_value::{Value, truth};
+use py_ways::{fail, is_cache, is_listed};
 use shared::Shared;
 use std::alloc::Global;
 

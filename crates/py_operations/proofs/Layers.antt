@@ -1,5 +1,5 @@
 -- An expression does what its outermost form says.
-use Rattle.std.proofs.Common.{◌≡◌, ◌∙◌, refl, sym, ap, ℕ, List, [], ◌∷◌, map, drop, Option, Some, None, true, false}
+use Rattle.std.proofs.Common.{◌≡◌, ◌∙◌, refl, sym, ap, ℕ, List, [], ◌∷◌, map, drop, Some, None, true, false}
 use Rattle.std.proofs.lemmas.Bool.{false≢true}
 use Rattle.py_value.specs.declared.value.Value.{Value}
 use Rattle.py_value.specs.declared.value.Value.TheVariants as values
@@ -7,11 +7,12 @@ use Rattle.py_syntax.specs.declared.expr.Expr.{Expr, out-Expr, map-Expr}
 use Rattle.py_syntax.specs.declared.expr.Expr.TheOpen.{Expr-F}
 use Rattle.py_syntax.specs.declared.expr.Expr.TheFolds.{fold-Expr, fold_out-Expr}
 use Rattle.py_state.specs.declared.thread.State.{State}
-use Rattle.py_meaning.specs.Pieces.{Piece, Onward, pay, on_value, gives, sized, gathers, applied_on, operates, with_one, with_two}
+use Rattle.py_meaning.specs.Pieces.{Piece, Onward, pay, on_value, gives, sized, gathers, applied_on, operates}
 use Rattle.py_meaning.specs.Names.{member}
 use Rattle.py_meaning.specs.Operators.{Around, Part, expr_at, part_at, attribute_at, does_of, calls_part, calls_member, eval, displayed, applies_at, operands_at, atom_at, calls_first, conjoins, disjoins}
 use Rattle.py_frames.specs.Does.{chooses_at, arguments_at, attribute_name, method_name_at}
-use Rattle.py_operations.specs.Forms.{eval_at, eval_call, left_of, object_of, callee_object, attribute_in, arguments_in, is_atom, is_call, given_at, one_of, two_of, by_one, by_two}
+use Rattle.py_ways.proofs.Options.{some_same}
+use Rattle.py_operations.specs.Forms.{eval_at, eval_call, left_of, object_of, callee_object, attribute_in, arguments_in, is_atom}
 
 abbrev part : Around → Expr → Part
 part around = fold-Expr Part (part_at around)
@@ -52,24 +53,6 @@ by_layer around (Expr-F.Or a b) = refl
 
 pub eval_is : (around : Around) (e : Expr) → eval around e ≡ eval_at around (out-Expr e)
 eval_is around e = ap (λ (p : Part). p.does) (fold_out-Expr Part (part_at around) e) ∙ by_layer around (out-Expr e)
-
-pub one_is : (vs : List Value) (go : Value → Piece) → with_one vs go ≡ by_one (one_of vs) go
-one_is [] go = refl
-one_is (a ∷ []) go = refl
-one_is (a ∷ b ∷ vs) go = refl
-
-pub two_is : (vs : List Value) (go : Value → Value → Piece) → with_two vs go ≡ by_two (two_of vs) go
-two_is [] go = refl
-two_is (a ∷ []) go = refl
-two_is (a ∷ b ∷ []) go = refl
-two_is (a ∷ b ∷ c ∷ vs) go = refl
-
-abbrev or_else : {X : Type 0} → Option X → X → X
-or_else None x = x
-or_else (Some y) x = y
-
-pub some_same : {X : Type 0} {x y : X} → Some x ≡ Some y → x ≡ y
-some_same {X} {x} {y} h = let is : or_else (Some x) x ≡ or_else (Some y) x = ap (λ o. or_else o x) h in is
 
 pub left_is : (around : Around) (d : Expr-F Expr) (a : Expr) (s : State) (k : Onward) → left_of d ≡ Some a → eval around a s (on_value k (λ v s. pay 1 (chooses_at around d v s k))) ≡ eval_at around d s k
 left_is around (Expr-F.Name x) l s k h = cc
@@ -145,25 +128,6 @@ pub callee_is : (around : Around) (d : Expr-F Expr) (object : Expr) (s : State) 
     → eval around object s (on_value k (λ v s. pay 1 (calls_member around (method_name_at d) (map (eval around) (arguments_at d)) v s k))) ≡ eval_at around d s k
 callee_is around (Expr-F.Call callee es) object s k h = call_object around callee (out-Expr callee) es object s k h
 callee_is around form object s k h = cc
-
-pub call_is : (around : Around) (d : Expr-F Expr) (vs : List Value) (s : State) (k : Onward) → is_call d ≡ true → calls_first around vs s k ≡ given_at around d vs s k
-call_is around (Expr-F.Name x) vs s k h = absurd (false≢true h)
-call_is around (Expr-F.Number n) vs s k h = absurd (false≢true h)
-call_is around (Expr-F.Str text) vs s k h = absurd (false≢true h)
-call_is around Expr-F.Nothing vs s k h = absurd (false≢true h)
-call_is around Expr-F.True vs s k h = absurd (false≢true h)
-call_is around Expr-F.False vs s k h = absurd (false≢true h)
-call_is around (Expr-F.Tuple es) vs s k h = absurd (false≢true h)
-call_is around (Expr-F.List es) vs s k h = absurd (false≢true h)
-call_is around (Expr-F.Attribute a x) vs s k h = absurd (false≢true h)
-call_is around (Expr-F.Call f es) vs s k h = refl
-call_is around (Expr-F.Subscript a b) vs s k h = absurd (false≢true h)
-call_is around (Expr-F.Negative a) vs s k h = absurd (false≢true h)
-call_is around (Expr-F.Binary o a b) vs s k h = absurd (false≢true h)
-call_is around (Expr-F.Compare c a b) vs s k h = absurd (false≢true h)
-call_is around (Expr-F.Not a) vs s k h = absurd (false≢true h)
-call_is around (Expr-F.And a b) vs s k h = absurd (false≢true h)
-call_is around (Expr-F.Or a b) vs s k h = absurd (false≢true h)
 
 -- the attribute that a call names is read, and then called
 pub reads_it : (around : Around) (callee call : Expr-F Expr) (x : List ℕ) (es : List Expr) (object : Value) (s : State) (k : Onward) → attribute_in callee ≡ Some x → arguments_in call ≡ Some es

@@ -1,12 +1,6 @@
 -- The operands from a place on.
 use Rattle.std.proofs.Common.{◌≡◌, ℕ, zero, suc, List, [], ◌∷◌, ◌++◌, ◌+◌, drop, length, length-append, slice_get, Some, None, refl, ap, ◌∙◌, arith}
 
-pub drop_none : {X : Type 0} (xs : List X) (n : ℕ) → slice_get xs n ≡ None → drop n xs ≡ []
-drop_none [] zero h = refl
-drop_none [] (suc n) h = refl
-drop_none (x ∷ xs) zero h = cc
-drop_none (x ∷ xs) (suc n) h = drop_none xs n h
-
 pub drop_some : {X : Type 0} (xs : List X) (n : ℕ) (x : X) → slice_get xs n ≡ Some x → drop n xs ≡ x ∷ drop (suc n) xs
 drop_some [] zero x h = cc
 drop_some [] (suc n) x h = cc

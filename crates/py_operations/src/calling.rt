@@ -8,9 +8,9 @@ ghost use Rattle.py_frames.specs.Does.{Does, pieces, begins, goes_on, arguments_
 ghost use Rattle.py_frames.specs.declared.work.Item.TheVariants as items;
 ghost use Rattle.py_frames.specs.declared.work.Frame.TheVariants as frames;
 
+use crate::methods::has_method;
 use base_types::{Exact, NoMemory, Seq, Text};
 use py_frames::{Form, Frame, Item, Want};
-use py_names::has_method;
 use py_state::{Flow, Thread};
 use py_syntax::Expr;
 use py_value::Value;

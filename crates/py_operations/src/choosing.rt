@@ -2,7 +2,7 @@
 ghost use Rattle.std.specs.Prelude.{◌≡◌, ◌&&◌, IfOk, [], ◌∷◌, true};
 ghost use Rattle.py_syntax.specs.declared.expr.Expr.{out-Expr};
 ghost use Rattle.py_meaning.specs.Meaning.{around_at};
-ghost use Rattle.py_names.specs.Listing.{is_listed};
+ghost use Rattle.py_ways.specs.Listing.{is_listed};
 ghost use Rattle.py_operations.specs.Forms as spec;
 ghost use Rattle.py_frames.specs.Does.{Does, pieces, begins, goes_on};
 ghost use Rattle.py_frames.specs.declared.work.Item.TheVariants as items;
@@ -11,10 +11,10 @@ ghost use Rattle.py_frames.specs.declared.work.Frame.TheVariants as frames;
 use base_types::NoMemory;
 use py_faults::Fault;
 use py_frames::{Frame, Item, Want};
-use py_names::{fail, is_listed, list_operand, sized};
 use py_state::{Flow, Thread};
 use py_syntax::Expr;
 use py_value::{Value, truth};
+use py_ways::{fail, is_listed, list_operand, sized};
 use shared::Shared;
 use std::alloc::Global;
 

@@ -8,14 +8,14 @@ ghost use Rattle.py_frames.specs.Does.{Does, pieces, begins};
 ghost use Rattle.py_frames.specs.declared.work.Item.TheVariants as items;
 
 use crate::gathering::operands;
-use crate::values::given;
 use base_types::{Exact, NoMemory, Seq};
 use py_faults::Fault;
 use py_frames::{Form, Frame, Item, Want};
-use py_names::{fail, read_name};
+use py_names::read_name;
 use py_state::Thread;
 use py_syntax::Expr;
 use py_value::{Applied, Value};
+use py_ways::{fail, given};
 use shared::Shared;
 use std::alloc::Global;
 use value_operators::limited;

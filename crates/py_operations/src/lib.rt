@@ -1,19 +1,13 @@
-//! Steps of expressions: atoms, operands from left to right, callees, and operators on their values.
+//! Steps of expressions: atoms, operands from left to right, `and` and `or`, and callees.
 #![tactic(auto)]
 
-mod applying;
-mod augmenting;
 mod calling;
 mod choosing;
 mod evaluating;
 mod gathering;
-mod placing;
-mod values;
+mod methods;
 
-pub use applying::apply;
-pub use augmenting::augment;
 pub use calling::{call_callee, callee};
 pub use choosing::{choose, second};
 pub use evaluating::{atom, evaluate};
 pub use gathering::{operand_value, operands};
-pub use values::{give_sized, has_special};

@@ -2,3 +2,4 @@ pub mod Operands
 pub mod Lifts
 pub mod Places
 pub mod Awake
+pub mod Options

@@ -3,7 +3,8 @@ use Rattle.py_meaning.specs.Pieces.{gathers}
 use Rattle.py_meaning.specs.Operators.{eval}
 use Rattle.py_meaning.specs.Meaning.{around_at}
 use Rattle.py_frames.specs.Does.{completes, operands_of}
-use Rattle.py_operations.proofs.Places.{drop_none, drop_some}
+use Rattle.py_ways.proofs.Places.{drop_none}
+use Rattle.py_operations.proofs.Places.{drop_some}
 use Rattle.py_operations.proofs.gathering.operands.Goals as goal
 
 pub returns-in-None : goal.returns-in-None
