@@ -1,5 +1,4 @@
 mod Results
-mod Paying
 mod Looked
 mod Holding
 mod Framing
@@ -7,7 +6,5 @@ mod Stepping
 mod Making
 mod Turning
 mod Leading
-mod Searching
-mod Looping
 mod Finding
 mod Whole

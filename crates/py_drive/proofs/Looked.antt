@@ -12,12 +12,12 @@ use Rattle.tree_files.specs.Files.{Files, node_at, stamp_of, bytes_of, is_file, 
 use Rattle.machine_events.specs.declared.event.Event.{Event}
 use Rattle.machine_events.specs.declared.event.Reply.{Reply}
 use Rattle.run_rules.specs.Runs.{Run, Looks, looks, Question, Answer, StampOf, TextOf, IsTold, within_source}
-use Rattle.py_drive.specs.At.{At, IsFileStamp}
+use Rattle.py_costs.specs.At.{At}
 use Rattle.py_meaning.specs.Imports.{opens}
-use Rattle.py_drive.specs.Turns.{Turned, Looked}
+use Rattle.py_drive.specs.Turns.{Turned, Looked, IsFileStamp}
 use Rattle.py_drive.specs.declared.course.Course.{Course}
 use Rattle.py_drive.specs.declared.course.Turn.{Turn}
-use Rattle.py_drive.specs.declared.purse.Purse.{Purse}
+use Rattle.py_costs.specs.declared.purse.Purse.{Purse}
 
 -- where something is looked up the script goes on by what the tree told
 pub at_looked : {files : Option Files} {whole : Run} {fuel : ℕ} {mine : List (Event × Reply)} {purse : Purse} (q : Question) (a : Answer q) (next : Answer q → Run) → IsTold files q a → At files whole fuel mine purse (Looks q next) → At files whole fuel mine purse (next a)

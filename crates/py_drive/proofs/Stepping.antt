@@ -13,12 +13,12 @@ use Rattle.py_frames.specs.declared.work.Frame.{Frame}
 use Rattle.py_frames.specs.declared.work.Item.{Item}
 use Rattle.py_frames.specs.declared.want.Want.{Want}
 use Rattle.py_frames.specs.declared.want.Want.TheVariants as want
-use Rattle.py_drive.specs.At.{At}
+use Rattle.py_costs.specs.At.{At}
 use Rattle.py_drive.specs.Turns.{Stepped, remains}
 use Rattle.py_drive.specs.declared.course.Course.{Course}
 use Rattle.py_drive.specs.declared.course.Turn.{Turn}
 use Rattle.py_drive.specs.declared.course.Turn.TheVariants as turn
-use Rattle.py_drive.specs.declared.purse.Purse.{Purse}
+use Rattle.py_costs.specs.declared.purse.Purse.{Purse}
 
 -- a step leads on, where what it wants means what was to be done
 pub stepped : (purse : Purse) (after : Course) (run : Run) (w : Want) → after.purse ≡ purse → remains after w ≡ run → Stepped purse after run (turn.On w)

@@ -1,12 +1,10 @@
 -- From where a script stands to where it stands after a turn.
-use Rattle.std.proofs.Common.{◌≡◌, ◌≤◌, ℕ, List, [], codes, Option, None, Result, IfOk, refl, sym, ◌∙◌, subst, arith}
+use Rattle.std.proofs.Common.{◌≡◌, ℕ, List, [], codes, Option, None, Result, IfOk, sym, ◌∙◌, subst}
 use Rattle.std.proofs.lemmas.Result.{IfOk-weaker}
-use Rattle.tree_files.specs.Count.{Rose}
 use Rattle.tree_files.specs.Files.{Files}
 use Rattle.machine_events.specs.declared.event.Event.{Event}
 use Rattle.machine_events.specs.declared.event.Reply.{Reply}
 use Rattle.thread_knowledge.specs.Shown.{shown_first}
-use Rattle.run_rules.specs.Lists.{lists_in}
 use Rattle.run_rules.specs.Runs.{Run, Safe, StandsIn}
 use Rattle.run_rules.proofs.Stand.{stands_start, safe_stands, in_some}
 use Rattle.script_port.specs.View.{View, Stays}
@@ -18,12 +16,13 @@ use Rattle.py_frames.specs.declared.work.Item.TheVariants.{Start}
 use Rattle.py_frames.specs.declared.want.Want.{Want}
 use Rattle.py_frames.specs.declared.want.Want.TheVariants as want
 use Rattle.script_end.specs.Ending.{Holds}
-use Rattle.py_drive.specs.At.{At}
-use Rattle.py_drive.specs.Turns.{After, Turned, Stepped, Stood, Refused, RefusedAt, Parted, Asked, AllKept, remains}
+use Rattle.py_costs.specs.At.{At}
+use Rattle.script_search.specs.Asking.{Refused, RefusedAt, Parted}
+use Rattle.py_drive.specs.Turns.{After, Turned, Stepped, Stood, remains}
 use Rattle.py_drive.specs.Overs.{Begun, Fresh}
 use Rattle.py_drive.specs.declared.course.Course.{Course}
 use Rattle.py_drive.specs.declared.course.Turn.{Turn}
-use Rattle.py_drive.specs.declared.purse.Purse.{Purse}
+use Rattle.py_costs.specs.declared.purse.Purse.{Purse}
 
 starts_at : (files : Option Files) (script fuel : ℕ) (text : List ℕ)
     → At files (meaning sources script text) fuel [] (record { budget = fuel; read = None }) (want_does sources 200 (want.Then (Start script script (codes "__main__") text)) (rest sources []) (first_state script))
@@ -62,25 +61,6 @@ pub refused_at : {S : Type 0} (v : View S) (files files' : Option Files) (whole 
     → files' ≡ files → At files whole fuel mine c.purse (remains c w) → Refused v files' mine c.purse (remains c w) → RefusedAt v files whole fuel
 refused_at v files files' whole fuel mine c w same at refused =
     subst (λ (o : Option Files). RefusedAt v o whole fuel) same (refused whole fuel (subst (λ (o : Option Files). At o whole fuel mine c.purse (remains c w)) (sym same) at))
-
-pub asked_refl : (files : Option Files) (faults : ℕ) → Asked files files faults faults
-asked_refl files faults = record { files = refl; faults = omega arith }
-
-pub asked_trans : {files files' files'' : Option Files} {faults faults' faults'' : ℕ} → Asked files files' faults faults' → Asked files' files'' faults' faults'' → Asked files files'' faults faults''
-asked_trans a b = record { files = b.files ∙ a.files; faults = omega (arith, a.faults, b.faults) }
-
-pub kept_refl : (lists : ℕ) (mine : List (Event × Reply)) → AllKept lists lists mine mine
-kept_refl lists mine = omega arith
-
-pub kept_trans : (lists lists' lists'' : ℕ) (mine mine' mine'' : List (Event × Reply)) → AllKept lists lists' mine mine' → AllKept lists' lists'' mine' mine'' → AllKept lists lists'' mine mine''
-kept_trans lists lists' lists'' mine mine' mine'' a b = omega (arith, a, b)
-
--- where nothing was listed
-pub kept_grown : (lists lists' : ℕ) (mine mine' : List (Event × Reply)) → lists' ≡ lists → lists_in mine ≤ lists_in mine' → AllKept lists lists' mine mine'
-kept_grown lists lists' mine mine' same grew = omega (arith, same, grew)
-
-pub rose_later : (old mid new : ℕ) → old ≤ mid → Rose mid new → Rose old new
-rose_later old mid new grew rose = omega (arith, grew, rose)
 
 -- by what is wanted
 pub turned_at : (files : Option Files) (faults faults' : ℕ) (mine mine' : List (Event × Reply)) (c c' : Course) (w w' : Want) (t : Turn) → w ≡ w'

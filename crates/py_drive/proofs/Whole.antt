@@ -21,7 +21,8 @@ use Rattle.py_state.specs.declared.flow.Flow.TheVariants.{Went, Left}
 use Rattle.py_meaning.specs.Meaning.{outcome_of}
 use Rattle.script_port.specs.View.{View, Stays}
 use Rattle.script_holds.specs.declared.held.Held.{Held}
-use Rattle.py_drive.specs.Turns.{ended, AllKept}
+use Rattle.script_search.specs.Asking.{AllKept}
+use Rattle.py_drive.specs.Turns.{ended}
 use Rattle.py_drive.specs.Overs.{Begun}
 use Rattle.script_end.specs.Ending.{Broken, in_run, at_read, Gave, GaveAll, Idle, Holds}
 

@@ -1,4 +1,2 @@
-pub mod At
 pub mod Turns
-pub mod Searching
 pub mod Overs

@@ -1,12 +1,13 @@
 -- What a turn of the driver does.
-use Rattle.std.specs.Prelude.{◌≡◌, ◌≤◌, ℕ, ◌+◌, List, Option}
+use Rattle.std.specs.Prelude.{ℕ, List, Option}
 use Rattle.tree_files.specs.Files.{Files}
 use Rattle.tree_files.specs.Count.{Rose}
+use Rattle.tree_files.specs.declared.tree.Stamp.{Stamp}
+use Rattle.tree_files.specs.declared.tree.Stamp.TheVariants as stamps
 use Rattle.machine_events.specs.declared.event.Event.{Event}
 use Rattle.machine_events.specs.declared.event.Reply.{Reply}
 use Rattle.thread_knowledge.specs.Shown.{shown}
-use Rattle.run_rules.specs.Lists.{lists_in}
-use Rattle.run_rules.specs.Runs.{Run, Over, Ended, Makes, Stands, StandsIn, IsSpent, IsUnread, Safe}
+use Rattle.run_rules.specs.Runs.{Run, Over, Ended, IsSpent, IsUnread, Safe}
 use Rattle.script_port.specs.View.{View}
 use Rattle.script_holds.specs.declared.held.Held.{Held}
 use Rattle.py_state.specs.declared.flow.Flow.{Flow}
@@ -17,11 +18,11 @@ use Rattle.py_frames.specs.declared.want.Want.{Want}
 use Rattle.py_frames.specs.declared.procedures.Procedure.{Procedure}
 use Rattle.find_load.specs.declared.words.In.{In}
 use Rattle.script_end.specs.Ending.{Holds}
-use Rattle.py_drive.specs.At.{At}
+use Rattle.py_costs.specs.At.{At}
 use Rattle.py_drive.specs.declared.course.Course.{Course}
 use Rattle.py_drive.specs.declared.course.Turn.{Turn}
 use Rattle.py_drive.specs.declared.course.Turn.TheVariants as turn
-use Rattle.py_drive.specs.declared.purse.Purse.{Purse}
+use Rattle.py_costs.specs.declared.purse.Purse.{Purse}
 
 -- what remains of a script that wants this
 abbrev pub remains : Course → Want → Run
@@ -61,6 +62,12 @@ Stepped purse after run t = (files : Option Files) (faults faults' : ℕ) (mine 
 abbrev pub Looked : Option Files → ℕ → ℕ → Purse → Course → Run → Turn → Type 0
 Looked files faults faults' purse after run t = (mine : List (Event × Reply)) → Turned files faults faults' mine mine purse after run t
 
+-- a file stands there
+abbrev pub IsFileStamp : Stamp → Type 0
+IsFileStamp (stamps.File size) = Unit {0}
+IsFileStamp (stamps.Dir time) = ⊥
+IsFileStamp stamps.Absent = ⊥
+
 -- a turn that makes an event
 abbrev pub Made : List (Event × Reply) → List (Event × Reply) → Purse → Course → Run → Turn → Type 0
 Made mine mine' purse after run t = (files : Option Files) (faults faults' : ℕ) → Turned files faults faults' mine mine' purse after run t
@@ -70,24 +77,3 @@ pub record Stood {S : Type 0} (v : View S) (held : Held) (run : Run) : Type 0 wh
   pub ready : v.ready
   pub holds : Holds v held
   pub safe : Safe (shown v.number v.mine) run
-
--- a tree is as it was, but that its count of faults may have risen
-pub record Asked (told told' : Option Files) (failed failed' : ℕ) : Type 0 where
-  pub files : told' ≡ told
-  pub faults : failed ≤ failed'
-
--- a tree that has listed directories has done so at most once for each listing that the events between keep
-abbrev pub AllKept : ℕ → ℕ → List (Event × Reply) → List (Event × Reply) → Type 0
-AllKept listed listed' mine mine' = listed' + lists_in mine ≤ listed + lists_in mine'
-
--- where a turn is broken off, whatever script stood at `run` stands somewhere
-abbrev pub Parted : Option Files → List (Event × Reply) → List (Event × Reply) → Purse → Run → Type 0
-Parted files mine mine' purse run = (whole : Run) (fuel : ℕ) → At files whole fuel mine purse run → StandsIn files whole fuel mine'
-
--- the port refused the event that is due
-abbrev pub RefusedAt : {S : Type 0} → View S → Option Files → Run → ℕ → Type 0
-RefusedAt v files whole fuel = (event : Event) × (budget : ℕ) × (next : Reply → Run) × v.refuses event × Stands files whole fuel v.mine budget (Makes event next)
-
--- whatever script stood at `run` stands at an event that the port refused
-abbrev pub Refused : {S : Type 0} → View S → Option Files → List (Event × Reply) → Purse → Run → Type 0
-Refused v files mine purse run = (whole : Run) (fuel : ℕ) → At files whole fuel mine purse run → RefusedAt v files whole fuel

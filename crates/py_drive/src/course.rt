@@ -1,5 +1,5 @@
 //! What a running script keeps, and where a turn leads.
-use crate::purse::Purse;
+use py_costs::Purse;
 use py_frames::{Want, Work};
 use py_state::{Flow, Thread};
 use script_holds::Held;

@@ -6,13 +6,13 @@ ghost use Rattle.script_port.specs.View.{View, Stays};
 ghost use Rattle.py_meaning.specs.Meaning.{meaning};
 ghost use Rattle.py_sources.specs.Sources.{sources};
 ghost use Rattle.script_end.specs.Ending.{Holds};
-ghost use Rattle.py_drive.specs.Turns.{RefusedAt, Asked, AllKept};
+ghost use Rattle.script_search.specs.Asking.{RefusedAt, Asked, AllKept};
 ghost use Rattle.py_drive.specs.Overs.{Begun, Fresh, Overs};
 
 use crate::course::{Course, Turn};
-use crate::purse::Purse;
 use crate::turn::give;
 use base_types::{Seq, Text};
+use py_costs::Purse;
 use py_frames::{Item, Want, Work};
 use py_state::{Flow, Scope, Stack, State, Thread};
 use script_holds::Held;

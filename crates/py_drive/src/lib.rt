@@ -1,5 +1,5 @@
-//! The driver of the evaluator: it alone sees a port, a tree and a budget, and gives the steps what
-//! they want.
+//! The driver of the evaluator: it alone sees a port, a tree and a budget, which it lends to a
+//! search, and gives the steps what they want.
 #![tactic(auto)]
 
 mod course;
@@ -7,15 +7,13 @@ mod drive;
 mod find;
 mod looks;
 mod makes;
-mod purse;
 mod script;
-mod search;
 mod steps;
 mod turn;
 mod working;
 
 pub use course::{Course, Turn};
 pub use drive::{Over, run};
-pub use purse::Purse;
+pub use py_costs::Purse;
 pub use script::run_script_on;
 pub use script_end::Ending;

@@ -7,8 +7,8 @@ ghost use Rattle.run_rules.specs.Runs.{Run, Pays, Looks, TextOf};
 ghost use Rattle.find_load.specs.declared.words.In.TheVariants as given;
 ghost use Rattle.py_meaning.specs.Imports.{opens};
 ghost use Rattle.py_frames.specs.declared.want.Want.TheVariants as wants;
-ghost use Rattle.py_drive.specs.At.{IsFileStamp};
-ghost use Rattle.py_drive.specs.Turns.{Asked, Looked, remains, feeds};
+ghost use Rattle.script_search.specs.Asking.{Asked};
+ghost use Rattle.py_drive.specs.Turns.{Looked, IsFileStamp, remains, feeds};
 
 use crate::course::{Course, Turn};
 use crate::steps::feed;

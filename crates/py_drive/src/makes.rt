@@ -5,7 +5,8 @@ ghost use Rattle.run_rules.specs.Lists.{lists_in};
 ghost use Rattle.py_frames.specs.declared.want.Want.TheVariants as wants;
 ghost use Rattle.script_port.specs.View.{View, Stays};
 ghost use Rattle.script_end.specs.Ending.{Holds};
-ghost use Rattle.py_drive.specs.Turns.{Stood, Made, Parted, Refused, remains};
+ghost use Rattle.script_search.specs.Asking.{Parted, Refused};
+ghost use Rattle.py_drive.specs.Turns.{Stood, Made, remains};
 
 use crate::course::{Course, Turn};
 use machine_events::Event;

@@ -10,7 +10,7 @@ ghost use Rattle.script_port.specs.View.{View, Stays};
 ghost use Rattle.script_end.specs.Ending.{outcome, IsRead, Ended, Broken};
 ghost use Rattle.py_meaning.specs.Meaning.{meaning};
 ghost use Rattle.py_sources.specs.Sources.{sources};
-ghost use Rattle.py_drive.specs.Turns.{Asked};
+ghost use Rattle.script_search.specs.Asking.{Asked};
 ghost use Rattle.py_drive.specs.Overs.{Begun};
 
 use crate::course::Course;

@@ -1,22 +1,13 @@
 //! What turns are made of that see neither a port nor a tree.
-ghost use Rattle.std.specs.Prelude.{◌≡◌, ℕ, List, IfOk, IsErrOf, MatchOption, Option};
-ghost use Rattle.machine_events.specs.declared.event.Event.{Event};
-ghost use Rattle.machine_events.specs.declared.event.Reply.{Reply};
-ghost use Rattle.tree_files.specs.Files.{Files};
+ghost use Rattle.std.specs.Prelude.{◌≡◌, ℕ, IfOk, IsErrOf, MatchOption};
 ghost use Rattle.py_meaning.specs.Meaning.{ends};
 ghost use Rattle.py_sources.specs.Sources.{sources};
 ghost use Rattle.py_state.specs.declared.thread.State.{State};
 ghost use Rattle.py_frames.specs.Does.{rest, frame_does};
-ghost use Rattle.run_rules.specs.Runs.{Run};
-ghost use Rattle.run_rules.specs.Costs.{after_reply};
-ghost use Rattle.py_drive.specs.At.{At, AfterPay};
 ghost use Rattle.py_drive.specs.Turns.{Stepped, feeds};
 
 use crate::course::{Course, Turn};
-use crate::purse::Purse;
 use find_load::In;
-use machine_events::Reply;
-use py_costs::reply_units;
 use py_frames::{Frame, Procedure, Work};
 use py_state::Flow;
 use py_steps::fed;
@@ -32,19 +23,6 @@ pub fn next_frame(work: &mut Work, flow: &Flow) -> Option<Frame>
     match flow {
         Flow::Left(leave) => work.unwind(leave),
         Flow::Went(_) => work.pop(),
-    }
-}
-
-/// What the reply to an event costs is paid. Who is to wait for a lock pays nothing before that.
-#[tactic(auto, using(crate::proofs::Paying::paid_reply))]
-pub fn pay_reply(purse: &mut Purse, reply: &Reply) -> bool
-    ensures { (files : Option Files) (whole : Run) (fuel : ℕ) (mine : List (Event × Reply)) (next : Run)
-        → At files whole fuel mine purse.old (after_reply reply.now next)
-        → AfterPay result files whole fuel mine purse.new next }
-{
-    match reply {
-        Reply::Wait(_) => true,
-        _ => purse.pay(false, reply_units(reply)),
     }
 }
 

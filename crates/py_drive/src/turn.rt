@@ -2,7 +2,8 @@
 ghost use Rattle.std.specs.Prelude.{IfOk, OnOk, OnErr, IsErrOf};
 ghost use Rattle.script_port.specs.View.{View, Stays};
 ghost use Rattle.script_end.specs.Ending.{Holds};
-ghost use Rattle.py_drive.specs.Turns.{Stood, Turned, Parted, Refused, Asked, AllKept, remains};
+ghost use Rattle.script_search.specs.Asking.{Parted, Refused, Asked, AllKept};
+ghost use Rattle.py_drive.specs.Turns.{Stood, Turned, remains};
 
 use crate::course::{Course, Turn};
 use crate::find::find;

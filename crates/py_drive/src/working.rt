@@ -3,7 +3,8 @@ ghost use Rattle.std.specs.Prelude.{◌≡◌, IfOk, IsErrOf};
 ghost use Rattle.py_drive.specs.Turns.{Stepped, remains};
 
 use crate::course::{Course, Turn};
-use crate::steps::{next_frame, pay_reply};
+use crate::steps::next_frame;
+use py_costs::pay_reply;
 use py_frames::Want;
 use py_steps::{begin, go_on, replied};
 use script_port::Halt;

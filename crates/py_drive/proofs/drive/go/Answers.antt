@@ -7,7 +7,8 @@ use Rattle.py_meaning.specs.Meaning.{meaning}
 use Rattle.py_sources.specs.Sources.{sources}
 use Rattle.py_drive.specs.Turns.{After, Counts}
 use Rattle.py_drive.specs.declared.course.Turn.{Turn}
-use Rattle.py_drive.proofs.Turning.{begins, holds_first, stood, after_turn, parted, refused_at, asked_refl, asked_trans, kept_refl, kept_trans, rose_later}
+use Rattle.script_search.proofs.Asking.{asked_refl, asked_trans, kept_refl, kept_trans, rose_later}
+use Rattle.py_drive.proofs.Turning.{begins, holds_first, stood, after_turn, parted, refused_at}
 use Rattle.py_drive.proofs.drive.go.Goals as goal
 
 pub turns-init : goal.turns-init

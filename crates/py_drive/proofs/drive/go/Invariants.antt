@@ -3,8 +3,9 @@ use Rattle.script_port.specs.View.{Stays}
 use Rattle.py_meaning.specs.Meaning.{meaning}
 use Rattle.py_sources.specs.Sources.{sources}
 use Rattle.script_end.specs.Ending.{Holds}
-use Rattle.py_drive.specs.At.{At}
-use Rattle.py_drive.specs.Turns.{Asked, AllKept, remains}
+use Rattle.py_costs.specs.At.{At}
+use Rattle.script_search.specs.Asking.{Asked, AllKept}
+use Rattle.py_drive.specs.Turns.{remains}
 use Rattle.py_drive.proofs.drive.go.Given as goal
 
 abbrev pub invariant-turns : goal.invariant-turns

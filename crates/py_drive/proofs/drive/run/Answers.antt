@@ -1,6 +1,7 @@
 use Rattle.run_rules.proofs.Stand.{in_some}
 use Rattle.script_port.proofs.Staying.{stays_refl}
-use Rattle.py_drive.proofs.Turning.{begins, asked_refl}
+use Rattle.script_search.proofs.Asking.{asked_refl}
+use Rattle.py_drive.proofs.Turning.{begins}
 use Rattle.py_drive.proofs.drive.run.Goals as goal
 
 pub returns-in-Err-clause-stays : goal.returns-in-Err-clause-stays

@@ -2,7 +2,7 @@ use Rattle.std.proofs.Common.{None, []}
 use Rattle.std.proofs.lemmas.Result.{IfOk-weaker}
 use Rattle.find_load.specs.declared.words.In.TheVariants as given
 use Rattle.py_drive.specs.Turns.{feeds}
-use Rattle.py_drive.specs.declared.search.Sought.TheVariants as sought
+use Rattle.script_search.specs.declared.search.Sought.TheVariants as sought
 use Rattle.py_drive.proofs.Finding.{after_at, counts_at}
 use Rattle.py_drive.proofs.find.found.Goals as goal
 

@@ -1,6 +1,6 @@
 use Rattle.std.proofs.Common.{sym, subst}
 use Rattle.std.proofs.lemmas.Result.{IfOk-weaker}
-use Rattle.py_drive.specs.At.{IsFileStamp}
+use Rattle.py_drive.specs.Turns.{IsFileStamp}
 use Rattle.py_drive.proofs.Looked.{looked_by}
 use Rattle.py_drive.proofs.looks.seen.Goals as goal
 

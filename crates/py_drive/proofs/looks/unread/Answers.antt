@@ -1,5 +1,5 @@
 use Rattle.std.proofs.Common.{ℕ, Option, subst}
-use Rattle.py_drive.specs.At.{MayBeUnread}
+use Rattle.py_costs.specs.At.{MayBeUnread}
 use Rattle.py_drive.proofs.looks.unread.Goals as goal
 
 pub returns-in-Some-clause-looked : goal.returns-in-Some-clause-looked

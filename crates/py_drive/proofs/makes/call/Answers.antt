@@ -3,7 +3,8 @@ use Rattle.thread_knowledge.specs.Shown.{shown}
 use Rattle.script_end.proofs.Giving.{lists_grow}
 use Rattle.script_port.specs.declared.port.Halt.TheVariants.{Refused}
 use Rattle.py_drive.proofs.Holding.{knows_made}
-use Rattle.py_drive.proofs.Making.{at_made, in_made, refused_here}
+use Rattle.script_search.proofs.Making.{at_made, refused_here}
+use Rattle.py_drive.proofs.Making.{in_made}
 use Rattle.py_drive.proofs.makes.call.Goals as goal
 
 pub call-requires-clause-knows : goal.call-requires-clause-knows

@@ -2,7 +2,8 @@ use Rattle.std.proofs.Common.{◌≡◌, Err, ap}
 use Rattle.machine_events.specs.declared.event.Event.TheVariants as e
 use Rattle.script_end.proofs.Giving.{lists_grow}
 use Rattle.script_port.specs.declared.port.Halt.TheVariants.{Refused}
-use Rattle.py_drive.proofs.Making.{at_made, in_at, refused_here, holds_woken}
+use Rattle.script_search.proofs.Making.{at_made, in_at, refused_here}
+use Rattle.py_drive.proofs.Making.{holds_woken}
 use Rattle.py_drive.proofs.makes.wait.Goals as goal
 
 pub returns-in-Ok-clause-turned : goal.returns-in-Ok-clause-turned

@@ -16,7 +16,8 @@ use Rattle.py_drive.specs.Turns.{ended}
 use Rattle.py_drive.specs.Overs.{Overs}
 use Rattle.py_drive.specs.declared.drive.Over.{Over}
 use Rattle.py_drive.specs.declared.drive.Over.TheVariants as over
-use Rattle.py_drive.proofs.Results.{on_err_then, if_ok}
+use Rattle.script_search.proofs.Results.{on_err_then}
+use Rattle.py_drive.proofs.Results.{if_ok}
 use Rattle.py_drive.proofs.Whole.{follows_came, follows_out, follows_read, broken_in, broken_out, broken_read, no_end_in, no_end_out, no_end_read, lists_whole, came_shown, spent_idle, unread_idle, unread_left}
 use Rattle.py_drive.proofs.script.run_script_on.Goals as goal
 

@@ -2,7 +2,8 @@ use Rattle.std.proofs.Common.{refl}
 use Rattle.std.proofs.lemmas.Result.{IfOk-weaker}
 use Rattle.py_frames.specs.declared.want.Want.TheVariants as wants
 use Rattle.py_drive.specs.Turns.{remains}
-use Rattle.py_drive.proofs.Results.{if_ok, if_err, on_err_then}
+use Rattle.script_search.proofs.Results.{on_err_then}
+use Rattle.py_drive.proofs.Results.{if_ok, if_err}
 use Rattle.py_drive.proofs.Turning.{turned_at, turned_here, at_want, parted_here}
 use Rattle.py_drive.proofs.turn.give.Goals as goal
 

@@ -8,7 +8,7 @@ use Rattle.py_frames.specs.declared.want.Want.{Want}
 use Rattle.py_frames.specs.declared.want.Want.TheVariants as wants
 use Rattle.py_drive.specs.Turns.{remains}
 use Rattle.py_drive.specs.declared.course.Course.{Course}
-use Rattle.py_drive.specs.declared.purse.Purse.{Purse}
+use Rattle.py_costs.specs.declared.purse.Purse.{Purse}
 use Rattle.py_drive.proofs.Stepping.{stepped_came, stepped_out}
 use Rattle.py_drive.proofs.Leading.{Leads, wanted, leads_on, leads_begun, leads_replied, moves_paid, moves_pushed, comes_to, hands_on}
 use Rattle.py_drive.proofs.working.work_on.Goals as goal
