@@ -13,8 +13,8 @@ use boxed::Boxed;
 use py_faults::Fault;
 use py_frames::{Frame, Item, Want};
 use py_functions::Program;
-use py_ways::fail;
 use py_state::{Flow, Leave, Parsing, Scope, Source, Thread};
+use py_ways::fail;
 use std::alloc::Global;
 use std::mem;
 

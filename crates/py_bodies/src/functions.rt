@@ -11,9 +11,9 @@ use machine_events::Reply;
 use py_calls::sourced;
 use py_faults::Fault;
 use py_frames::Want;
-use py_ways::fail;
 use py_state::Thread;
 use py_value::{ModRef, Value};
+use py_ways::fail;
 use std::alloc::Global;
 
 /// The text that a reply brings, and its module.

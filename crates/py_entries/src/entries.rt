@@ -6,9 +6,9 @@ ghost use Rattle.py_frames.specs.declared.work.Item.TheVariants as items;
 use crate::tested::{delete_tested, has_tested, pop_tested, read_tested, set_tested};
 use base_types::NoMemory;
 use py_frames::{Item, Want};
-use py_ways::{is_listed, list_operand};
 use py_state::Thread;
 use py_value::Value;
+use py_ways::{is_listed, list_operand};
 use std::alloc::Global;
 
 /// The entry of a key, in whose place the default comes, if there is one.

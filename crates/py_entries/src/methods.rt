@@ -16,10 +16,10 @@ use base_types::{NoMemory, Seq, Text};
 use machine_events::{Event, Reply};
 use py_faults::Fault;
 use py_frames::{Frame, Item, OnReply, Want};
-use py_ways::{fail, went};
 use py_state::Thread;
 use py_syntax::Expr;
 use py_value::Value;
+use py_ways::{fail, went};
 use shared::Shared;
 use std::alloc::Global;
 

@@ -8,9 +8,9 @@ use base_types::NoMemory;
 use machine_events::Reply;
 use py_faults::Fault;
 use py_frames::Want;
-use py_ways::{fail, went};
 use py_state::Thread;
 use py_value::Value;
+use py_ways::{fail, went};
 use std::alloc::Global;
 
 /// The entry of a key was read.

@@ -12,9 +12,9 @@ use base_types::NoMemory;
 use machine_events::{Event, Slot};
 use py_faults::Fault;
 use py_frames::{OnReply, Want};
-use py_ways::fail;
 use py_state::Thread;
 use py_value::Value;
+use py_ways::fail;
 use spec_core::Dotted;
 use std::alloc::Global;
 

@@ -8,9 +8,9 @@ use base_types::{NoMemory, Text};
 use machine_events::Slot;
 use py_faults::Fault;
 use py_frames::Want;
-use py_ways::{fail, went};
 use py_state::Thread;
 use py_value::{Applied, Kind, Raised, Value};
+use py_ways::{fail, went};
 use std::alloc::Global;
 use value_operators::repr_of;
 

@@ -35,4 +35,3 @@ pub(crate) fn replace_own(alloc: Global, thread: &Thread, name: &Text) -> Result
         Some(module) => replace(alloc, thread, thread.state.scope.mid, module, name),
     }
 }
-

@@ -5,8 +5,8 @@ ghost use Rattle.py_meaning.specs.Pieces.{listed};
 ghost use Rattle.py_natives.specs.Around.{gives_error};
 ghost use Rattle.py_frames.specs.Does.{Does, pieces};
 
-use crate::few::{give, text_of};
 use crate::operands::call_listed;
+use crate::values::{give, text_of};
 use base_types::{NoMemory, Seq, Text};
 use py_faults::Fault;
 use py_frames::Want;

@@ -2,12 +2,12 @@
 #![tactic(auto)]
 
 mod attributes;
-mod few;
 mod kinds;
 mod loading;
 mod natives;
 mod operands;
 mod print;
+mod values;
 
 pub use attributes::{give_default, tell};
 pub use kinds::call_kind;

@@ -7,10 +7,10 @@ ghost use Rattle.py_ways.specs.Listing.{first_listed};
 ghost use Rattle.py_frames.specs.Does.{Does, pieces};
 
 use crate::attributes::{get_attribute, has_attribute};
-use crate::few::give;
 use crate::loading::{import_lazily, invalidate, reload};
 use crate::operands::call_listed;
 use crate::print::print;
+use crate::values::give;
 use base_types::{Exact, NoMemory, Seq, Text};
 use py_faults::Fault;
 use py_frames::{Item, Want};

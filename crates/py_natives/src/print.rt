@@ -5,7 +5,7 @@ ghost use Rattle.py_meaning.specs.Calls as spec;
 ghost use Rattle.py_natives.specs.Lines as lines;
 ghost use Rattle.py_frames.specs.Does.{Does, pieces};
 
-use crate::few::text_of;
+use crate::values::text_of;
 use base_types::{NoMemory, Text};
 use machine_events::Event;
 use py_faults::Fault;

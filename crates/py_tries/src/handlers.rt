@@ -13,10 +13,10 @@ use crate::kinds::takes;
 use base_types::{Exact, NoMemory, Seq};
 use py_faults::Fault;
 use py_frames::{Frame, Item, Want};
-use py_ways::{fail, is_listed};
 use py_state::{Flow, Leave, Thread};
 use py_syntax::Handler;
 use py_value::{Raised, Value};
+use py_ways::{fail, is_listed};
 use shared::Shared;
 use std::alloc::Global;
 

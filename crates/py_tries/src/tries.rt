@@ -9,10 +9,10 @@ ghost use Rattle.py_tries.specs.Parts.{behind, meets};
 use base_types::{NoMemory, Seq};
 use py_faults::Fault;
 use py_frames::{Frame, Item, Want};
-use py_ways::fail;
 use py_state::{Flow, Leave, Thread};
 use py_syntax::{Handler, Stmt};
 use py_value::{Kind, Raised};
+use py_ways::fail;
 use shared::Shared;
 use std::alloc::Global;
 

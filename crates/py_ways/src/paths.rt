@@ -45,4 +45,3 @@ pub fn replace(
     drop(module);
     fail(alloc, thread, Fault::NotInProfile)
 }
-
