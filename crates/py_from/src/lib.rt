@@ -6,10 +6,7 @@ mod import;
 mod names;
 mod places;
 mod relative;
-mod star;
-mod starred;
 
 pub use binding::{begin_binding, begin_bindings, go_on_bindings};
 pub use import::{begin_alias, go_on_front, go_on_fronted, go_on_parts};
 pub use relative::{begin_from, go_on_from, replied_package};
-pub use star::{begin_star, begin_stars, go_on_stars, replied_all, replied_names};

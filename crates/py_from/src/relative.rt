@@ -14,7 +14,6 @@ ghost use Rattle.py_frames.specs.declared.work.Item.TheVariants as items;
 use crate::binding::import_items;
 use crate::names::dotted_name;
 use crate::places::from_at;
-use crate::star::read_all;
 use base_types::{NoMemory, Seq, Text, Texts};
 use machine_events::{Event, Reply};
 use py_faults::Fault;
@@ -190,6 +189,20 @@ pub fn replied_package(
         }
         Some((dots, parts, _)) => import_meant(alloc, thread, package, dots, parts, block, at),
     }
+}
+
+/// The module's `__all__` is read.
+fn read_all(alloc: Global, thread: &Thread, module: ModRef) -> Result<Want, NoMemory>
+    ensures { IfOk result (Does thread.now (pieces (λ w d. spec.from_star (around_at w d) «module») thread.now)) }
+{
+    let _ = thread;
+    let event = Event::GetVar {
+        mid: module.mid,
+        name: Text::from_str(alloc, "__all__")?,
+        raw: false,
+    };
+    let is_raw = false;
+    Ok(Want::Call(event, OnReply::All { module, is_raw }))
 }
 
 /// What a `from` statement does with its module.

@@ -2,7 +2,7 @@ use Rattle.std.proofs.Common.{refl, ap, codes, List, ℕ, true}
 use Rattle.machine_events.specs.declared.event.Event.TheVariants as e
 use Rattle.py_frames.specs.declared.replies.OnReply.TheVariants as ons
 use Rattle.py_ways.proofs.Awake.{awake_again}
-use Rattle.py_from.proofs.star.wake_for_all.Goals as goal
+use Rattle.py_stars.proofs.star.wake_for_all.Goals as goal
 
 pub returns : goal.returns
 returns c =

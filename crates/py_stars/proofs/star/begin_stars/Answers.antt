@@ -2,7 +2,7 @@ use Rattle.std.proofs.Common.{◌∙◌, sym}
 use Rattle.py_meaning.specs.Meaning.{around_at}
 use Rattle.py_meaning.specs.ImportStatements.{binds_star}
 use Rattle.py_ways.proofs.Places.{order_ends, order_goes}
-use Rattle.py_from.proofs.star.begin_stars.Goals as goal
+use Rattle.py_stars.proofs.star.begin_stars.Goals as goal
 
 pub returns-in_default : goal.returns-in_default
 returns-in_default c =

@@ -1,7 +1,7 @@
 //! `from .. import *`: the names of `__all__`, else those of the module that do not begin with an underscore.
 ghost use Rattle.std.specs.Prelude.{◌≡◌, IfOk, false};
 ghost use Rattle.py_value.specs.declared.value.Value.{out-Value};
-ghost use Rattle.py_meaning.specs.ImportStatements.{all_names, all_read, from_star, stars_of};
+ghost use Rattle.py_meaning.specs.ImportStatements.{all_names, all_read, stars_of};
 ghost use Rattle.py_meaning.specs.Meaning.{around_at};
 ghost use Rattle.py_frames.specs.Does.{Does, begins, goes_on, pieces, replies};
 ghost use Rattle.py_frames.specs.declared.replies.OnReply.TheVariants as ons;
@@ -18,20 +18,6 @@ use py_state::{Flow, Thread};
 use py_value::{ModRef, Value};
 use py_ways::{fail, rouse, went};
 use std::alloc::Global;
-
-/// The module's `__all__` is read.
-pub fn read_all(alloc: Global, thread: &Thread, module: ModRef) -> Result<Want, NoMemory>
-    ensures { IfOk result (Does thread.now (pieces (λ w d. from_star (around_at w d) «module») thread.now)) }
-{
-    let _ = thread;
-    let event = Event::GetVar {
-        mid: module.mid,
-        name: Text::from_str(alloc, "__all__")?,
-        raw: false,
-    };
-    let is_raw = false;
-    Ok(Want::Call(event, OnReply::All { module, is_raw }))
-}
 
 /// The names of `__all__` are bound, once the submodules among them are asked for.
 fn bind_all(alloc: Global, thread: &Thread, module: ModRef, value: &Value) -> Result<Want, NoMemory>
