@@ -9,7 +9,7 @@ ghost use Rattle.script_search.specs.Asking.{Parted, Refused};
 ghost use Rattle.py_drive.specs.Turns.{Stood, Made, remains};
 
 use crate::course::{Course, Turn};
-use machine_events::Event;
+use machine_events::{Event, Reply};
 use py_frames::{Item, OnReply, Want};
 use script_holds::change_of;
 use script_port::{Halt, Port};
@@ -20,6 +20,12 @@ use script_port::{Halt, Port};
 fn let_go(event: Event, on: OnReply) {
     drop(event);
     drop(on);
+}
+
+/// Lets go the reply to an event that was made, and what it was for. It stands apart for the same reason.
+fn let_reply_go(on: OnReply, reply: Reply) {
+    drop(on);
+    drop(reply);
 }
 
 /// An event was not made.
@@ -64,7 +70,10 @@ pub fn call<P: Port>(
     match port.call(event) {
         Ok(reply) => match course.held.change(change, &reply) {
             Ok(()) => Ok(Turn::On(Want::Replied(on, reply))),
-            Err(_) => Err(Halt::NoMemory),
+            Err(_) => {
+                let_reply_go(on, reply);
+                Err(Halt::NoMemory)
+            }
         },
         Err(halt) => unmade(on, halt),
     }
