@@ -1,8 +1,9 @@
-"""Whether every link of README.md and of the pages leads somewhere.
+"""Whether every link of README.md, CHANGELOG.md and of the pages leads somewhere.
 
 A link leads to a file or a folder of the repository, or to a heading of a page. A path in backticks that begins with a
-folder of the repository names a file or a folder too. Prints each that leads nowhere, with its place, and ends with
-status 1 where there is one. Run by hand; needs Python 3 alone.
+folder of the repository names a file or a folder too. In docs/differences.md the last cell of each row of a table names
+rows of the tables of crates/, or crates. Prints each that leads nowhere, with its place, and ends with status 1 where there
+is one. Needs Python 3 alone.
 """
 import pathlib
 import re
@@ -51,10 +52,30 @@ def lost(page):
                 yield number, path, "there is no such file"
 
 
+def known_rows():
+    """The rows of all tables, by their names where they have one, and the names of the crates."""
+    known = {path.name for path in (ROOT / "crates").iterdir()}
+    for table in (ROOT / "crates").glob("*/stdin"):
+        for line in table.read_text(errors="replace").split("\n"):
+            known.add(line[4:] if line.startswith("row ") else line)
+    return known
+
+
+def lost_rows(page):
+    """The same of the rows that the last cells of the tables of a page name."""
+    known = known_rows()
+    for number, line in enumerate(page.read_text().split("\n"), 1):
+        if line.startswith("| ") and line.count(" | ") == 4:
+            for _, name in re.findall(r"(`+) ?(.*?) ?\1(?!`)", line.rsplit(" | ", 1)[1]):
+                if name not in known:
+                    yield number, name, "there is no such row"
+
+
 def main():
     found = 0
-    for page in [ROOT / "README.md", *sorted((ROOT / "docs").glob("*.md"))]:
-        for number, link, why in lost(page):
+    for page in [ROOT / "README.md", ROOT / "CHANGELOG.md", *sorted((ROOT / "docs").glob("*.md"))]:
+        rows = lost_rows(page) if page.name == "differences.md" else ()
+        for number, link, why in [*lost(page), *rows]:
             print(f"{page.relative_to(ROOT)}:{number}: {link}: {why}")
             found += 1
     sys.exit(1 if found else 0)

@@ -1,0 +1,3 @@
+import shop
+
+print(shop.total(100))

@@ -1,0 +1,3 @@
+import table
+
+print("s0:", table.rows)

@@ -1,0 +1,4 @@
+n = 0
+while n < 20:
+    n += 1
+rows = n

@@ -1,0 +1,1 @@
+print("local of the application")

@@ -1,0 +1,1 @@
+address = "me@example.org"

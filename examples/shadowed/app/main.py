@@ -1,0 +1,3 @@
+import report
+
+print(report.send("hello"))

@@ -1,0 +1,2 @@
+def post(text):
+    return "sent: " + text

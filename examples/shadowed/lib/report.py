@@ -1,0 +1,5 @@
+import mail
+
+
+def send(text):
+    return mail.post(text)
