@@ -1,12 +1,14 @@
 """Whether the stored traces and pictures of examples/ are what the program and tools/draw_trace.py make.
 
-    python3 bench/examples.py          draws each stored trace again, and compares the picture
-    python3 bench/examples.py --run    runs each main.py again first, and compares its trace; a trace of several scripts
-                                       stands as it is, since their order is the system's
+    python3 bench/examples.py          draws each stored trace again, and compares the picture; what tools/explain_trace.py
+                                       says of it is what a page quotes
+    python3 bench/examples.py --run    runs each example again first, and compares its trace
 
-Prints each file that differs, and ends with status 1 where there is one. With --run and no built program each example
-takes the time of a trial run. A stored trace has no times of folders, which are those of a clone, and lists of a folder
-what the example itself is. Needs Python 3 alone.
+An example is run with the words of its file words.txt behind `run --trace`, without such a file with `main.py`. Where it has
+neither, its trace stands as it is: several scripts, whose order is the system's, or a folder that changed meanwhile.
+
+Prints each file that differs, and ends with status 1 where there is one. A stored trace has no times of folders, which are
+those of a clone, and lists of a folder what the example itself is. Needs Python 3 alone.
 """
 import pathlib
 import re
@@ -14,12 +16,29 @@ import subprocess
 import sys
 
 ROOT = pathlib.Path(__file__).resolve().parent.parent
-BESIDE = ('"trace.svg"', '"trace.txt"', '"__pycache__"')
+BESIDE = ('"trace.svg"', '"trace.txt"', '"words.txt"', '"__pycache__"')
 
 
 def made(words, folder):
-    """What a command writes to standard output."""
-    return subprocess.run(words, cwd=folder, stdout=subprocess.PIPE, check=True).stdout
+    """What a command writes to standard output. Its status is that of the script that it runs."""
+    return subprocess.run(words, cwd=folder, stdout=subprocess.PIPE, stderr=subprocess.DEVNULL).stdout
+
+
+def words_of(folder):
+    """The words with which an example is run, or None."""
+    if (folder / "words.txt").exists():
+        return (folder / "words.txt").read_text().split()
+    return ["main.py"] if (folder / "main.py").exists() else None
+
+
+def quotes(folder):
+    """The page that quotes what is said of an example, where what it quotes is another text now."""
+    told = rf"(?m)^    \$ tools/explain_trace\.py examples/{folder.name}/trace\.txt(.*)\n((?:    .*\n)+)"
+    for page in (ROOT / "docs").glob("*.md"):
+        for scripts, quote in re.findall(told, page.read_text()):
+            words = [sys.executable, ROOT / "tools" / "explain_trace.py", folder / "trace.txt", *scripts.split()]
+            if "".join(line[4:] + "\n" for line in quote.split("\n")[:-1]) != made(words, folder).decode():
+                yield page
 
 
 def listed(found):
@@ -36,12 +55,12 @@ def stored(trace):
 
 def differing(folder, is_run):
     """The stored files of an example that are not what is made now."""
-    trace, picture = folder / "trace.txt", folder / "trace.svg"
-    is_alone = (folder / "main.py").exists()
-    if is_run and is_alone and stored(made([ROOT / "pyimport", "run", "--trace", "main.py"], folder).decode()) != trace.read_text():
+    trace, picture, words = folder / "trace.txt", folder / "trace.svg", words_of(folder)
+    if is_run and words and stored(made([ROOT / "pyimport", "run", "--trace", *words], folder).decode()) != trace.read_text():
         yield trace
     if made([sys.executable, ROOT / "tools" / "draw_trace.py", trace], folder) != picture.read_bytes():
         yield picture
+    yield from quotes(folder)
 
 
 def main():

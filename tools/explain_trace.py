@@ -8,7 +8,8 @@ order, they are shown. Status 0, or 2 where the text is no trace. Needs Python 3
 
 The body is the innermost one that was open when the error began to end bodies. A trace has no line for an `except` that does
 not match, but for the names that it reads: reading the name of a kind of errors is taken for such a test. So an error that a
-handler raises anew is shown where the first one happened, if the handler made no other event before.
+handler raises anew is shown where the first one happened, if the handler made no other event before. Which function was
+running is told by the last name that code read or set as its own.
 """
 import re
 import sys
@@ -49,8 +50,8 @@ def file_of(spec):
 class Body:
     """A body that is open: of a script, or of a module's load."""
 
-    def __init__(self, name, file, how, load=None):
-        self.name, self.file, self.how, self.load = name, file, how, load
+    def __init__(self, name, file, how, module, load=None):
+        self.name, self.file, self.how, self.module, self.load = name, file, how, module, load
 
     def shown(self):
         return f"{self.name} ({self.file})" if self.file else self.name
@@ -60,9 +61,10 @@ class Script:
     """What is kept of a script while its trace is read."""
 
     def __init__(self, number, word):
-        self.open = [Body(f"script {number}", word, "")]
+        self.open = [Body(f"script {number}", word, "", str(number))]
+        self.code = str(number)  # the module whose code read or set a name of its own last
         self.lines = []  # (number, text) of its entries so far
-        self.failing = None  # since an error goes through bodies: the chain of bodies, and how many entries came before
+        self.failing = None  # since an error goes through bodies: the bodies, how many entries came before, the code
         self.unsure = False  # whether what seems to fail is a reload that may have ended well
         self.waits = None
         self.end = None
@@ -74,13 +76,14 @@ class Script:
     def give_up(self, load):
         """Closes the body of a load, and those inside it, which failed."""
         if self.failing is None:
-            self.failing = (list(self.open), len(self.lines) - 1)
+            self.failing = (list(self.open), len(self.lines) - 1, self.code)
         self.close(load)
 
     def close(self, load):
         while len(self.open) > 1:
             if self.open.pop().load == load:
                 break
+        self.code = self.open[-1].module
 
 
 class Trace:
@@ -109,14 +112,17 @@ class Trace:
         act = getattr(self, "on_" + words[0], None)
         if act:
             act(script, words[1:], reply)
-        elif script.unsure or not script.is_test(words, reply):
+        elif words[0] in ("get", "set", "del") and words[-1] == "raw":
+            script.code = words[1]
+        if not act and (script.unsure or not script.is_test(words, reply)):
             script.failing = None
         script.unsure = words[0] == "reloadend"
 
     def begin(self, script, name, file, how, load, module):
         script.failing = None
         self.names[module], self.files[module] = name, file
-        script.open.append(Body(name, file, how, load))
+        script.open.append(Body(name, file, how, module, load))
+        script.code = module
 
     def on_add(self, script, words, reply):
         if reply[0] == "load":
@@ -153,12 +159,12 @@ class Trace:
 
     def on_release(self, script, words, reply):
         if script.failing is None:
-            script.failing = (list(script.open), len(script.lines) - 1)
+            script.failing = (list(script.open), len(script.lines) - 1, script.code)
 
     def on_end(self, script, words, reply):
         script.end = words
         if script.failing is None:
-            script.failing = (list(script.open), len(script.lines) - 1)
+            script.failing = (list(script.open), len(script.lines) - 1, script.code)
 
 
 def ended(words):
@@ -170,17 +176,19 @@ def ended(words):
     return {"fuel": "spent its budget", "read": "could not read a file"}.get(words[0], f"ended: {words[0]}")
 
 
-def story(number, script):
+def story(number, script, trace):
     """What is said of a script that did not end normally."""
     if script.end is None:
         state = f"waits for {script.waits}" if script.waits else "has no End in this trace"
         yield f"script {number} {state}"
-        chain, before = list(script.open), len(script.lines)
+        chain, before, code = list(script.open), len(script.lines), script.code
     else:
         yield f"script {number} {ended(script.end)}"
-        chain, before = script.failing
+        chain, before, code = script.failing
     body = chain[-1]
     yield f"  in the body of {body.shown()}"
+    if code != body.module:
+        yield f"  in a function that it called, of {Body(trace.names.get(code, f'module {code}'), trace.files.get(code), '', code).shown()}"
     if len(chain) > 1:
         yield f"  reached by: {chain[0].shown()}"
         for inner in chain[1:]:
@@ -209,7 +217,7 @@ def explain(text, words):
         if script.end is None or script.end[0] != "normal":
             if told:
                 yield ""
-            yield from story(number, script)
+            yield from story(number, script, trace)
             told += 1
     if not told:
         yield "every script ended normally"

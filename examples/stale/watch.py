@@ -12,10 +12,14 @@ def tries():
         return False
 
 
+def waits():
+    n = 0
+    while n < 30000:
+        n += 1
+
+
 tries()
-n = 0
-while n < 3000:
-    n += 1
+waits()
 print("now plugin.py is there")
 tries()
 importlib.invalidate_caches()
