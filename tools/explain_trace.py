@@ -230,6 +230,9 @@ def main():
         data = sys.stdin.buffer.read() if sys.argv[1] == "-" else open(sys.argv[1], "rb").read()
         for line in explain(data.decode(errors="replace"), sys.argv[2:]):
             print(line)
+        sys.stdout.flush()
+    except BrokenPipeError:
+        sys.stderr.close()
     except (Refused, OSError) as fault:
         print(f"explain_trace: {fault}", file=sys.stderr)
         sys.exit(2)
