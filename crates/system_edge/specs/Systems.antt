@@ -1,5 +1,5 @@
 -- What a folder of the system is called, and what its errors mean.
-use Rattle.std.specs.Prelude.{ℕ, ◌-◌, ◌==◌, Bool, true, false, not, List, [], ◌∷◌, ◌++◌, codes, fold, length, slice_get, Option, Some, None, if◌then◌else◌}
+use Rattle.std.specs.Prelude.{ℕ, ℤ, pos, negsuc, ◌-◌, ◌==◌, Bool, true, false, not, List, [], ◌∷◌, ◌++◌, codes, fold, length, slice_get, Option, Some, None, if◌then◌else◌}
 use Rattle.std.specs.declared.io.ErrorKind.{ErrorKind}
 use Rattle.std.specs.declared.io.ErrorKind.TheVariants as kind
 use Rattle.base_types.specs.Path.{Path}
@@ -32,15 +32,21 @@ or_here (b ∷ name) = b ∷ name
 abbrev pub system_name : List ℕ → Path → List ℕ
 system_name folder path = or_here (with_parts folder path)
 
--- whether an error of the system says that nothing stands at a name
+-- whether an error of the system says that nothing stands at a name; below a folder that may not be searched nothing does
 abbrev pub says_absent : ErrorKind → Bool
 says_absent kind.NotFound = true
 says_absent kind.NotADirectory = true
 says_absent kind.FilesystemLoop = true
 says_absent kind.InvalidFilename = true
+says_absent kind.PermissionDenied = true
 says_absent kind = false
 
 -- what an error of the system means for a call
 abbrev pub fault_of : ErrorKind → TreeFault
 fault_of kind.OutOfMemory = fault.NoMemory
 fault_of kind = fault.Failed
+
+-- the seconds since 1970 of a time of the system; 0 for one that lies before
+abbrev pub since_1970 : ℤ → ℕ
+since_1970 (pos seconds) = seconds
+since_1970 (negsuc before) = 0

@@ -1,17 +1,18 @@
-ghost use Rattle.std.specs.Prelude.{◌≡◌, ◌≤◌, ℕ, List, length, None, IfOk, OnOk};
+ghost use Rattle.std.specs.Prelude.{◌≡◌, ◌≤◌, ◌↔◌, ℕ, List, length, None, IfOk, IsOk, OnOk};
+ghost use Rattle.std.specs.Fs.{file_type, IsFile};
 ghost use Rattle.std.specs.List.Sorted.{IsPermutation, IsSorted};
 ghost use Rattle.std.specs.Ordering.{nat_cmp};
 ghost use Rattle.std.specs.Cmp.Lexicographic.{slice_cmp};
 ghost use Rattle.tree_files.specs.Count.{Rose, raised};
-ghost use Rattle.system_edge.specs.Systems.{wants_slash, with_part, with_parts, or_here, system_name, says_absent, fault_of};
+ghost use Rattle.system_edge.specs.Systems.{wants_slash, with_part, with_parts, or_here, system_name, says_absent, fault_of, since_1970};
 ghost use Rattle.tree_files.specs.declared.tree.TreeFault.TheVariants as fault;
 
 use base_types::{Exact, NoMemory, Text, Texts, TreePath};
 use std::alloc::AllocError;
-use std::fs::Metadata;
+use std::fs::{Metadata, OpenFile as Opened};
 use std::io::{ErrorKind, Read, Seek, SeekFrom};
+use std::os::unix::fs::MetadataExt;
 use std::rt::Files;
-use std::time::UNIX_EPOCH;
 use std::{fs, io};
 use tree_files::{Grove, Stamp, Tree, TreeFault};
 
@@ -82,7 +83,7 @@ impl<R: Files + AllocGlobal + Clone + Drop> RealTree<R> {
     }
 
     /// The file of a name, to be read at a place: the one that is open where it is read on, and else
-    /// a file that is opened now.
+    /// a regular file that is opened now.
     fn opened(&mut self, name: Text, at: u64) -> io::Result<OpenFile<R::File>>
         ensures faults_stay { self.new.faults ≡ self.old.faults }
         ensures lists_stay { self.new.lists ≡ self.old.lists }
@@ -92,7 +93,7 @@ impl<R: Files + AllocGlobal + Clone + Drop> RealTree<R> {
                 return Ok(open);
             }
         }
-        let file = fs::open(&self.rt, name.as_str())?;
+        let file = open_regular(&self.rt, name.as_str())?;
         Ok(OpenFile {
             name,
             file,
@@ -132,7 +133,7 @@ impl<R: Files + AllocGlobal + Clone + Drop> Tree for RealTree<R> {
 
     fn list(&mut self, dir: &TreePath) -> Result<Texts, TreeFault> {
         let name = system_name(&self.root, dir)?;
-        match names_in(&self.rt, name.as_str()) {
+        match names_shown(&self.rt, name.as_str()) {
             Ok(names) => {
                 self.lists = self.lists.saturating_add(1);
                 Ok(names)
@@ -232,6 +233,7 @@ fn says_absent(kind: ErrorKind) -> bool
         ErrorKind::NotADirectory => true,
         ErrorKind::FilesystemLoop => true,
         ErrorKind::InvalidFilename => true,
+        ErrorKind::PermissionDenied => true,
         _ => false,
     }
 }
@@ -246,10 +248,10 @@ fn fault_of(kind: ErrorKind) -> TreeFault
     }
 }
 
-/// Nothing stands at a name that leads nowhere.
+/// Nothing stands at a name that leads nowhere, or through a folder that may not be searched.
 fn stamp_at<R: Files>(rt: &R, name: &str) -> io::Result<Stamp> {
     match fs::metadata(rt, name) {
-        Ok(data) => stamp_of(&data),
+        Ok(data) => Ok(stamp_of(&data)),
         Err(error) => {
             if says_absent(error.kind()) {
                 return Ok(Stamp::Absent);
@@ -259,17 +261,42 @@ fn stamp_at<R: Files>(rt: &R, name: &str) -> io::Result<Stamp> {
     }
 }
 
-/// Neither a socket nor a device is a file. A folder's time is 0 where it lies before 1970.
-fn stamp_of(data: &Metadata) -> io::Result<Stamp> {
+/// The whole seconds since 1970 of a time; 0 for one that lies before.
+fn since_1970(time: i64) -> u64
+    ensures { result ≡ since_1970 time }
+{
+    u64::try_from(time).unwrap_or(0)
+}
+
+/// Neither a pipe nor a socket nor a device is a file.
+fn stamp_of(data: &Metadata) -> Stamp {
     if data.is_dir() {
-        let time = data.modified()?;
-        let past = time.duration_since(UNIX_EPOCH);
-        return Ok(Stamp::Dir(past.map_or(0, |past| past.as_secs())));
+        return Stamp::Dir(since_1970(data.mtime()));
     }
     if data.is_file() {
-        return Ok(Stamp::File(data.len()));
+        return Stamp::File(data.len());
     }
-    Ok(Stamp::Absent)
+    Stamp::Absent
+}
+
+/// A file that may have been put anew since its stamp was taken: what is no regular file is refused.
+fn refuse_irregular(found: &Metadata) -> io::Result<()>
+    ensures { IsOk result ↔ IsFile (file_type found.now) }
+{
+    if found.is_file() {
+        Ok(())
+    } else {
+        Err(io::Error::from(ErrorKind::InvalidInput))
+    }
+}
+
+/// Opens a regular file. To open a pipe would wait for a writer, so what stands at the name is looked
+/// at right before, and what was opened is looked at too.
+fn open_regular<R: Files>(rt: &R, name: &str) -> io::Result<R::File> {
+    refuse_irregular(&fs::metadata(rt, name)?)?;
+    let file = fs::open(rt, name)?;
+    refuse_irregular(&file.metadata()?)?;
+    Ok(file)
 }
 
 /// The names in the order of their bytes.
@@ -299,4 +326,12 @@ fn names_in<R: Files + AllocGlobal + Clone + Drop>(rt: &R, folder: &str) -> io::
         }
     }
     Ok(in_order(names)?)
+}
+
+/// The names that a folder shows: those in it, and none where it may not be read.
+fn names_shown<R: Files + AllocGlobal + Clone + Drop>(rt: &R, folder: &str) -> io::Result<Texts> {
+    match names_in(rt, folder) {
+        Err(error) if error.kind() == ErrorKind::PermissionDenied => Ok(Texts::new(rt.alloc())),
+        names => names,
+    }
 }
