@@ -1,0 +1,4 @@
+mod Places
+mod Cuts
+mod Entries
+mod Orders
