@@ -4,7 +4,7 @@ use Rattle.std.proofs.lemmas.Bool.{and_from, and_parts, and_left, not-true}
 use Rattle.std.proofs.lemmas.Cmp.{nat_list_cmp_total, lists_total}
 use Rattle.std.proofs.lemmas.List.{drop_more, drop_all, length-drop}
 use Rattle.std.specs.Cmp.Lexicographic.{pointwise, slice_cmp, texts_ties, bytes_decides}
-use Rattle.std.specs.List.{AllByRecursion}
+use Rattle.std.specs.List.{AllByRecursion, starts_with}
 use Rattle.std.specs.Ordering.{is_lt, is_eq, nat_cmp, ordering_then, ordering_reverse}
 use Rattle.std.specs.declared.cmp.Ordering.{Ordering}
 use Rattle.std.specs.declared.cmp.Ordering.TheVariants.{Less, Equal, Greater}
@@ -108,3 +108,9 @@ short (e ∷ f ∷ es) h = absurd (omega arith)
 
 pub ascending_to_end : (es : List Entry) (i : ℕ) → length es ≤ i → ascending (drop (i - 1) es) ≡ true
 ascending_to_end es i h = short (drop (i - 1) es) (let l = length-drop (i - 1) es in omega arith)
+
+-- a prefix as the code tests it
+pub within_taken : (above path : Path) → starts_with (pointwise nat_eq) path above ≡ is_within above path
+within_taken [] path = refl
+within_taken (x ∷ above) [] = refl
+within_taken (x ∷ above) (y ∷ path) = ap (λ b. pointwise nat_eq x y && b) (within_taken above path)

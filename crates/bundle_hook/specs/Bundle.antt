@@ -1,12 +1,10 @@
 -- Which bytes are a bundle, and of which files.
-use Rattle.std.specs.Prelude.{◌≡◌, ◌≤◌, ℕ, ◌+◌, List, [], ◌∷◌, ◌++◌, length, map, take, Option, Some, None, Result, Ok, Err, MatchOption}
+use Rattle.std.specs.Prelude.{◌≡◌, ◌≤◌, ℕ, ◌+◌, List, [], ◌∷◌, ◌++◌, length, map, take, drop, ⊤, Option, Some, None, MatchOption}
 use Rattle.std.specs.List.{AllByRecursion}
 use Rattle.bundle_hook.specs.declared.entry.Entry.{Entry}
 use Rattle.bundle_hook.specs.declared.bundle.Packed.{Packed}
 use Rattle.bundle_hook.specs.declared.bundle.Item.{Item}
 use Rattle.bundle_hook.specs.declared.bundle.Index.{Index}
-use Rattle.bundle_hook.specs.declared.bundle.BundleError.{BundleError}
-use Rattle.bundle_hook.specs.declared.bundle.BundleError.TheVariants as error
 use Rattle.bundle_hook.specs.Spelling.{most_files, most_front, front_of, IsEntry, Ascend}
 
 -- what a line says of a file: its path, and how many bytes it has
@@ -34,11 +32,14 @@ pub record IsBundle (files : List Packed) (bytes : List ℕ) : Type 0 where
   pub short : length (front_of (entries_of files)) ≤ most_front
   pub whole : bytes ≡ front_of (entries_of files) ++ data_of files
 
--- the answer of `write_bundle`: the one bundle of the files, or that none belongs to them
-abbrev pub Writes : List Packed → Result (List ℕ) BundleError → Type 0
-Writes files (Ok bytes) = IsBundle files bytes
-Writes files (Err error.Unfit) = (bytes : List ℕ) → IsBundle files bytes → ⊥
-Writes files (Err error.NoMemory) = Unit {0}
+-- some bundle can begin with the front of these entries
+abbrev pub CanBegin : List Entry → Type 0
+CanBegin es = AreEntries es × (length (front_of es) ≤ most_front)
+
+-- how many bytes the files have together
+abbrev pub sizes : List Entry → ℕ
+sizes [] = 0
+sizes (e ∷ es) = e.size + sizes es
 
 -- the files in order, each with its path, its place and its size, where the first begins at this place
 abbrev pub items_from : ℕ → List Entry → List Item
@@ -60,3 +61,9 @@ Lists index bytes = (files : List Packed) × IsBundle files bytes × (index ≡ 
 -- the answer of `read_index`: Some exactly where a file that begins so is a bundle, and then with its index
 abbrev pub Reads : List ℕ → ℕ → Option Index → Type 0
 Reads front size o = (bytes : List ℕ) → IsFrontOf front size bytes → MatchOption o ((files : List Packed) → IsBundle files bytes → ⊥) (λ index. Lists index bytes)
+
+-- each file's item has its path, and its bytes stand where the item says
+abbrev pub StandIn : List ℕ → List Packed → List Item → Type 0
+StandIn bytes [] [] = ⊤
+StandIn bytes (file ∷ files) (item ∷ items) = (item.path ≡ file.path) × (take item.size (drop item.at bytes) ≡ file.bytes) × StandIn bytes files items
+StandIn bytes files items = ⊥

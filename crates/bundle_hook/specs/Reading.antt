@@ -62,3 +62,15 @@ abbrev pub ascending : List Entry → Bool
 ascending [] = true
 ascending (e ∷ []) = true
 ascending (e ∷ f ∷ es) = is_before e.path f.path && ascending (f ∷ es)
+
+-- the entries, where each stands before the next one
+abbrev pub if_ascending : List Entry × ℕ → Option (List Entry × ℕ)
+if_ascending (entries, left) = if ascending entries then Some (entries, left) else None
+
+-- what stands behind the first line, where that is the one of the format
+abbrev pub behind_first : List ℕ × List ℕ → Option (List Entry × ℕ)
+behind_first (line, rest) = if bytes_eq line first_line then option_and_then if_ascending (lines_in (most_files + 1) [] rest) else None
+
+-- the front of a bundle: the entries, and how many bytes stand behind it
+unfoldable pub front_in : List ℕ → Option (List Entry × ℕ)
+front_in text = option_and_then behind_first (cut_at 10 text)
