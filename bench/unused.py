@@ -18,7 +18,7 @@ ROOT = pathlib.Path(__file__).resolve().parent.parent
 NAME = r"[^\s(){}.,;:◌]+"
 HEAD = re.compile(rf"(?m)^ *(?:(?:abbrev|unfoldable) +)?(?:pub +)?(?:(data|record) +)?({NAME}) *(?=[:({{])")
 TAKES = re.compile(r"(?ms)^ *(?:pub )?(?:ghost )?use ([\w⟦⟧<>.+]+?)(?:\.\{(.*?)\}| as (\w+))?;?$")
-WORD = re.compile(r"[^\s(){}\[\].,;:&*!?<>|]+")
+WORD = re.compile(r"(?:[^\s(){}\[\].,;:&*!?<>|]|-\[\])+")
 FUNCTION = re.compile(r"(?m)^ *pub fn (\w+)")
 
 
@@ -63,10 +63,23 @@ def module_of(source):
 
 def declared(source):
     """The names that a file declares, with the lines of each."""
-    heads = [it for it in HEAD.finditer(source.text) if is_head(source.text, it)]
-    for at, head in enumerate(heads):
-        end = heads[at + 1].start() if at + 1 < len(heads) else len(source.text)
-        yield head.group(2), source.text[head.start():end]
+    for head in HEAD.finditer(source.text):
+        if is_head(source.text, head):
+            yield head.group(2), own_lines(source.text[head.start():], head.group(2))
+
+
+def own_lines(text, name):
+    """The lines of the declaration with which a text begins: those that are further in, and its own clauses."""
+    lines = text.split("\n")
+    depth = len(lines[0]) - len(lines[0].lstrip())
+    end = 1
+    while end < len(lines):
+        line = lines[end].lstrip()
+        is_within = not line or len(lines[end]) - len(line) > depth or line[0] in ")]}"
+        if not is_within and WORD.findall(line)[:1] != [name]:
+            break
+        end += 1
+    return "\n".join(lines[:end])
 
 
 def is_head(text, head):
@@ -96,7 +109,8 @@ def unused_names(sources, crates):
             continue
         module = module_of(source)
         for name, own in declared(source):
-            if "goal." in own.partition("\n")[0] or name in ("use", "mod", "invariant"):
+            answers_goal = re.match(r"[^:]*:\s*goal\w*\.", own)
+            if answers_goal or name in ("use", "mod", "module"):
                 continue
             inside = sum(it == name for it in WORD.findall(own))
             others = [it for it in stands_in[name] if it is not source]

@@ -5,10 +5,12 @@ use base_types::{Text, TreePath};
 use path_finder::{Found, Look, LookIn, LookWant};
 use py_value::{Items, Value};
 use spec_core::{Dotted, SpecKind};
-use std::fs;
 use std::fs::Permissions;
 use std::os::unix::fs::PermissionsExt;
+use std::os::unix::io::AsRawFd;
 use std::test::Fail;
+use std::time::UNIX_EPOCH;
+use std::{fs, io};
 use system_edge::RealTree;
 use tree_files::{Grove, Stamp, Tree, TreeFault};
 
@@ -119,27 +121,48 @@ fn a_search_in_a_real_folder(rt: HostRuntime) -> Result<(), Fail> {
 }
 
 #[test]
-fn an_unreadable_folder_fails_where_it_is_listed(rt: HostRuntime) -> Result<(), Fail> {
+fn a_shut_folder_is_passed_over(rt: HostRuntime) -> Result<(), Fail> {
     let folder = "path_finder_shut";
     let shut = "path_finder_shut/a";
+    let file = "path_finder_shut/b/c.py";
     fs::create_dir_all(&rt, shut)?;
     fs::create_dir_all(&rt, "path_finder_shut/b")?;
-    fs::write(&rt, "path_finder_shut/b/c.py", b"".as_slice())?;
+    fs::write(&rt, "path_finder_shut/a/c.py", b"".as_slice())?;
+    fs::write(&rt, file, b"".as_slice())?;
     fs::set_permissions(&rt, shut, Permissions::from_mode(0))?;
-    // Who may read everything reads this too.
+    fs::set_permissions(&rt, file, Permissions::from_mode(0))?;
+    // Who may read everything reads these too.
     let is_shut = fs::read_dir(&rt, shut).is_err();
     let mut tree = RealTree::at(rt, text(&rt, folder)?);
-    let found = searched(&rt, &mut tree, "b:a", "c")?;
-    assert_eq!(rt; found.as_str(), "module b/c.py");
-    let at = path(&rt, "a")?;
-    assert!(rt; matches!(tree.stamp(&at), Ok(Stamp::Dir(_))));
+    assert!(rt; matches!(tree.stamp(&path(&rt, "a")?), Ok(Stamp::Dir(_))));
     if is_shut {
-        assert!(rt; matches!(tree.list(&at), Err(TreeFault::Failed)));
+        assert_eq!(rt; tree.list(&path(&rt, "a")?)?.len(), 0);
+        assert_eq!(rt; tree.stamp(&path(&rt, "a/c.py")?), Ok(Stamp::Absent));
         let found = searched(&rt, &mut tree, "a:b", "c")?;
-        assert_eq!(rt; found.as_str(), "failed");
+        assert_eq!(rt; found.as_str(), "module b/c.py");
+        let at = path(&rt, "b/c.py")?;
+        assert_eq!(rt; tree.read(&at, 0, &mut [0u8; 3]), Err(TreeFault::Failed));
     }
     fs::set_permissions(&rt, shut, Permissions::from_mode(0o700))?;
     fs::remove_dir_all(&rt, folder)?;
+    Ok(())
+}
+
+/// To open the reading end of a pipe anew waits for a writer, and here none is left.
+#[test]
+fn a_pipe_is_not_waited_for(rt: HostRuntime) -> Result<(), Fail> {
+    let (reader, writer) = io::pipe(&rt)?;
+    drop(writer);
+    let name = format!(in rt.alloc(); "{}", reader.as_raw_fd())?;
+    let mut tree = RealTree::at(rt, text(&rt, "/proc/self/fd")?);
+    let at = path(&rt, name.as_str())?;
+    assert_eq!(rt; tree.stamp(&at), Ok(Stamp::Absent));
+    assert_eq!(rt; tree.read(&at, 0, &mut [0u8; 3]), Err(TreeFault::Failed));
+    let mut tree = RealTree::at(rt, text(&rt, "/dev")?);
+    assert_eq!(rt;
+        tree.read(&path(&rt, "null")?, 0, &mut [0u8; 3]),
+        Err(TreeFault::Failed)
+    );
     Ok(())
 }
 
@@ -215,6 +238,7 @@ fn a_real_folder_is_read(rt: HostRuntime) -> Result<(), Fail> {
     fs::create_dir(&rt, folder)?;
     fs::create_dir(&rt, "tree_files_test/b")?;
     fs::write(&rt, "tree_files_test/a.py", b"hello".as_slice())?;
+    fs::open(&rt, "tree_files_test/b")?.set_modified(UNIX_EPOCH)?;
     let mut real = RealTree::at(rt, text(&rt, folder)?);
     let mut tree = real.fork()?;
     for (at, wanted) in [
@@ -226,6 +250,7 @@ fn a_real_folder_is_read(rt: HostRuntime) -> Result<(), Fail> {
     ] {
         assert_eq!(rt; seen(&rt, &mut tree, at)?.as_str(), wanted, "{at}");
     }
+    assert_eq!(rt; tree.stamp(&path(&rt, "b")?), Ok(Stamp::Dir(0)));
     let file = path(&rt, "a.py")?;
     assert!(rt; matches!(tree.list(&file), Err(TreeFault::Failed)));
     let mut bytes = [0u8; 3];
