@@ -1,15 +1,15 @@
 -- Single lines: what an entry spells is read, and what is read is spelled so.
-use Rattle.std.proofs.Common.{◌≡◌, ◌∙◌, refl, sym, ap, subst, ℕ, ◌≤◌, ◌<◌, ◌^◌, List, [], ◌∷◌, ◌++◌, length, true, false, Bool, not, cond, leb, eqb, ◌&&◌, Some, None, Option, arith, inl}
+use Rattle.std.proofs.Common.{◌≡◌, ◌∙◌, refl, sym, ap, subst, ℕ, ◌≤◌, ◌<◌, ◌^◌, List, ◌∷◌, ◌++◌, length, true, cond, leb, eqb, ◌&&◌, Some, None, arith, inl}
 use Rattle.std.specs.Char.{is_ascii_digit}
 use Rattle.std.specs.Fmt.{decimal}
-use Rattle.std.proofs.lemmas.Bool.{and_from, and_parts, cond-true, leb-true, le-leb}
+use Rattle.std.proofs.lemmas.Bool.{and_parts, cond-true, leb-true, le-leb}
 use Rattle.std.proofs.lemmas.Fmt.{digits_decimal}
 use Rattle.std.proofs.lemmas.List.Splits.{join_with_byte-slice_split, length-slice_split}
 use Rattle.std.proofs.lemmas.Str.{IsUtf8-from_is_utf8}
 use Rattle.std.specs.List.{list_all}
 use Rattle.std.specs.Option.{option_map, option_and_then}
 use Rattle.std.specs.Str.{is_utf8, IsUtf8}
-use Rattle.base_types.specs.Path.{Path, is_part, IsPath, joined, Spells}
+use Rattle.base_types.specs.Path.{Path, is_part, IsPath, joined}
 use Rattle.decimal_text.specs.Numbers.{number_in}
 use Rattle.decimal_text.proofs.Spelled.{own, number_takes, number_again}
 use Rattle.bundle_hook.specs.declared.entry.Entry.{Entry}

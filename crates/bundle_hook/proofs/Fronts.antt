@@ -1,12 +1,12 @@
 -- The front of a bundle: what is spelled is read, and what is read is spelled so.
-use Rattle.std.proofs.Common.{◌≡◌, ◌∙◌, refl, sym, ap, subst, ℕ, zero, suc, ◌+◌, ◌-◌, ◌<◌, ◌≤◌, List, [], ◌∷◌, ◌++◌, length, length-append, true, false, Bool, cond, Some, None, Option, Bor, arith, append-nil, append_assoc}
+use Rattle.std.proofs.Common.{◌≡◌, ◌∙◌, refl, sym, ap, subst, ℕ, zero, suc, ◌+◌, ◌-◌, ◌<◌, ◌≤◌, List, [], ◌∷◌, ◌++◌, length, true, false, Bool, cond, Some, None, Option, Bor, arith, append-nil, append_assoc}
 use Rattle.std.proofs.lemmas.Bool.{cond-true, cond-false, false≢true}
 use Rattle.std.proofs.lemmas.Slice.Eq.{bytes_eq-Decides}
 use Rattle.std.specs.List.{AllByRecursion}
 use Rattle.std.specs.Option.{option_and_then, option_map, is_some}
 use Rattle.std.specs.Str.{bytes_eq}
 use Rattle.bundle_hook.specs.declared.entry.Entry.{Entry}
-use Rattle.bundle_hook.specs.Spelling.{most_files, first_line, last_line, line_of, lines_of, front_of, IsEntry, Ascend}
+use Rattle.bundle_hook.specs.Spelling.{most_files, first_line, last_line, line_of, lines_of, front_of, IsEntry}
 use Rattle.bundle_hook.specs.Bundle.{AreEntries}
 use Rattle.bundle_hook.specs.Reading.{cut_at, entry_in, at_line, lines_in, ascending, if_ascending, behind_first, front_in}
 use Rattle.bundle_hook.proofs.Cuts.{if_some, then_some, cut_found, cut_taken}
@@ -178,7 +178,6 @@ cut_none o text e is = sym e ∙ ap (option_map {U = List ℕ × List ℕ} (λ (
 
 pub cut_some : (o : Option (Bor (List ℕ) × Bor (List ℕ))) (text : List ℕ) (line rest : Bor (List ℕ)) → option_map {U = List ℕ × List ℕ} (λ x. (x.0.now, x.1.now)) o ≡ cut_at 10 text → o ≡ Some (line, rest) → cut_at 10 text ≡ Some (line.now, rest.now)
 cut_some o text line rest e is = sym e ∙ ap (option_map {U = List ℕ × List ℕ} (λ (x : Bor (List ℕ) × Bor (List ℕ)). (x.0.now, x.1.now))) is
-
 
 one_less : (most i : ℕ) → i < most → most - i ≡ suc (most - (i + 1))
 one_less most i low = omega arith

@@ -1,14 +1,13 @@
 -- An index and the files that it lists.
-use Rattle.std.proofs.Common.{◌≡◌, ◌∙◌, refl, sym, ap, subst, ℕ, zero, suc, ◌+◌, ◌-◌, ◌<◌, ◌≤◌, List, [], ◌∷◌, ◌++◌, length, get_or, take, drop, min, Some, None, Option, arith, append-nil, append_assoc, length-append, length-take, length-drop}
+use Rattle.std.proofs.Common.{◌≡◌, ◌∙◌, refl, sym, ap, subst, ℕ, zero, suc, ◌+◌, ◌-◌, ◌<◌, ◌≤◌, List, [], ◌∷◌, ◌++◌, length, get_or, take, drop, min, Some, None, arith, append-nil, append_assoc, length-append, length-take, length-drop}
 use Rattle.std.specs.Prelude.{◌≢◌}
 use Rattle.std.proofs.Math.Seq.{take-append_seam, drop-append_seam}
 use Rattle.std.proofs.lemmas.List.{drop_more, drop_all, take-append-drop}
 use Rattle.bundle_hook.specs.declared.entry.Entry.{Entry}
 use Rattle.bundle_hook.specs.declared.bundle.Packed.{Packed}
 use Rattle.bundle_hook.specs.declared.bundle.Item.{Item}
-use Rattle.bundle_hook.specs.declared.bundle.Index.{Index}
 use Rattle.bundle_hook.specs.Spelling.{most_front, front_of}
-use Rattle.bundle_hook.specs.Bundle.{AreEntries, IsBundle, IsFrontOf, Lists, Reads, entry_of, entries_of, data_of, sizes, items_from, index_of}
+use Rattle.bundle_hook.specs.Bundle.{AreEntries, IsBundle, IsFrontOf, Reads, entry_of, entries_of, data_of, sizes, items_from, index_of}
 use Rattle.bundle_hook.specs.Reading.{front_in}
 use Rattle.bundle_hook.proofs.Fronts.{Front, front_found, front_taken, same_entries, not_both}
 
@@ -62,8 +61,7 @@ data_left head size left i items es high some p same =
 pub all_placed : (head size left : ℕ) (i : ℕ) (items : List Item) (es : List Entry) → length es ≤ i → left ≡ 0 → Placing head size left i items es → (head + sizes es ≡ size) × (items ≡ items_from head es)
 all_placed head size left i items es high filled p =
     let sum = p.sum in
-    let none = nothing_more i es high in
-    (
+    let none = nothing_more i es high in (
       omega (arith, sum, none, filled),
       sym (p.places ∙ ap (λ t. items ++ items_from (size - left) t) (drop_all i es high) ∙ append-nil items),
     )
@@ -188,5 +186,5 @@ one_list a b bytes p q =
     let same : entries_of a ≡ entries_of b = same_entries (front_in bytes) (entries_of a) (entries_of b) (length (data_of a)) (length (data_of b)) first second in
     let at : length (front_of (entries_of a)) ≡ length (front_of (entries_of b)) = ap (λ t. length (front_of t)) same in
     let same_data : data_of a ≡ data_of b =
-        sym (drop-append_seam (front_of (entries_of a)) (data_of a)) ∙ ap (λ n. drop n (front_of (entries_of a) ++ data_of a)) at ∙ ap (drop (length (front_of (entries_of b)))) (sym p.whole ∙ q.whole) ∙ drop-append_seam (front_of (entries_of b)) (data_of b) in
+    sym (drop-append_seam (front_of (entries_of a)) (data_of a)) ∙ ap (λ n. drop n (front_of (entries_of a) ++ data_of a)) at ∙ ap (drop (length (front_of (entries_of b)))) (sym p.whole ∙ q.whole) ∙ drop-append_seam (front_of (entries_of b)) (data_of b) in
     same_files a b same same_data

@@ -1,10 +1,10 @@
 -- Tree paths and their texts.
 use Rattle.std.proofs.Common.{◌≡◌, ◌∙◌, refl, sym, ap, subst, ℕ, zero, suc, ◌≤◌, List, [], ◌∷◌, length, true, false, not, eqb, ◌&&◌, Some, None, Option, arith, inl, inr, codes, nat_eq}
-use Rattle.std.proofs.lemmas.Bool.{cases_Bool, and_from, and_parts, and_left, and_right, cond-true, cond-false, false_from_ne_true, not-true}
+use Rattle.std.proofs.lemmas.Bool.{and_from, and_parts, and_left, and_right, cond-true, cond-false, false_from_ne_true, not-true}
 use Rattle.std.proofs.lemmas.List.Splits.{slice_split_none, slice_split_at, join_with_byte-slice_split}
 use Rattle.std.specs.Cmp.Lexicographic.{pointwise}
 use Rattle.std.specs.List.{list_all, All}
-use Rattle.std.specs.Option.{MatchOption, option_and_then, is_some}
+use Rattle.std.specs.Option.{MatchOption, option_and_then}
 use Rattle.std.specs.Str.{IsUtf8, is_utf8}
 use Rattle.std.proofs.lemmas.Str.{IsUtf8-from_is_utf8, is_utf8-from_IsUtf8}
 use Rattle.base_types.specs.Path.{Path, is_part, is_part_byte, joined, Spells}
@@ -67,4 +67,3 @@ without_parts path h = subst (λ p. None ≡ with_parts p) (sym h) refl
 pub has_parts : (path : Path) → ¬ (path ≡ []) → Some path ≡ with_parts path
 has_parts [] h = absurd (h refl)
 has_parts (part ∷ path) h = refl
-

@@ -1,12 +1,12 @@
 -- What is written is what is spelled.
-use Rattle.std.proofs.Common.{◌≡◌, ◌∙◌, refl, sym, ap, subst, ℕ, ◌+◌, ◌<◌, ◌≤◌, List, [], ◌∷◌, ◌++◌, length, get_or, drop, true, false, Some, None, Option, arith, append-nil, append_assoc, codes}
-use Rattle.std.specs.Prelude.{◌↔◌, IsTrue}
+use Rattle.std.proofs.Common.{◌≡◌, ◌∙◌, sym, ap, subst, ℕ, ◌+◌, ◌<◌, ◌≤◌, List, [], ◌∷◌, ◌++◌, length, get_or, drop, Some, None, arith, append-nil, append_assoc, codes}
+use Rattle.std.specs.Prelude.{◌↔◌}
 use Rattle.std.specs.Fmt.{decimal}
 use Rattle.std.proofs.lemmas.List.{drop_more, drop_all}
 use Rattle.base_types.specs.Path.{joined}
 use Rattle.bundle_hook.specs.declared.entry.Entry.{Entry}
 use Rattle.bundle_hook.specs.declared.bundle.Packed.{Packed}
-use Rattle.bundle_hook.specs.Spelling.{most_front, first_line, last_line, line_of, lines_of, front_of}
+use Rattle.bundle_hook.specs.Spelling.{most_front, line_of, lines_of, front_of}
 use Rattle.bundle_hook.specs.Bundle.{IsBundle, CanBegin, AreEntries, entries_of, data_of}
 use Rattle.bundle_hook.specs.Reading.{front_in}
 use Rattle.bundle_hook.proofs.Fronts.{Front, front_found, front_taken, same_entries, not_both}

@@ -1,5 +1,5 @@
 -- Reading the front of a bundle line by line.
-use Rattle.std.specs.Prelude.{ℕ, ◌+◌, ◌-◌, zero, suc, List, [], ◌∷◌, ◌++◌, take, drop, length, Bool, true, not, nat_le, ◌==◌, ◌&&◌, position, Option, Some, None, if◌then◌else◌}
+use Rattle.std.specs.Prelude.{ℕ, ◌+◌, zero, suc, List, [], ◌∷◌, ◌++◌, take, drop, length, Bool, true, not, nat_le, ◌==◌, ◌&&◌, position, Option, Some, None, if◌then◌else◌}
 use Rattle.std.specs.List.{list_all, slice_split}
 use Rattle.std.specs.Option.{option_map, option_and_then}
 use Rattle.std.specs.Ordering.{is_lt}

@@ -11,11 +11,7 @@ use std::alloc::Global;
 
 /// The files of a bundle whose data begin at `head`, where they fill a file of this size.
 #[tactic(auto, using(crate::proofs::Indexed::placings))]
-fn items_of(
-    head: u64,
-    size: u64,
-    entries: &Seq<Entry>,
-) -> Result<Option<Seq<Item>>, NoMemory>
+fn items_of(head: u64, size: u64, entries: &Seq<Entry>) -> Result<Option<Seq<Item>>, NoMemory>
     requires { head ≤ size }
     ensures { IfOk result (λ o. MatchOption o (head + sizes entries.now ≢ size)
         (λ items. (head + sizes entries.now ≡ size) × (items ≡ items_from head entries.now))) }

@@ -104,10 +104,7 @@ fn behind_first(
 
 /// The entries of a bundle that begins so, and how many bytes stand behind its front.
 #[tactic(auto, unfolding(crate::specs::Reading::front_in))]
-pub(crate) fn front_in(
-    alloc: Global,
-    text: &[u8],
-) -> Result<Option<(Seq<Entry>, usize)>, NoMemory>
+pub(crate) fn front_in(alloc: Global, text: &[u8]) -> Result<Option<(Seq<Entry>, usize)>, NoMemory>
     ensures { IfOk result (λ o. o ≡ reading.front_in text.now) }
 {
     match cut_at(LINE_FEED, text) {

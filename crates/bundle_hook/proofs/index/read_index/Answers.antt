@@ -17,14 +17,14 @@ pub returns-in-Some-2 : goal.returns-in-Some-2
 returns-in-Some-2 c =
     let read = sym c.in-Some.is ∙ c.in_ok-entries.ensures in
     let fits = MatchOption-at_some (length c.args.front.now - c.in-Some.left + sizes c.in-Some.entries ≢ c.args.size)
-        (λ items. (length c.args.front.now - c.in-Some.left + sizes c.in-Some.entries ≡ c.args.size) × (items ≡ items_from (length c.args.front.now - c.in-Some.left) c.in-Some.entries))
-        c.in-Some-2.items c.in-Some-2.is c.in_ok-items.ensures in
+    (λ items. (length c.args.front.now - c.in-Some.left + sizes c.in-Some.entries ≡ c.args.size) × (items ≡ items_from (length c.args.front.now - c.in-Some.left) c.in-Some.entries))
+    c.in-Some-2.items c.in-Some-2.is c.in_ok-items.ensures in
     is_index c.args.front.now c.args.size c.in-Some.left (length c.args.front.now - c.in-Some.left) c.in-Some.entries c.in-Some-2.items refl read c.requires fits.0 fits.1
 
 pub returns : goal.returns
 returns c =
     let read = sym c.in-Some.is ∙ c.in_ok-entries.ensures in
     let other = MatchOption-at_none (length c.args.front.now - c.in-Some.left + sizes c.in-Some.entries ≢ c.args.size)
-        (λ items. (length c.args.front.now - c.in-Some.left + sizes c.in-Some.entries ≡ c.args.size) × (items ≡ items_from (length c.args.front.now - c.in-Some.left) c.in-Some.entries))
-        c.in-None.is c.in_ok-items.ensures in
+    (λ items. (length c.args.front.now - c.in-Some.left + sizes c.in-Some.entries ≡ c.args.size) × (items ≡ items_from (length c.args.front.now - c.in-Some.left) c.in-Some.entries))
+    c.in-None.is c.in_ok-items.ensures in
     no_fit c.args.front.now c.args.size c.in-Some.left (length c.args.front.now - c.in-Some.left) c.in-Some.entries refl read other

@@ -1,4 +1,4 @@
-use Rattle.std.proofs.Common.{◌≡◌, ◌∙◌, ◌+◌, ◌-◌, sym, ap}
+use Rattle.std.proofs.Common.{◌∙◌, ◌+◌, ◌-◌, sym, ap}
 use Rattle.bundle_hook.specs.Reading.{lines_in}
 use Rattle.bundle_hook.proofs.Fronts.{cut_none, cut_some, no_line, at_last, no_entry, one_entry, all_lines}
 use Rattle.bundle_hook.proofs.read.lines_in.Goals as goal
