@@ -16,7 +16,7 @@ a module that is loaded again keeps the file that it is told with; whether a mod
 its first load changes in CPython; hints at similar names; and the text that CPython has for a submodule that is loading.
 Only a module that imports nothing gets `None` as its entry. What is not left out is a package whose body fails while what
 it imported stays: CPython looks it up once more behind a submodule of that, and runs its body again. Of two thousand seeds
-about one tells this, such as 3498, 9333 and 10165; `run_rows` has a row for each way in which it does.
+about one tells this, such as 3498, 9333 and 10165; `rows_runs` has a row for each way in which it does.
 """
 import argparse
 import pathlib

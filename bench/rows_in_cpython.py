@@ -118,7 +118,7 @@ def named(row):
 
 
 def value_rows():
-    for notes, row, answer in sections("value_rows"):
+    for notes, row, answer in sections("rows_values"):
         if answer is None or OWN_RULES in notes:
             continue
         if notes.startswith("# Operators"):
@@ -178,7 +178,7 @@ def tree(source):
 
 
 def source_rows():
-    for notes, row, answer in sections("source_rows"):
+    for notes, row, answer in sections("rows_sources"):
         source = source_of(row) if row.startswith(("tokens ", "tree ")) else None
         if source is None:
             continue
@@ -218,7 +218,7 @@ def found(name, entries):
 
 def search_rows():
     home = os.getcwd()
-    for _, row, answer in sections("search_rows"):
+    for _, row, answer in sections("rows_search"):
         parts = re.fullmatch(r'find (\S+) on (\S+) in ?(.*)', row)
         if parts is None:
             continue
@@ -339,7 +339,7 @@ def call_rows(table):
 
 
 def run_rows():
-    return call_rows("run_rows")
+    return call_rows("rows_runs")
 
 
 # Made workloads: the generator once more, and scripts that run in threads of one CPython.
@@ -377,7 +377,7 @@ def made_files(seed, modules, scripts):
 def made_rows():
     """The rows of made workloads that have a line, each beside the line about their run in CPython."""
     asked = r"^row (.*)\nwords gen (\d+) (\d+) (\d+)\nrun\nout\n\| (.*)$"
-    for name, *numbers, line in re.findall(asked, (CRATES / "run_rows" / "stdout").read_text(), flags=re.M):
+    for name, *numbers, line in re.findall(asked, (CRATES / "rows_runs" / "stdout").read_text(), flags=re.M):
         seed, modules, scripts = map(int, numbers)
         with tempfile.TemporaryDirectory() as folder:
             for file, text in made_files(seed, modules, scripts):

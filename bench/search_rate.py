@@ -207,7 +207,7 @@ def main():
     with tempfile.TemporaryDirectory() as folder:
         folder = pathlib.Path(folder)
         proofs = {"proofs/find/Invariants.antt": INVARIANTS}
-        crate, _ = scratch.run(folder, "search_rate", PROGRAM, ["path_finder", "system_edge"], proofs)
+        crate, _ = scratch.run(folder, "search_rate", PROGRAM, ["path_finder", "tree_system"], proofs)
         program = crate / "out" / "search_rate"
         for entries, modules in ((64, 500), (1, 5000)):
             searched = folder / f"folder_{entries}"

@@ -10,8 +10,8 @@ use Rattle.std.specs.List.{list_all}
 use Rattle.std.specs.Option.{option_map, option_and_then}
 use Rattle.std.specs.Str.{is_utf8, IsUtf8}
 use Rattle.base_types.specs.Path.{Path, is_part, IsPath, joined}
-use Rattle.decimal_text.specs.Numbers.{number_in}
-use Rattle.decimal_text.proofs.Spelled.{own, number_takes, number_again}
+use Rattle.base_spelling.specs.Numbers.{number_in}
+use Rattle.base_spelling.proofs.Spelled.{own, number_takes, number_again}
 use Rattle.bundle_hook.specs.declared.entry.Entry.{Entry}
 use Rattle.bundle_hook.specs.Spelling.{most_size, line_of, is_plain, IsEntry}
 use Rattle.bundle_hook.specs.Reading.{cut_at, size_in, parts, named_in, path_in, entry_with, entry_in}

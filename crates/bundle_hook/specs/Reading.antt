@@ -5,7 +5,7 @@ use Rattle.std.specs.Option.{option_map, option_and_then}
 use Rattle.std.specs.Ordering.{is_lt}
 use Rattle.std.specs.Str.{is_utf8, bytes_eq}
 use Rattle.base_types.specs.Path.{Path, path_cmp, is_part}
-use Rattle.decimal_text.specs.Numbers.{number_in}
+use Rattle.base_spelling.specs.Numbers.{number_in}
 use Rattle.tree_files.specs.Edits.{is_within}
 use Rattle.bundle_hook.specs.declared.entry.Entry.{Entry}
 use Rattle.bundle_hook.specs.Spelling.{most_files, most_size, first_line, last_line, is_plain}

@@ -5,8 +5,8 @@ ghost use Rattle.bundle_hook.specs.Spelling as spelling;
 ghost use Rattle.bundle_hook.specs.Reading as reading;
 
 use crate::entry::Entry;
+use base_spelling::read_number;
 use base_types::{NoMemory, Text, TreePath};
-use decimal_text::read_number;
 use std::alloc::Global;
 use std::str;
 

@@ -1,9 +1,9 @@
 -- One turn of an import.
 use Rattle.std.proofs.Common.{◌≡◌, ℕ, zero, suc, ◌-◌, ◌<◌, List, Bool, false, ap, arith}
 use Rattle.machine_events.specs.declared.event.Event.TheVariants as e
-use Rattle.py_state.specs.declared.thread.State.{State}
-use Rattle.py_meaning.specs.Pieces.{Onward, calls}
-use Rattle.py_meaning.specs.Imports.{Inside, asks, asked, misses}
+use Rattle.meaning_state.specs.declared.thread.State.{State}
+use Rattle.meaning_script.specs.Pieces.{Onward, calls}
+use Rattle.meaning_script.specs.Imports.{Inside, asks, asked, misses}
 
 pub asks_more : (inside : Inside) (turns : ℕ) (is_parent : Bool) (n : List ℕ) (s : State) (k : Onward) → 0 < turns
     → asks inside turns is_parent n s k ≡ calls (e.Ask n) (λ reply. asked (asks inside (turns - 1) false n) (misses inside (asks inside (turns - 1) false n) n) is_parent n reply s k)

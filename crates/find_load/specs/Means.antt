@@ -1,15 +1,15 @@
 -- What an import does from each stage on.
 use Rattle.std.specs.Prelude.{◌≡◌, ℕ, List, [], Some, None, Bool, false}
 use Rattle.machine_events.specs.declared.event.Event.TheVariants as e
-use Rattle.run_rules.specs.Runs.{Pays, Looks, Makes, StampOf}
+use Rattle.meaning_runs.specs.Runs.{Pays, Looks, Makes, StampOf}
 use Rattle.path_finder.specs.Steps.{searches}
-use Rattle.search_meaning.specs.Searches.{searches_in}
-use Rattle.py_faults.specs.declared.fault.Fault.TheVariants as fault
-use Rattle.py_state.specs.declared.flow.Flow.TheVariants.{Went, Left}
-use Rattle.py_state.specs.declared.thread.State.{State}
-use Rattle.py_meaning.specs.Pieces.{Piece, Onward, calls, fails}
-use Rattle.py_meaning.specs.Paths.{paths}
-use Rattle.py_meaning.specs.Imports.{Inside, roused, added_lazy, asks, asked, misses, takes, taken, has_lock, finds, on_search_path, on_entry, on_parent_path, discovers, opens, has_text, added, namespace_added, namespace_made, gives_back, finishes, finished}
+use Rattle.meaning_search.specs.Searches.{searches_in}
+use Rattle.meaning_state.specs.declared.fault.Fault.TheVariants as fault
+use Rattle.meaning_state.specs.declared.flow.Flow.TheVariants.{Went, Left}
+use Rattle.meaning_state.specs.declared.thread.State.{State}
+use Rattle.meaning_script.specs.Pieces.{Piece, Onward, calls, fails}
+use Rattle.meaning_script.specs.Paths.{paths}
+use Rattle.meaning_script.specs.Imports.{Inside, roused, added_lazy, asks, asked, misses, takes, taken, has_lock, finds, on_search_path, on_entry, on_parent_path, discovers, opens, has_text, added, namespace_added, namespace_made, gives_back, finishes, finished}
 use Rattle.find_load.specs.declared.words.In.{In}
 use Rattle.find_load.specs.declared.words.In.TheVariants as given
 use Rattle.find_load.specs.declared.words.Want.{Want}

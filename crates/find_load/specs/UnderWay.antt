@@ -2,8 +2,8 @@
 use Rattle.std.specs.Prelude.{ℕ, List, false}
 use Rattle.py_value.specs.declared.value.NsState.{NsState}
 use Rattle.py_value.specs.declared.value.Value.{Value}
-use Rattle.py_meaning.specs.Pieces.{Piece}
-use Rattle.py_meaning.specs.Imports.{Inside, asks, finds}
+use Rattle.meaning_script.specs.Pieces.{Piece}
+use Rattle.meaning_script.specs.Imports.{Inside, asks, finds}
 use Rattle.find_load.specs.Means.{does, lazily}
 use Rattle.find_load.specs.declared.words.In.{In}
 use Rattle.find_load.specs.declared.import.Stage.{Stage}

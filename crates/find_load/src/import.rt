@@ -1,11 +1,10 @@
 //! The import of one name (`importlib._bootstrap._find_and_load`).
 ghost use Rattle.std.specs.Prelude.{◌≡◌};
-ghost use Rattle.py_meaning.specs.Pieces as pieces;
+ghost use Rattle.meaning_script.specs.Pieces as pieces;
 ghost use Rattle.find_load.specs.declared.import.Stage.TheVariants as stages;
 
 use base_types::{Seq, Texts};
-use py_faults::Fault;
-use py_state::Flow;
+use meaning_state::{Fault, Flow};
 use py_value::Items;
 use spec_core::{Dotted, Spec};
 

@@ -1,6 +1,6 @@
 //! What was found is made a module, and its body runs.
 ghost use Rattle.std.specs.Prelude.{IfOk};
-ghost use Rattle.py_meaning.specs.Imports.{adds, adds_lazy, adds_namespace, has_text, loads, makes, namespace_made, reads_file};
+ghost use Rattle.meaning_script.specs.Imports.{adds, adds_lazy, adds_namespace, has_text, loads, makes, namespace_made, reads_file};
 ghost use Rattle.machine_events.specs.declared.event.Reply.TheVariants as replies;
 ghost use Rattle.find_load.specs.Means.{Goes};
 ghost use Rattle.find_load.specs.UnderWay.{again, does_at, namespace_stage, within};
@@ -17,9 +17,8 @@ use crate::waits::wait_for;
 use crate::words::Want;
 use base_types::{Exact, NoMemory, Seq, Texts, TreePath};
 use machine_events::{Event, Reply};
+use meaning_state::{Fault, Flow};
 use path_finder::Found;
-use py_faults::Fault;
-use py_state::Flow;
 use py_value::{Items, NsState};
 use spec_core::{Spec, SpecKind};
 

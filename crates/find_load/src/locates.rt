@@ -1,8 +1,8 @@
 //! The path on which a name is searched.
 ghost use Rattle.std.specs.Prelude.{IfOk};
 ghost use Rattle.machine_events.specs.declared.module.Slot.TheVariants as slots;
-ghost use Rattle.py_state.specs.declared.flow.Flow.TheVariants as flows;
-ghost use Rattle.py_meaning.specs.Imports.{has_lock, on_parent, reads_path};
+ghost use Rattle.meaning_state.specs.declared.flow.Flow.TheVariants as flows;
+ghost use Rattle.meaning_script.specs.Imports.{has_lock, on_parent, reads_path};
 ghost use Rattle.find_load.specs.Means.{Goes};
 ghost use Rattle.find_load.specs.UnderWay.{again, does_at, found_on, within};
 ghost use Rattle.find_load.specs.declared.import.Stage.TheVariants as stages;
@@ -16,7 +16,7 @@ use crate::waits::wait_for;
 use crate::words::Want;
 use base_types::{Exact, NoMemory};
 use machine_events::{Event, Reply, Slot};
-use py_state::Flow;
+use meaning_state::Flow;
 use py_value::{Items, ModRef, Value};
 use spec_core::Dotted;
 

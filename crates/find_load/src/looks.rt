@@ -1,8 +1,8 @@
 //! The looks into the cache, with the parent's import between them.
 ghost use Rattle.std.specs.Prelude.{◌<◌, IfOk};
 ghost use Rattle.machine_events.specs.declared.event.Event.TheVariants as ev;
-ghost use Rattle.run_rules.specs.Runs.{Makes};
-ghost use Rattle.py_meaning.specs.Imports.{answers, asks, halts, met, misses, takes};
+ghost use Rattle.meaning_runs.specs.Runs.{Makes};
+ghost use Rattle.meaning_script.specs.Imports.{answers, asks, halts, met, misses, takes};
 ghost use Rattle.find_load.specs.Means.{Goes};
 ghost use Rattle.find_load.specs.UnderWay.{again, does_at, within};
 ghost use Rattle.find_load.specs.declared.import.Stage.TheVariants as stages;
@@ -15,7 +15,7 @@ use crate::waits::wait_for;
 use crate::words::Want;
 use base_types::{Exact, NoMemory};
 use machine_events::{Event, Reply};
-use py_state::Flow;
+use meaning_state::Flow;
 use py_value::{ModRef, Value};
 
 /// No turn is left: more is to be paid than any budget has.

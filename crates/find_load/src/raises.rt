@@ -1,11 +1,11 @@
 //! How an import ends by an error, with what it holds given back.
 ghost use Rattle.std.specs.Prelude.{◌≡◌, IfOk};
-ghost use Rattle.py_state.specs.declared.flow.Flow.TheVariants as flows;
-ghost use Rattle.py_faults.specs.declared.fault.Fault.TheVariants as faults;
+ghost use Rattle.meaning_state.specs.declared.flow.Flow.TheVariants as flows;
+ghost use Rattle.meaning_state.specs.declared.fault.Fault.TheVariants as faults;
 ghost use Rattle.spec_core.specs.Names.{parent_of};
-ghost use Rattle.py_meaning.specs.Pieces.{fails};
-ghost use Rattle.py_meaning.specs.Imports as spec;
-ghost use Rattle.py_meaning.specs.Imports.{gives_back, gives_back_and};
+ghost use Rattle.meaning_script.specs.Pieces.{fails};
+ghost use Rattle.meaning_script.specs.Imports as spec;
+ghost use Rattle.meaning_script.specs.Imports.{gives_back, gives_back_and};
 ghost use Rattle.find_load.specs.Means.{Goes};
 
 use crate::import::{Importer, Stage};
@@ -13,8 +13,7 @@ use crate::waits::wait_for;
 use crate::words::{In, Want};
 use base_types::{Exact, NoMemory};
 use machine_events::{Event, Reply};
-use py_faults::{Fault, raised};
-use py_state::{Flow, Leave};
+use meaning_state::{Fault, Flow, Leave, raised};
 use spec_core::Dotted;
 
 /// An error is raised.

@@ -12,8 +12,7 @@ use crate::looks::{ask, asked, take, taken};
 use crate::raises::{fail, misfit};
 use crate::words::{In, Want};
 use base_types::{NoMemory, Seq};
-use py_faults::Fault;
-use py_state::Flow;
+use meaning_state::{Fault, Flow};
 use py_value::{Items, NsState};
 use spec_core::{Dotted, Spec};
 

@@ -1,8 +1,8 @@
 //! What a procedure is fed, and what it wants.
 use base_types::{Seq, Text, TreePath};
 use machine_events::{Event, Reply};
+use meaning_state::Flow;
 use path_finder::Found;
-use py_state::Flow;
 use py_value::{Items, ModRef};
 use spec_core::Dotted;
 

@@ -7,9 +7,9 @@ use Rattle.machine_events.specs.declared.event.Event.{Event}
 use Rattle.machine_events.specs.declared.event.Event.TheVariants as events
 use Rattle.machine_events.specs.declared.event.Reply.TheVariants as replies
 use Rattle.module_lock.specs.Table.{got}
-use Rattle.machine_state.specs.declared.state.State.{State}
-use Rattle.machine_state.specs.Step.{step}
-use Rattle.machine_state.specs.Allowed.{allowed, has_text, has_name, is_reloading}
+use Rattle.machine_spec.specs.declared.state.State.{State}
+use Rattle.machine_spec.specs.Step.{step}
+use Rattle.machine_spec.specs.Allowed.{allowed, has_text, has_name, is_reloading}
 use Rattle.machine_laws.specs.Sound.{IsSound}
 use Rattle.machine_laws.proofs.Leave.{fitting}
 use Rattle.machine_laws.proofs.Moves.{ns_same, main_same}

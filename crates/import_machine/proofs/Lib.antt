@@ -1,3 +1,6 @@
+pub mod Rounds
+pub mod Spare
+pub mod Openings
 pub mod Tally
 pub mod Told
 pub mod Moving

@@ -25,15 +25,15 @@ use Rattle.module_table.specs.declared.module.LoadStage.{LoadStage}
 use Rattle.module_table.specs.declared.module.LoadStage.TheVariants as stages
 use Rattle.module_table.specs.declared.module.Phase.{Phase}
 use Rattle.module_table.specs.declared.module.Phase.TheVariants as phases
-use Rattle.machine_state.specs.declared.state.State.{State}
-use Rattle.machine_state.specs.Parts.{is_initialising, is_built_in, is_open, is_imported}
-use Rattle.machine_state.specs.Gives.{name_of}
-use Rattle.machine_state.specs.Waits.{wait_on, ask_object, ask_none, ask_slot}
-use Rattle.machine_state.specs.Bodies.{add, finish_entry, closed, finish_object, finish_load}
-use Rattle.machine_state.specs.Variables.{sleeping}
-use Rattle.machine_state.specs.Reloads.{is_entry, enter, reload_begin_on, reload_start, reload_take, reload_leave, reload_end_on}
-use Rattle.machine_state.specs.Lazies.{add_lazy, open_lazy, rouse_lazy, rouse_phase, rouse_on}
-use Rattle.machine_state.specs.Allowed.{has_name, can_finish, is_reload, is_number, reloads_object}
+use Rattle.machine_spec.specs.declared.state.State.{State}
+use Rattle.machine_spec.specs.Parts.{is_initialising, is_built_in, is_open, is_imported}
+use Rattle.machine_spec.specs.Gives.{name_of}
+use Rattle.machine_spec.specs.Waits.{wait_on, ask_object, ask_none, ask_slot}
+use Rattle.machine_spec.specs.Bodies.{add, finish_entry, closed, finish_object, finish_load}
+use Rattle.machine_spec.specs.Variables.{sleeping}
+use Rattle.machine_spec.specs.Reloads.{is_entry, enter, reload_begin_on, reload_start, reload_take, reload_leave, reload_end_on}
+use Rattle.machine_spec.specs.Lazies.{add_lazy, open_lazy, rouse_lazy, rouse_phase, rouse_on}
+use Rattle.machine_spec.specs.Allowed.{has_name, can_finish, is_reload, is_number, reloads_object}
 use Rattle.machine_laws.specs.Bones.{Module, Body, bones, module_bone, body_bone}
 use Rattle.machine_laws.specs.Sound.{IsSound, FitsPhase, HasBody, phase_of}
 use Rattle.machine_laws.proofs.Same.{either, changed_map, kept_map, map_at}

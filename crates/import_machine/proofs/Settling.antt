@@ -8,14 +8,14 @@ use Rattle.std.proofs.lemmas.Bool.{false≢true, leb-true}
 use Rattle.std.proofs.lemmas.Slice.Eq.{bytes_eq-Decides}
 use Rattle.machine_events.specs.declared.event.Event.{Event}
 use Rattle.machine_events.specs.declared.event.Reply.{Reply}
-use Rattle.machine_state.specs.declared.state.State.{State}
-use Rattle.machine_state.specs.Step.{step}
-use Rattle.machine_state.specs.Allowed.{allowed}
+use Rattle.machine_spec.specs.declared.state.State.{State}
+use Rattle.machine_spec.specs.Step.{step}
+use Rattle.machine_spec.specs.Allowed.{allowed}
 use Rattle.machine_laws.specs.Bones.{bones}
 use Rattle.machine_laws.specs.Sound.{IsSound}
 use Rattle.machine_laws.proofs.Counts.{bit}
 use Rattle.machine_laws.proofs.Holds.{same_text, same_name, same_self}
-use Rattle.machine_allowed.specs.Counts.{count_at, count_of}
+use Rattle.import_machine.specs.SpareCounts.{count_at, count_of}
 use Rattle.import_machine.specs.Counts.{total, AreCounted, begins, ends, has_begun, raised, lowered, raised_at, lowered_at, settled}
 use Rattle.import_machine.proofs.Tally.{bit_of}
 use Rattle.import_machine.proofs.Events.{moves}

@@ -7,7 +7,7 @@ use Rattle.module_table.specs.declared.module.LoadKind.{LoadKind}
 use Rattle.module_table.specs.declared.module.LoadStage.{LoadStage}
 use Rattle.module_table.specs.declared.module.LoadStage.TheVariants as stages
 use Rattle.module_table.specs.declared.module.Phase.{Phase}
-use Rattle.machine_state.specs.Parts.{is_open, is_main}
+use Rattle.machine_spec.specs.Parts.{is_open, is_main}
 use Rattle.machine_laws.specs.Bones.{Bones, Module, Body, is_named}
 use Rattle.machine_laws.specs.Sound.{AreSound}
 use Rattle.machine_laws.proofs.Lists.{pushed_last, pushed_keeps, changed_is}

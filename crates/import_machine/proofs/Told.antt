@@ -12,16 +12,16 @@ use Rattle.std.proofs.lemmas.Slice.Eq.{bytes_eq-Decides}
 use Rattle.module_lock.specs.declared.locks.Lock.{Lock}
 use Rattle.module_lock.specs.Table.{lock_of, owner_of, holds}
 use Rattle.module_table.specs.declared.module.Load.{Load}
-use Rattle.machine_state.specs.declared.state.State.{State}
-use Rattle.machine_state.specs.Parts.{is_open, is_main}
-use Rattle.machine_state.specs.Allowed.{is_open_of}
+use Rattle.machine_spec.specs.declared.state.State.{State}
+use Rattle.machine_spec.specs.Parts.{is_open, is_main}
+use Rattle.machine_spec.specs.Allowed.{is_open_of}
 use Rattle.machine_laws.specs.Bones.{Bones, Module, Body, bones, body_bone, counts_in, opens, is_named, held_by, held}
 use Rattle.machine_laws.specs.Sound.{AreSound, IsSound}
 use Rattle.machine_laws.proofs.Same.{map_at}
 use Rattle.machine_laws.proofs.Counts.{bit, same_sum, counts_there, some_open}
 use Rattle.machine_laws.proofs.Leave.{opens_of}
 use Rattle.machine_laws.proofs.Owning.{owner_holds}
-use Rattle.machine_allowed.specs.Counts.{count_at, AreTold}
+use Rattle.import_machine.specs.SpareCounts.{count_at, AreTold}
 use Rattle.import_machine.specs.Counts.{counts_on, total, AreCounted}
 
 held_owner : (t : ℕ) (o : Option Lock) → 0 < held_by t o → option_map (λ (lock : Lock). lock.owner) o ≡ Some t

@@ -7,11 +7,11 @@ use Rattle.machine_events.specs.declared.event.Event.{Event}
 use Rattle.machine_events.specs.declared.event.Event.TheVariants as events
 use Rattle.machine_events.specs.declared.event.Reply.{Reply}
 use Rattle.machine_events.specs.declared.event.Reply.TheVariants as replies
-use Rattle.machine_state.specs.declared.state.State.{State}
-use Rattle.machine_state.specs.Parts.{is_open, is_main}
-use Rattle.machine_state.specs.Gives.{gives, name_of}
+use Rattle.machine_spec.specs.declared.state.State.{State}
+use Rattle.machine_spec.specs.Parts.{is_open, is_main}
+use Rattle.machine_spec.specs.Gives.{gives, name_of}
 use Rattle.machine_laws.specs.Bones.{Bones, Module, Body, bones, is_named}
-use Rattle.machine_allowed.specs.Counts.{count_of}
+use Rattle.import_machine.specs.SpareCounts.{count_of}
 
 -- an open load, Main aside, of a module of this name
 abbrev pub counts_on : List Module → List ℕ → Body → Bool

@@ -1,15 +1,15 @@
 //! A step that keeps the counts.
 ghost use Rattle.std.specs.Prelude.{◌≡◌, Err, IfOk, OnOk, OnErr, IsTrue};
-ghost use Rattle.machine_state.specs.Step.{step};
-ghost use Rattle.machine_state.specs.Allowed.{allowed};
+ghost use Rattle.machine_spec.specs.Step.{step};
+ghost use Rattle.machine_spec.specs.Allowed.{allowed};
 ghost use Rattle.machine_laws.specs.Sound.{IsSound};
 ghost use Rattle.import_machine.specs.Counts.{AreCounted, ends, begins};
 
 use crate::counts::{begins, ends, lower_at, raise_at, settle};
 use base_types::NoMemory;
 use machine_events::{Event, Reply};
-use machine_state::State;
-use machine_steps::step;
+use machine_spec::State;
+use machine_step::step;
 use spec_core::{Dotted, NameMap};
 
 // Lets an event go that is not made. It stands apart, since a function pays at its entry for all that it may let go.

@@ -2,14 +2,14 @@
 ghost use Rattle.std.specs.Prelude.{◌≡◌, ◌+◌, IfOk, OnOk, OnErr};
 ghost use Rattle.std.specs.FinMap as map;
 ghost use Rattle.std.specs.Option.{option_copied};
-ghost use Rattle.machine_allowed.specs.Counts.{count_of};
-ghost use Rattle.machine_state.specs.Gives.{name_of};
+ghost use Rattle.import_machine.specs.SpareCounts.{count_of};
+ghost use Rattle.machine_spec.specs.Gives.{name_of};
 ghost use Rattle.import_machine.specs.Counts.{is_end, ends, begins, has_begun, raised, lowered, raised_at, lowered_at, settled};
 
 use base_types::NoMemory;
 use machine_events::{Event, Reply};
-use machine_state::State;
-use machine_steps::gives;
+use machine_spec::State;
+use machine_step::gives;
 use spec_core::{Dotted, NameMap};
 
 fn count(counts: &NameMap<u64>, name: &Dotted) -> u64

@@ -3,20 +3,19 @@ ghost use Rattle.std.specs.Prelude.{◌≡◌, ◌≤◌, ℕ, length, IfOk, OnO
 ghost use Rattle.std.specs.Option.{option_copied};
 ghost use Rattle.std.specs.List.{sum};
 ghost use Rattle.machine_events.specs.Fitting.{Fits};
-ghost use Rattle.machine_state.specs.Step.{step};
-ghost use Rattle.machine_state.specs.Allowed.{allowed, scripts};
-ghost use Rattle.machine_state.specs.Gives.{gives};
-ghost use Rattle.machine_state.specs.Opening.{opening};
+ghost use Rattle.machine_spec.specs.Step.{step};
+ghost use Rattle.machine_spec.specs.Allowed.{allowed, scripts};
+ghost use Rattle.machine_spec.specs.Gives.{gives};
+ghost use Rattle.machine_spec.specs.Opening.{opening};
 ghost use Rattle.machine_laws.specs.Begun.{HaveScripts};
 ghost use Rattle.machine_laws.specs.Sound.{IsSound};
 
 use crate::counted::step_counted;
+use crate::{allowed, open, scripts};
 use base_types::{NoMemory, Seq, Texts};
-use machine_allowed::{allowed, scripts};
 use machine_events::{Event, Reply};
-use machine_opening::open;
-use machine_state::State;
-use machine_steps::{gives, reply};
+use machine_spec::State;
+use machine_step::{gives, reply};
 use spec_core::{Dotted, NameMap};
 use std::marker::Model;
 
@@ -31,8 +30,8 @@ pub struct Machine {
 }
 
 impl Model for Machine {
-    ghost use Rattle.machine_state.specs.declared.state.State.{State as S};
-    ghost use Rattle.machine_state.specs.contracts.state.State.{the_row};
+    ghost use Rattle.machine_spec.specs.declared.state.State.{State as S};
+    ghost use Rattle.machine_spec.specs.contracts.state.State.{the_row};
     ghost use Rattle.machine_laws.specs.Sound.{IsSound};
     ghost use Rattle.import_machine.specs.Counts.{AreCounted};
 

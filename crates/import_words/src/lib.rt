@@ -11,4 +11,4 @@ mod run;
 pub use command::usage_line;
 pub use plan::{Plan, RunPlan, WordsError};
 pub use read::read_words;
-pub use rounds_text::{Round, Rounds, RoundsError, read_rounds};
+pub use words_rounds::{Round, Rounds, RoundsError, read_rounds};

@@ -7,12 +7,12 @@ use Rattle.std.proofs.lemmas.List.Folds.{list_all-append}
 use Rattle.machine_events.specs.declared.event.Event.{Event}
 use Rattle.machine_events.specs.declared.event.Reply.{Reply}
 use Rattle.machine_events.specs.declared.event.Entry.{Entry}
-use Rattle.machine_state.specs.declared.state.State.{State}
-use Rattle.machine_state.specs.Step.{step}
-use Rattle.machine_state.specs.Legal.{Allowed, replay, IsLegal}
+use Rattle.machine_spec.specs.declared.state.State.{State}
+use Rattle.machine_spec.specs.Step.{step}
+use Rattle.machine_spec.specs.Legal.{Allowed, replay, IsLegal}
 use Rattle.machine_laws.specs.Begun.{Begun, first}
-use Rattle.thread_knowledge.specs.Knowing.{Knows, Waits}
-use Rattle.thread_knowledge.specs.Own.{own, Ready, IsLone}
+use Rattle.machine_shown.specs.Knowing.{Knows, Waits}
+use Rattle.machine_shown.specs.Own.{own, Ready, IsLone}
 use Rattle.machine_desk.specs.Histories.{OnlyOf, is_only_of}
 
 pub replay_snoc : (s : State) (h : List Entry) (e : Entry) → replay s (h ++ e ∷ []) ≡ (step (replay s h) e.thread e.event).1

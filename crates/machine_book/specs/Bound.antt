@@ -2,8 +2,8 @@
 use Rattle.std.specs.Prelude.{◌≡◌, ◌≤◌, List, length}
 use Rattle.std.specs.List.{sum}
 use Rattle.machine_events.specs.declared.event.Entry.{Entry}
-use Rattle.machine_state.specs.declared.state.State.{State}
-use Rattle.machine_state.specs.Opening.{opening}
+use Rattle.machine_spec.specs.declared.state.State.{State}
+use Rattle.machine_spec.specs.Opening.{opening}
 use Rattle.machine_laws.specs.Begun.{HaveScripts}
 use Rattle.machine_book.specs.declared.opening.Opening.{Opening}
 

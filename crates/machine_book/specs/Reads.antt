@@ -1,8 +1,8 @@
 -- Events that only read.
 use Rattle.std.specs.Prelude.{ℕ, ◌≡◌}
 use Rattle.machine_events.specs.declared.event.Event.{Event}
-use Rattle.machine_state.specs.declared.state.State.{State}
-use Rattle.machine_state.specs.Step.{step}
+use Rattle.machine_spec.specs.declared.state.State.{State}
+use Rattle.machine_spec.specs.Step.{step}
 
 -- it leaves every state as it is, whichever thread makes it
 abbrev pub OnlyReads : Event → Type 0

@@ -1,8 +1,8 @@
 //! What is written down of an event.
 ghost use Rattle.std.specs.Prelude.{◌≡◌, IfOk, OnOk, OnErr, IsTrue};
 ghost use Rattle.machine_events.specs.Fitting.{Fits};
-ghost use Rattle.machine_state.specs.Allowed.{allowed};
-ghost use Rattle.machine_state.specs.Step.{step};
+ghost use Rattle.machine_spec.specs.Allowed.{allowed};
+ghost use Rattle.machine_spec.specs.Step.{step};
 ghost use Rattle.machine_book.specs.Reads.{OnlyReads};
 
 use base_types::{Exact, NoMemory};

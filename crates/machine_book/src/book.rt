@@ -1,7 +1,7 @@
 //! A machine with the history of its events.
 ghost use Rattle.std.specs.Prelude.{◌≡◌, ◌++◌, ◌∷◌, [], length, OnErr, IfOk};
 ghost use Rattle.machine_events.specs.Fitting.{Fits};
-ghost use Rattle.machine_state.specs.Legal.{Allowed, IsLegal, replay};
+ghost use Rattle.machine_spec.specs.Legal.{Allowed, IsLegal, replay};
 ghost use Rattle.machine_laws.specs.Begun.{Begun, first};
 ghost use Rattle.machine_book.specs.Bound.{opened, CanOpen};
 ghost use Rattle.machine_desk.specs.Outgo.{Kept};
@@ -26,10 +26,10 @@ pub struct Book<O: Outlet> {
 
 impl<O: Outlet> Model for Book<O> {
     ghost use Rattle.std.specs.Prelude.{◌≡◌};
-    ghost use Rattle.machine_state.specs.Legal.{IsLegal, replay};
+    ghost use Rattle.machine_spec.specs.Legal.{IsLegal, replay};
     ghost use Rattle.machine_book.specs.Bound.{BoundTo, opened, CanOpen};
     ghost use Rattle.std.specs.Coded.{codes};
-    ghost use Rattle.machine_state.specs.contracts.state.State as state;
+    ghost use Rattle.machine_spec.specs.contracts.state.State as state;
     ghost use Rattle.machine_events.specs.contracts.event.Entry as entry;
 
     ghost Value = { BoundTo O };

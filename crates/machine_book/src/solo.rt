@@ -1,13 +1,13 @@
 //! The desk of a script that is alone in its round.
 ghost use Rattle.std.specs.Prelude.{◌≡◌, ◌≤◌, ℕ, [], Some, IsTrue, length, drop};
 ghost use Rattle.std.specs.Borrow.{GName, ftrue};
-ghost use Rattle.thread_knowledge.specs.Own.{own, Ready, IsLone};
+ghost use Rattle.machine_shown.specs.Own.{own, Ready, IsLone};
 ghost use Rattle.machine_desk.specs.Histories.{is_only_of};
 
 use crate::book::Book;
+use machine_allows::{knows_is_allowed, lone_never_waits};
 use machine_desk::{Desk, Halt, Outlet};
 use machine_events::{Event, Reply};
-use machine_knowledge::{knows_is_allowed, lone_never_waits};
 use std::marker::Model;
 
 /// Which borrow of a book a lone desk works on, and the number of entries when the desk was made. It
@@ -35,7 +35,7 @@ pub struct SoloDesk<'a, O: Outlet> {
 
 impl<'a, O: Outlet> SoloDesk<'a, O> {
     ghost use Rattle.std.specs.Prelude.{◌≡◌, [], Some, length, drop};
-    ghost use Rattle.thread_knowledge.specs.Own.{own, Ready, IsLone};
+    ghost use Rattle.machine_shown.specs.Own.{own, Ready, IsLone};
     ghost use Rattle.machine_desk.specs.Histories.{OnlyOf};
 
     /// The desk of a script that has made no event and has no other in its round, once every script

@@ -6,8 +6,8 @@ use Rattle.tree_files.specs.Count.{Rose}
 use Rattle.machine_events.specs.declared.event.Entry.{Entry}
 use Rattle.machine_desk.specs.declared.outlet.Flow.{Flow}
 use Rattle.machine_desk.specs.declared.outlet.Flow.TheVariants.{Open, Failed, Short}
-use Rattle.machine_state.specs.declared.state.State.{State}
-use Rattle.thread_knowledge.specs.Own.{HasEnded, Ready}
+use Rattle.machine_spec.specs.declared.state.State.{State}
+use Rattle.machine_shown.specs.Own.{HasEnded, Ready}
 use Rattle.machine_desk.specs.Sight.{Sight, Telling, KeepsUp, IsReady, Continues}
 use Rattle.machine_desk.specs.Outgo.{Outgo, Pieces, Kept, text_of, Appends, AppendsPart, Flows, Rests, FlowsFrom}
 

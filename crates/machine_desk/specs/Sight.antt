@@ -4,9 +4,9 @@ use Rattle.machine_events.specs.declared.event.Event.{Event}
 use Rattle.machine_events.specs.declared.event.Reply.{Reply}
 use Rattle.machine_events.specs.declared.event.Entry.{Entry}
 use Rattle.machine_events.specs.Fitting.{Fits}
-use Rattle.machine_state.specs.declared.state.State.{State}
-use Rattle.machine_state.specs.Legal.{IsLegal}
-use Rattle.thread_knowledge.specs.Own.{Ready}
+use Rattle.machine_spec.specs.declared.state.State.{State}
+use Rattle.machine_spec.specs.Legal.{IsLegal}
+use Rattle.machine_shown.specs.Own.{Ready}
 use Rattle.machine_desk.specs.Histories.{Begins, EndsWith}
 use Rattle.machine_desk.specs.Outgo.{Outgo, Pieces, Kept}
 

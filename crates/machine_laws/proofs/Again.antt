@@ -11,7 +11,7 @@ use Rattle.module_lock.specs.Table.{owner_of}
 use Rattle.module_table.specs.declared.module.LoadKind.TheVariants as load_kinds
 use Rattle.module_table.specs.declared.module.LoadStage.TheVariants as stages
 use Rattle.module_table.specs.declared.module.Reload.{Reload}
-use Rattle.machine_state.specs.Parts.{is_open, is_main, is_imported}
+use Rattle.machine_spec.specs.Parts.{is_open, is_main, is_imported}
 use Rattle.machine_laws.specs.Bones.{Bones, Module, Body, counts_in, opens, held}
 use Rattle.machine_laws.specs.Sound.{AreSound, FitsModule, FitsLoad, FitsReload}
 use Rattle.machine_laws.proofs.Lists.{pushed_last, pushed_keeps, pushed_at, set_elsewhere, set_at}

@@ -9,9 +9,9 @@ use Rattle.machine_events.specs.declared.event.Reply.TheVariants as replies
 use Rattle.module_lock.specs.Cycles.{Closes}
 use Rattle.module_table.specs.declared.module.Object.{Object}
 use Rattle.machine_events.specs.Fitting.{Fits}
-use Rattle.machine_state.specs.Step.{step}
-use Rattle.machine_state.specs.Parts.{is_initialising}
-use Rattle.machine_state.specs.Legal.{Allowed, IsLegal, replay}
+use Rattle.machine_spec.specs.Step.{step}
+use Rattle.machine_spec.specs.Parts.{is_initialising}
+use Rattle.machine_spec.specs.Legal.{Allowed, IsLegal, replay}
 use Rattle.machine_laws.specs.Sound.{IsSound}
 use Rattle.machine_laws.specs.Answered.{IsOwn, IsInFirstRound, SomeoneGoesOn, GoOn, HasOneLoad}
 use Rattle.machine_laws.specs.Begun.{Begun, first}

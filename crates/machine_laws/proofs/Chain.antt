@@ -9,8 +9,8 @@ use Rattle.std.proofs.lemmas.Bool.Decides.{nat_tests}
 use Rattle.module_lock.specs.Table.{Table, owner_of, next, woken}
 use Rattle.module_lock.specs.Cycles.{Walk, WaitsFor, IsAcyclic}
 use Rattle.module_lock.proofs.Kept.{acyclic-woken}
-use Rattle.machine_state.specs.declared.state.State.{State}
-use Rattle.machine_state.specs.Opening.{round_starts}
+use Rattle.machine_spec.specs.declared.state.State.{State}
+use Rattle.machine_spec.specs.Opening.{round_starts}
 use Rattle.machine_laws.specs.Bones.{Bones, bones}
 use Rattle.machine_laws.specs.Sound.{IsSound, IsRunning}
 use Rattle.machine_laws.specs.Answered.{IsInFirstRound, SomeoneGoesOn}

@@ -9,7 +9,7 @@ use Rattle.module_table.specs.declared.module.LoadStage.{LoadStage}
 use Rattle.module_table.specs.declared.module.Phase.{Phase}
 use Rattle.module_table.specs.declared.module.Phase.TheVariants as phases
 use Rattle.module_table.specs.declared.module.Reload.{Reload}
-use Rattle.machine_state.specs.Parts.{is_imported}
+use Rattle.machine_spec.specs.Parts.{is_imported}
 use Rattle.machine_laws.specs.Bones.{Bones, Module, Body, is_named, counts_in, opens, held}
 use Rattle.machine_laws.specs.Sound.{AreSound, FitsModule, FitsKind, FitsPhase, FitsLoad, HasBody, IsMadeBy, phase_of}
 use Rattle.machine_laws.proofs.Lists.{pushed_last, pushed_keeps, pushed_at}

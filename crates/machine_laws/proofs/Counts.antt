@@ -5,7 +5,7 @@ use Rattle.std.specs.Cmp.Lexicographic.{pointwise, nat_list_eq_equiv}
 use Rattle.std.proofs.lemmas.Bool.{and_parts, and_from, eqb-true, eq-eqb}
 use Rattle.std.proofs.lemmas.List.Sums.{sum_by-cons, sum_by-append}
 use Rattle.std.proofs.lemmas.Slice.Eq.{bytes_eq-Decides}
-use Rattle.machine_state.specs.Parts.{is_open, is_main}
+use Rattle.machine_spec.specs.Parts.{is_open, is_main}
 use Rattle.machine_laws.specs.Bones.{Bones, Module, Body, is_named, counts_in, opens}
 
 abbrev pub bit : Bool → ℕ

@@ -17,11 +17,11 @@ use Rattle.module_table.specs.declared.module.Object.{Object}
 use Rattle.module_table.specs.declared.module.Load.{Load}
 use Rattle.module_table.specs.declared.module.Phase.{Phase}
 use Rattle.module_table.specs.declared.module.Phase.TheVariants as phases
-use Rattle.machine_state.specs.declared.state.State.{State}
-use Rattle.machine_state.specs.Parts.{is_initialising}
-use Rattle.machine_state.specs.Waits.{wait_reply, wait_on, ask_object, ask_none, ask_slot, ask, take_name}
-use Rattle.machine_state.specs.Reloads.{is_entry, reload_start, reload_take}
-use Rattle.machine_state.specs.Lazies.{open_lazy, rouse_lazy, rouse_phase, rouse_on, rouse}
+use Rattle.machine_spec.specs.declared.state.State.{State}
+use Rattle.machine_spec.specs.Parts.{is_initialising}
+use Rattle.machine_spec.specs.Waits.{wait_reply, wait_on, ask_object, ask_none, ask_slot, ask, take_name}
+use Rattle.machine_spec.specs.Reloads.{is_entry, reload_start, reload_take}
+use Rattle.machine_spec.specs.Lazies.{open_lazy, rouse_lazy, rouse_phase, rouse_on, rouse}
 
 -- a reply that says that waiting would close a cycle
 abbrev is_deadlock : Reply → Bool

@@ -17,10 +17,10 @@ use Rattle.module_table.specs.declared.module.LoadKind.TheVariants as load_kinds
 use Rattle.module_table.specs.declared.module.LoadStage.TheVariants as stages
 use Rattle.module_table.specs.declared.module.Phase.TheVariants as phases
 use Rattle.machine_events.specs.declared.event.Entry.{Entry}
-use Rattle.machine_state.specs.declared.state.State.{State}
-use Rattle.machine_state.specs.Parts.{is_open, is_main}
-use Rattle.machine_state.specs.Opening.{opening, round_starts, script_objects, script_object, script_loads, script_load, sys_module, importlib_module, pyimport_module}
-use Rattle.machine_state.specs.Legal.{replay, IsLegal}
+use Rattle.machine_spec.specs.declared.state.State.{State}
+use Rattle.machine_spec.specs.Parts.{is_open, is_main}
+use Rattle.machine_spec.specs.Opening.{opening, round_starts, script_objects, script_object, script_loads, script_load, sys_module, importlib_module, pyimport_module}
+use Rattle.machine_spec.specs.Legal.{replay, IsLegal}
 use Rattle.machine_laws.specs.Bones.{Module, Body, bones, module_bone, body_bone, counts_in, opens, is_named}
 use Rattle.machine_laws.specs.Sound.{IsSound, FitsPhase, FitsKind, Begins}
 use Rattle.machine_laws.proofs.Counts.{bit}

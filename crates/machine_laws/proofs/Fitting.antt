@@ -26,17 +26,17 @@ use Rattle.module_table.specs.declared.module.LoadKind.TheVariants as load_kinds
 use Rattle.module_table.specs.declared.module.Phase.{Phase}
 use Rattle.module_table.specs.declared.module.Phase.TheVariants as phases
 use Rattle.module_table.specs.declared.module.Reload.{Reload}
-use Rattle.machine_state.specs.declared.state.State.{State}
-use Rattle.machine_state.specs.Parts.{is_initialising, is_built_in}
-use Rattle.machine_state.specs.Waits.{wait_on, ask_object, ask_none, ask_slot}
-use Rattle.machine_state.specs.Bodies.{bind_under, bind_parent, good_entry, finish_entry, finish_object, finish_load, loaded_by, loaded_from}
-use Rattle.machine_state.specs.Variables.{sleeping, value_reply, get_reply, set_on, del_found, del_on, names_reply}
-use Rattle.machine_state.specs.Search.{listing_reply, ns_of, ns_reply}
-use Rattle.machine_state.specs.Cache.{is_fixed}
-use Rattle.machine_state.specs.Reloads.{is_entry, busy_of, enter, reload_begin_on, reload_take, kept_or_lost, reload_leave, reload_end_on}
-use Rattle.machine_state.specs.Lazies.{open_lazy, rouse_lazy, rouse_phase, rouse_on}
-use Rattle.machine_state.specs.Step.{step}
-use Rattle.machine_state.specs.Allowed.{allowed, can_finish, has_ns, reloads_object}
+use Rattle.machine_spec.specs.declared.state.State.{State}
+use Rattle.machine_spec.specs.Parts.{is_initialising, is_built_in}
+use Rattle.machine_spec.specs.Waits.{wait_on, ask_object, ask_none, ask_slot}
+use Rattle.machine_spec.specs.Bodies.{bind_under, bind_parent, good_entry, finish_entry, finish_object, finish_load, loaded_by, loaded_from}
+use Rattle.machine_spec.specs.Variables.{sleeping, value_reply, get_reply, set_on, del_found, del_on, names_reply}
+use Rattle.machine_spec.specs.Search.{listing_reply, ns_of, ns_reply}
+use Rattle.machine_spec.specs.Cache.{is_fixed}
+use Rattle.machine_spec.specs.Reloads.{is_entry, busy_of, enter, reload_begin_on, reload_take, kept_or_lost, reload_leave, reload_end_on}
+use Rattle.machine_spec.specs.Lazies.{open_lazy, rouse_lazy, rouse_phase, rouse_on}
+use Rattle.machine_spec.specs.Step.{step}
+use Rattle.machine_spec.specs.Allowed.{allowed, can_finish, has_ns, reloads_object}
 use Rattle.machine_laws.specs.Bones.{module_bone, body_bone}
 use Rattle.machine_laws.specs.Sound.{IsSound}
 use Rattle.machine_laws.proofs.Same.{either, map_at, unmap}

@@ -18,7 +18,7 @@ use Rattle.module_table.specs.Vars.{var_of}
 use Rattle.module_table.specs.declared.table.Table.{Table as Modules}
 use Rattle.py_value.specs.declared.value.Value.{Value}
 use Rattle.spec_core.specs.Names.{parent_of}
-use Rattle.machine_state.specs.Cache.{is_fixed}
+use Rattle.machine_spec.specs.Cache.{is_fixed}
 use Rattle.module_table.specs.declared.module.Object.{Object}
 use Rattle.module_table.specs.declared.module.Load.{Load}
 use Rattle.module_table.specs.declared.module.Reload.{Reload}
@@ -28,15 +28,15 @@ use Rattle.module_table.specs.declared.module.LoadStage.{LoadStage}
 use Rattle.module_table.specs.declared.module.LoadStage.TheVariants as stages
 use Rattle.module_table.specs.declared.module.Phase.{Phase}
 use Rattle.module_table.specs.declared.module.Phase.TheVariants as phases
-use Rattle.machine_state.specs.declared.state.State.{State}
-use Rattle.machine_state.specs.Parts.{is_initialising, is_built_in, is_built_in_place}
-use Rattle.machine_state.specs.Waits.{ask_object, ask_slot}
-use Rattle.machine_state.specs.Bodies.{bound, bind_under, bind_parent, good_entry, finish_entry, finish_object, finish_load}
-use Rattle.machine_state.specs.Variables.{sleeping, set_on, del_found, del_on}
-use Rattle.machine_state.specs.Reloads.{is_entry, enter, reload_begin_on, reload_take, reload_leave, reload_end_on}
-use Rattle.machine_state.specs.Lazies.{open_lazy, rouse_lazy, rouse_phase, rouse_on}
-use Rattle.machine_state.specs.Step.{step}
-use Rattle.machine_state.specs.Legal.{replay, IsLegal}
+use Rattle.machine_spec.specs.declared.state.State.{State}
+use Rattle.machine_spec.specs.Parts.{is_initialising, is_built_in, is_built_in_place}
+use Rattle.machine_spec.specs.Waits.{ask_object, ask_slot}
+use Rattle.machine_spec.specs.Bodies.{bound, bind_under, bind_parent, good_entry, finish_entry, finish_object, finish_load}
+use Rattle.machine_spec.specs.Variables.{sleeping, set_on, del_found, del_on}
+use Rattle.machine_spec.specs.Reloads.{is_entry, enter, reload_begin_on, reload_take, reload_leave, reload_end_on}
+use Rattle.machine_spec.specs.Lazies.{open_lazy, rouse_lazy, rouse_phase, rouse_on}
+use Rattle.machine_spec.specs.Step.{step}
+use Rattle.machine_spec.specs.Legal.{replay, IsLegal}
 use Rattle.machine_laws.specs.Bones.{Bones, Body, Module, bones, body_bone, module_bone}
 use Rattle.machine_laws.specs.Sound.{IsSound, FitsPhase, HasBody, phase_of}
 use Rattle.machine_laws.specs.Answered.{rank, GoOn}

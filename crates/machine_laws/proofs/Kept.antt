@@ -20,15 +20,15 @@ use Rattle.module_table.specs.declared.module.LoadKind.{LoadKind}
 use Rattle.module_table.specs.declared.module.LoadKind.TheVariants as load_kinds
 use Rattle.module_table.specs.declared.module.LoadStage.TheVariants as stages
 use Rattle.module_table.specs.declared.module.Phase.TheVariants as phases
-use Rattle.machine_state.specs.declared.state.State.{State}
-use Rattle.machine_state.specs.Parts.{is_initialising, is_built_in, is_built_in_place, is_open, is_main, is_imported}
-use Rattle.machine_state.specs.Waits.{wait_on, ask_object, ask_none, ask_slot, take_name}
-use Rattle.machine_state.specs.Bodies.{add, bound, bind_under, bind_parent, good_entry, finish_entry, closed, finish_object, finish_load}
-use Rattle.machine_state.specs.Variables.{sleeping, set_on, del_found, del_on}
-use Rattle.machine_state.specs.Cache.{is_fixed, tab_set, tab_del}
-use Rattle.machine_state.specs.Search.{path_add}
-use Rattle.machine_state.specs.Lazies.{add_lazy}
-use Rattle.machine_state.specs.Allowed.{can_finish, has_spare}
+use Rattle.machine_spec.specs.declared.state.State.{State}
+use Rattle.machine_spec.specs.Parts.{is_initialising, is_built_in, is_built_in_place, is_open, is_main, is_imported}
+use Rattle.machine_spec.specs.Waits.{wait_on, ask_object, ask_none, ask_slot, take_name}
+use Rattle.machine_spec.specs.Bodies.{add, bound, bind_under, bind_parent, good_entry, finish_entry, closed, finish_object, finish_load}
+use Rattle.machine_spec.specs.Variables.{sleeping, set_on, del_found, del_on}
+use Rattle.machine_spec.specs.Cache.{is_fixed, tab_set, tab_del}
+use Rattle.machine_spec.specs.Search.{path_add}
+use Rattle.machine_spec.specs.Lazies.{add_lazy}
+use Rattle.machine_spec.specs.Allowed.{can_finish, has_spare}
 use Rattle.machine_laws.specs.Bones.{Bones, bones}
 use Rattle.machine_laws.specs.Sound.{AreSound, IsSound}
 use Rattle.machine_laws.specs.Bones.{Module, Body, module_bone, body_bone, counts_in, opens}

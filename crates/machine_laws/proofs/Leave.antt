@@ -8,8 +8,8 @@ use Rattle.machine_events.specs.declared.event.Event.{Event}
 use Rattle.module_lock.specs.declared.locks.Lock.{Lock}
 use Rattle.module_lock.specs.Table.{lock_of, can_wake}
 use Rattle.module_table.specs.declared.module.Object.{Object}
-use Rattle.machine_state.specs.declared.state.State.{State}
-use Rattle.machine_state.specs.Allowed.{allowed, is_wake, fits, has_ended, all_ended, is_due, is_due_from, has_leave, has_spare, spare_of, counts_for, has_name, is_open_of}
+use Rattle.machine_spec.specs.declared.state.State.{State}
+use Rattle.machine_spec.specs.Allowed.{allowed, is_wake, fits, has_ended, all_ended, is_due, is_due_from, has_leave, has_spare, spare_of, counts_for, has_name, is_open_of}
 use Rattle.machine_laws.specs.Bones.{bones, module_bone, body_bone, is_named, counts_in, opens, held_by, held}
 use Rattle.machine_laws.specs.Sound.{IsRunning}
 use Rattle.machine_laws.proofs.Same.{get_map}

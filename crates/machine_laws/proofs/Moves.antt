@@ -11,7 +11,7 @@ use Rattle.module_table.specs.declared.module.LoadStage.{LoadStage}
 use Rattle.module_table.specs.declared.module.LoadStage.TheVariants as stages
 use Rattle.module_table.specs.declared.module.Phase.{Phase}
 use Rattle.module_table.specs.Tables.{with_unit, with_phase, with_end, with_open, with_main, with_set, with_deleted, with_ns}
-use Rattle.machine_state.specs.declared.state.State.{State}
+use Rattle.machine_spec.specs.declared.state.State.{State}
 use Rattle.machine_laws.specs.Bones.{Bones, Module, Body, bones, module_bone, body_bone}
 use Rattle.machine_laws.proofs.Same.{changed_map, kept_map}
 

@@ -5,8 +5,8 @@ use Rattle.module_table.specs.declared.module.Object.{Object}
 use Rattle.module_table.specs.declared.module.LoadStage.{LoadStage}
 use Rattle.module_table.specs.declared.module.LoadStage.TheVariants as stages
 use Rattle.module_table.specs.declared.module.Phase.TheVariants as phases
-use Rattle.machine_state.specs.declared.state.State.{State}
-use Rattle.machine_state.specs.Parts.{is_imported}
+use Rattle.machine_spec.specs.declared.state.State.{State}
+use Rattle.machine_spec.specs.Parts.{is_imported}
 use Rattle.machine_laws.specs.Bones.{Module, Body, bones, module_bone, body_bone}
 use Rattle.machine_laws.specs.Sound.{IsSound, HasBody, FitsPhase, phase_of}
 use Rattle.machine_laws.specs.Answered.{HasOneLoad}

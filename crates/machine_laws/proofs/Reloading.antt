@@ -18,13 +18,13 @@ use Rattle.module_table.specs.declared.module.LoadKind.TheVariants as load_kinds
 use Rattle.module_table.specs.declared.module.LoadStage.TheVariants as stages
 use Rattle.module_table.specs.declared.module.Phase.{Phase}
 use Rattle.module_table.specs.declared.module.Phase.TheVariants as phases
-use Rattle.machine_state.specs.declared.state.State.{State}
-use Rattle.machine_state.specs.Parts.{is_built_in, is_imported}
-use Rattle.machine_state.specs.Waits.{wait_on}
-use Rattle.machine_state.specs.Variables.{sleeping}
-use Rattle.machine_state.specs.Reloads.{is_entry, enter, reload_begin_on, reload_start, reload_take, reload_leave, reload_end_on}
-use Rattle.machine_state.specs.Lazies.{open_lazy, rouse_lazy, rouse_phase, rouse_on}
-use Rattle.machine_state.specs.Allowed.{has_name, is_reload, is_number, reloads_object}
+use Rattle.machine_spec.specs.declared.state.State.{State}
+use Rattle.machine_spec.specs.Parts.{is_built_in, is_imported}
+use Rattle.machine_spec.specs.Waits.{wait_on}
+use Rattle.machine_spec.specs.Variables.{sleeping}
+use Rattle.machine_spec.specs.Reloads.{is_entry, enter, reload_begin_on, reload_start, reload_take, reload_leave, reload_end_on}
+use Rattle.machine_spec.specs.Lazies.{open_lazy, rouse_lazy, rouse_phase, rouse_on}
+use Rattle.machine_spec.specs.Allowed.{has_name, is_reload, is_number, reloads_object}
 use Rattle.machine_laws.specs.Bones.{Bones, Module, Body, bones, module_bone, body_bone, counts_in, opens, held}
 use Rattle.machine_laws.specs.Sound.{AreSound, IsSound, IsRunning, FitsPhase, HasBody}
 use Rattle.machine_laws.proofs.Same.{either, changed_map, kept_map, map_at}

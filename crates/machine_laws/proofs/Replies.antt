@@ -14,9 +14,9 @@ use Rattle.module_lock.specs.Cycles.{Closes}
 use Rattle.module_lock.proofs.Follow.{closes-yes}
 use Rattle.module_table.specs.declared.module.Object.{Object}
 use Rattle.module_table.specs.declared.module.Load.{Load}
-use Rattle.machine_state.specs.declared.state.State.{State}
-use Rattle.machine_state.specs.Parts.{is_initialising, is_open, is_imported}
-use Rattle.machine_state.specs.Waits.{wait_reply, wait_on, ask_object, ask_none, ask_slot, ask, take_name}
+use Rattle.machine_spec.specs.declared.state.State.{State}
+use Rattle.machine_spec.specs.Parts.{is_initialising, is_open, is_imported}
+use Rattle.machine_spec.specs.Waits.{wait_reply, wait_on, ask_object, ask_none, ask_slot, ask, take_name}
 use Rattle.machine_laws.specs.Bones.{bones, module_bone, body_bone, counts_in, opens, held_by, held}
 use Rattle.machine_laws.specs.Sound.{IsSound}
 use Rattle.machine_laws.specs.Answered.{IsOwn}

@@ -8,7 +8,7 @@ use Rattle.module_table.specs.declared.module.LoadKind.{LoadKind}
 use Rattle.module_table.specs.declared.module.LoadKind.TheVariants as load_kinds
 use Rattle.module_table.specs.declared.module.LoadStage.{LoadStage}
 use Rattle.module_table.specs.declared.module.Reload.{Reload}
-use Rattle.machine_state.specs.Parts.{is_open, is_imported}
+use Rattle.machine_spec.specs.Parts.{is_open, is_imported}
 use Rattle.machine_laws.specs.Bones.{Bones, Module, Body, counts_in, opens, held}
 use Rattle.machine_laws.specs.Sound.{AreSound, FitsModule, FitsKind, FitsPhase, FitsReload, phase_of}
 use Rattle.machine_laws.proofs.Lists.{set_there, set_elsewhere, set_at}

@@ -11,12 +11,12 @@ use Rattle.machine_events.specs.declared.event.Reply.{Reply}
 use Rattle.module_lock.specs.Table.{holds}
 use Rattle.module_lock.proofs.Kept.{acyclic-woken}
 use Rattle.module_table.specs.Tables.{reloads}
-use Rattle.machine_state.specs.declared.state.State.{State}
-use Rattle.machine_state.specs.Parts.{is_open, is_main}
-use Rattle.machine_state.specs.Step.{step}
-use Rattle.machine_state.specs.Bodies.{end}
-use Rattle.machine_state.specs.Allowed.{allowed, can_end, is_open_of, has_spare, has_text, has_body, is_reloading, has_name}
-use Rattle.machine_state.specs.Legal.{replay, IsLegal}
+use Rattle.machine_spec.specs.declared.state.State.{State}
+use Rattle.machine_spec.specs.Parts.{is_open, is_main}
+use Rattle.machine_spec.specs.Step.{step}
+use Rattle.machine_spec.specs.Bodies.{end}
+use Rattle.machine_spec.specs.Allowed.{allowed, can_end, is_open_of, has_spare, has_text, has_body, is_reloading, has_name}
+use Rattle.machine_spec.specs.Legal.{replay, IsLegal}
 use Rattle.machine_laws.specs.Bones.{bones, Body, body_bone}
 use Rattle.machine_laws.specs.Sound.{IsSound}
 use Rattle.machine_laws.proofs.Same.{unmap}

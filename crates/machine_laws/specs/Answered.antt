@@ -5,8 +5,8 @@ use Rattle.module_lock.specs.Table.{owns, next}
 use Rattle.module_table.specs.declared.module.Load.{Load}
 use Rattle.module_table.specs.declared.module.LoadStage.{LoadStage}
 use Rattle.module_table.specs.declared.module.LoadStage.TheVariants as stages
-use Rattle.machine_state.specs.declared.state.State.{State}
-use Rattle.machine_state.specs.Parts.{is_open, is_imported}
+use Rattle.machine_spec.specs.declared.state.State.{State}
+use Rattle.machine_spec.specs.Parts.{is_open, is_imported}
 
 -- t owns the lock of this name, and the open load of the module is t's
 pub record IsOwn (s : State) (t mid : ℕ) (n : List ℕ) : Type 0 where

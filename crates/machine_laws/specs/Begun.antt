@@ -1,8 +1,8 @@
 -- What a machine is begun with.
 use Rattle.std.specs.Prelude.{◌≡◌, ◌≤◌, ℕ, List, [], ◌∷◌, length}
 use Rattle.std.specs.List.{sum}
-use Rattle.machine_state.specs.declared.state.State.{State}
-use Rattle.machine_state.specs.Opening.{opening}
+use Rattle.machine_spec.specs.declared.state.State.{State}
+use Rattle.machine_spec.specs.Opening.{opening}
 
 -- each round has a script
 abbrev pub HaveScripts : List ℕ → Type 0

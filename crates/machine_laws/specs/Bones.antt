@@ -13,8 +13,8 @@ use Rattle.module_table.specs.declared.module.Phase.{Phase}
 use Rattle.module_table.specs.declared.module.Reload.{Reload}
 use Rattle.module_lock.specs.declared.locks.Lock.{Lock}
 use Rattle.module_lock.specs.Table.{lock_of}
-use Rattle.machine_state.specs.Parts.{is_open, is_main}
-use Rattle.machine_state.specs.declared.state.State.{State}
+use Rattle.machine_spec.specs.Parts.{is_open, is_main}
+use Rattle.machine_spec.specs.declared.state.State.{State}
 
 -- a module: its name, how far it is, and the load that it was made with
 pub record Module : Type 0 where

@@ -10,8 +10,8 @@ use Rattle.module_table.specs.declared.module.LoadStage.TheVariants as stages
 use Rattle.module_table.specs.declared.module.Phase.{Phase}
 use Rattle.module_table.specs.declared.module.Phase.TheVariants as phases
 use Rattle.module_table.specs.declared.module.Reload.{Reload}
-use Rattle.machine_state.specs.declared.state.State.{State}
-use Rattle.machine_state.specs.Parts.{is_open, is_main, is_imported}
+use Rattle.machine_spec.specs.declared.state.State.{State}
+use Rattle.machine_spec.specs.Parts.{is_open, is_main, is_imported}
 use Rattle.machine_laws.specs.Bones.{Bones, Module, Body, bones, opens, held}
 
 -- how far a module is, by the stage of the load that it was made with

@@ -3,3 +3,4 @@ pub mod Lists
 pub mod Start
 pub mod Tables
 pub mod Path
+pub mod Names

@@ -2,6 +2,7 @@
 #![tactic(auto)]
 
 mod cache;
+mod kept;
 mod loads;
 mod module;
 mod objects;
@@ -13,6 +14,7 @@ mod units;
 mod vars;
 
 pub use cache::Cache;
+pub use kept::KeptListing;
 pub use loads::Loads;
 pub use module::{Load, LoadKind, LoadStage, Object, Phase, Reload};
 pub use objects::Objects;

@@ -8,18 +8,18 @@ use Rattle.py_syntax.specs.declared.stmt.FuncDef.{FuncDef}
 use Rattle.py_syntax.specs.declared.stmt.Handler.{Handler}
 use Rattle.py_syntax.specs.declared.stmt.Stmt.{Stmt, out-Stmt}
 use Rattle.py_syntax.specs.declared.stmt.Stmt.TheOpen.{Stmt-F}
-use Rattle.py_state.specs.declared.flow.Leave.{Leave}
-use Rattle.py_state.specs.declared.flow.Leave.TheVariants.{Raised, Return, Break, Continue}
-use Rattle.py_state.specs.declared.flow.Flow.TheVariants.{Left}
-use Rattle.py_state.specs.declared.thread.State.{State}
+use Rattle.meaning_state.specs.declared.flow.Leave.{Leave}
+use Rattle.meaning_state.specs.declared.flow.Leave.TheVariants.{Raised, Return, Break, Continue}
+use Rattle.meaning_state.specs.declared.flow.Flow.TheVariants.{Left}
+use Rattle.meaning_state.specs.declared.thread.State.{State}
 use Rattle.py_value.specs.declared.value.Value.{Value}
 use Rattle.py_value.specs.declared.value.Value.TheVariants as values
-use Rattle.py_state.specs.declared.flow.Flow.{Flow}
-use Rattle.py_meaning.specs.Pieces.{Piece, Onward}
-use Rattle.py_meaning.specs.Operators.{Around}
-use Rattle.py_meaning.specs.Calls.{missing_at, defaulting}
-use Rattle.py_meaning.specs.Statements.{HandlerPiece, catches_kind, tried, run_all}
-use Rattle.py_meaning.specs.Meaning.{World, around_at}
+use Rattle.meaning_state.specs.declared.flow.Flow.{Flow}
+use Rattle.meaning_script.specs.Pieces.{Piece, Onward}
+use Rattle.meaning_script.specs.Operators.{Around}
+use Rattle.meaning_script.specs.Calls.{missing_at, defaulting}
+use Rattle.meaning_script.specs.Statements.{HandlerPiece, catches_kind, tried, run_all}
+use Rattle.meaning_script.specs.Meaning.{World, around_at}
 use Rattle.py_frames.specs.Does.{Rest, frame_does, rest, tried_at, tried_some, handlers}
 use Rattle.py_frames.specs.Unwind.{stops, unwound, is_taken, is_taken_kind, is_missing, is_missing_kind}
 use Rattle.py_frames.specs.declared.work.Frame.{Frame}

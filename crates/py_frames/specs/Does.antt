@@ -5,7 +5,7 @@ use Rattle.py_value.specs.declared.value.Raised.{Raised as Error}
 use Rattle.py_value.specs.declared.value.Value.{Value}
 use Rattle.machine_events.specs.declared.event.Event.TheVariants as e
 use Rattle.machine_events.specs.declared.event.Reply.{Reply}
-use Rattle.run_rules.specs.Runs.{Run, Pays, Looks, Makes, StampOf}
+use Rattle.meaning_runs.specs.Runs.{Run, Pays, Looks, Makes, StampOf}
 use Rattle.py_syntax.specs.declared.expr.Expr.{Expr, out-Expr}
 use Rattle.py_syntax.specs.declared.expr.Expr.TheOpen.{Expr-F}
 use Rattle.py_syntax.specs.declared.stmt.Alias.{Alias}
@@ -16,26 +16,26 @@ use Rattle.py_syntax.specs.declared.stmt.ImportedNames.{ImportedNames}
 use Rattle.py_syntax.specs.declared.stmt.ImportedNames.TheVariants as names
 use Rattle.py_syntax.specs.declared.stmt.Stmt.{Stmt, out-Stmt}
 use Rattle.py_syntax.specs.declared.stmt.Stmt.TheOpen.{Stmt-F}
-use Rattle.py_faults.specs.declared.fault.Fault.TheVariants as fault
-use Rattle.py_state.specs.declared.flow.Flow.{Flow}
-use Rattle.py_state.specs.declared.flow.Flow.TheVariants.{Went, Left}
-use Rattle.py_state.specs.declared.thread.State.{State}
-use Rattle.py_state.specs.declared.thread.Thread.{Thread}
-use Rattle.py_meaning.specs.Pieces.{Piece, Onward, pay, calls, after_reply, on_value, done, passes, fails, sized, gathers, in_order, applied_on, as_list, listed, decides}
-use Rattle.py_meaning.specs.Names.{reads_global, read_global, member, member_came, stores, stored, member_stored, deleted, member_deleted}
-use Rattle.py_meaning.specs.Entries.{reads_entry, has_entry, sets_entry, deletes_entry, pops_entry, looked_up, entry_or, tells_entry, entry_set, taken_out, dropped}
-use Rattle.py_meaning.specs.Methods.{calls_method, adds_entry, path_added}
-use Rattle.py_meaning.specs.Calls.{telling, defaulting}
-use Rattle.py_meaning.specs.Operators.{Around, operands_at, applies_at, atom_at, conjoins, disjoins, calls_member, eval}
-use Rattle.py_meaning.specs.Statements.{BranchPiece, HandlerPiece, DefPiece, augment, stmt_operands_at, performs_at, tests, turn, turns, looped, handled, handles, binds_error, chosen, takes, catches, tried, tries, finishes, resumes, guards, unbinds, defines, run, branch, handler, run_all}
-use Rattle.py_meaning.specs.Imports.{opens}
-use Rattle.py_meaning.specs.Meaning.{World, around_at, inside_at, calls_at, imports_at, bodies_at, starts, loaded, body_gives, ends}
-use Rattle.py_meaning.specs.ImportStatements.{with_module, imports_one, imports_all, imports_front, binds_import, follows_parts, name_of, name_came, submodule_entry, missed, tried_submodule, submodule_came, submodule, submodules, package_came, asks_submodules, binds_item, binds_items, binds_star, binds_stars, public_names, all_came, package_in, optional_name, from_resolved, imported_names, from_import}
-use Rattle.module_paths.specs.Means.{means as path_means}
+use Rattle.meaning_state.specs.declared.fault.Fault.TheVariants as fault
+use Rattle.meaning_state.specs.declared.flow.Flow.{Flow}
+use Rattle.meaning_state.specs.declared.flow.Flow.TheVariants.{Went, Left}
+use Rattle.meaning_state.specs.declared.thread.State.{State}
+use Rattle.meaning_state.specs.declared.thread.Thread.{Thread}
+use Rattle.meaning_script.specs.Pieces.{Piece, Onward, pay, calls, after_reply, on_value, done, passes, fails, sized, gathers, in_order, applied_on, as_list, listed, decides}
+use Rattle.meaning_script.specs.Names.{reads_global, read_global, member, member_came, stores, stored, member_stored, deleted, member_deleted}
+use Rattle.meaning_script.specs.Entries.{reads_entry, has_entry, sets_entry, deletes_entry, pops_entry, looked_up, entry_or, tells_entry, entry_set, taken_out, dropped}
+use Rattle.meaning_script.specs.Methods.{calls_method, adds_entry, path_added}
+use Rattle.meaning_script.specs.Calls.{telling, defaulting}
+use Rattle.meaning_script.specs.Operators.{Around, operands_at, applies_at, atom_at, conjoins, disjoins, calls_member, eval}
+use Rattle.meaning_script.specs.Statements.{BranchPiece, HandlerPiece, DefPiece, augment, stmt_operands_at, performs_at, tests, turn, turns, looped, handled, handles, binds_error, chosen, takes, catches, tried, tries, finishes, resumes, guards, unbinds, defines, run, branch, handler, run_all}
+use Rattle.meaning_script.specs.Imports.{opens}
+use Rattle.meaning_script.specs.Meaning.{World, around_at, inside_at, calls_at, imports_at, bodies_at, starts, loaded, body_gives, ends}
+use Rattle.meaning_script.specs.ImportStatements.{with_module, imports_one, imports_all, imports_front, binds_import, follows_parts, name_of, name_came, submodule_entry, missed, tried_submodule, submodule_came, submodule, submodules, package_came, asks_submodules, binds_item, binds_items, binds_star, binds_stars, public_names, all_came, package_in, optional_name, from_resolved, imported_names, from_import}
+use Rattle.step_package_path.specs.Means.{means as path_means}
 use Rattle.reload_lazy.specs.Rouse.{means as rouse_means}
 use Rattle.reload_lazy.specs.Reload.{means as reload_means}
 use Rattle.path_finder.specs.Steps.{searches}
-use Rattle.search_meaning.specs.Searches.{searches_in}
+use Rattle.meaning_search.specs.Searches.{searches_in}
 use Rattle.spec_core.specs.Relative.{resolved}
 use Rattle.find_load.specs.Means.{means}
 use Rattle.find_load.specs.declared.words.In.{In}

@@ -1,8 +1,8 @@
 //! Procedures.
-use boxed::Boxed;
+use base_owners::Boxed;
 use find_load::Importer;
-use module_paths::PathReader;
 use reload_lazy::{Reloader, Rouser};
+use step_package_path::PathReader;
 
 /// A procedure that is open. It stands apart, since it is large and rare.
 #[derive(Drop)]

@@ -1,10 +1,10 @@
 //! What goes on by the reply to an event.
 use crate::procedures::Procedure;
+use base_owners::Shared;
 use base_types::{Seq, Text, Texts};
-use py_state::Flow;
+use meaning_state::Flow;
 use py_syntax::Stmt;
 use py_value::{ModRef, Raised, Value};
-use shared::Shared;
 
 /// What goes on by the reply to an event.
 #[derive(Drop)]

@@ -4,7 +4,7 @@ use crate::replies::OnReply;
 use crate::work::{Frame, Item};
 use base_types::TreePath;
 use machine_events::{Event, Reply};
-use py_state::Flow;
+use meaning_state::Flow;
 use py_value::Items;
 use spec_core::Dotted;
 

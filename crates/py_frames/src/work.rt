@@ -3,14 +3,13 @@ ghost use Rattle.std.specs.Prelude.{◌≡◌, [], ◌∷◌, MatchOption, OnOk,
 
 use crate::procedures::Procedure;
 use crate::replies::OnReply;
+use base_owners::{Boxed, Shared};
 use base_types::{NoMemory, Seq, Text, Texts};
-use boxed::Boxed;
 use find_load::In;
 use machine_events::Event;
-use py_state::{Flow, Leave, Scope, Stack};
+use meaning_state::{Flow, Leave, Scope, Stack};
 use py_syntax::{BinaryOp, Branch, Expr, Handler, Stmt};
 use py_value::{ModRef, Raised, Value};
-use shared::Shared;
 use spec_core::Dotted;
 use std::alloc::Global;
 use std::marker::Model;

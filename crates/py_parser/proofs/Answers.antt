@@ -3,13 +3,13 @@ use Rattle.std.proofs.Common.{◌≡◌, ℕ, zero, suc, ◌-◌, ◌<◌, ◌�
 use Rattle.std.specs.List.{slice_get}
 use Rattle.std.proofs.lemmas.Option.{slice_get_within}
 use Rattle.std.proofs.lemmas.List.{length-map, length-drop, take-map}
-use Rattle.token_reading.specs.declared.fault.Refusal.{Refusal}
-use Rattle.token_reading.specs.declared.fault.Refusal.TheVariants.{TooDeep, Syntax}
-use Rattle.token_reading.specs.declared.fault.Fault.{Fault}
-use Rattle.token_reading.specs.declared.fault.ReadError.{ReadError}
-use Rattle.token_reading.specs.declared.fault.ReadError.TheVariants.{Refused}
-use Rattle.token_reading.specs.Outcome.{Gives}
-use Rattle.token_reading.specs.Refusals.{IsViable, IsFirstRefused}
+use Rattle.source_combinators.specs.declared.fault.Refusal.{Refusal}
+use Rattle.source_combinators.specs.declared.fault.Refusal.TheVariants.{TooDeep, Syntax}
+use Rattle.source_combinators.specs.declared.fault.Fault.{Fault}
+use Rattle.source_combinators.specs.declared.fault.ReadError.{ReadError}
+use Rattle.source_combinators.specs.declared.fault.ReadError.TheVariants.{Refused}
+use Rattle.source_combinators.specs.Outcome.{Gives}
+use Rattle.source_combinators.specs.Refusals.{IsViable, IsFirstRefused}
 use Rattle.py_lexer.specs.declared.error.LexError.{LexError}
 use Rattle.py_lexer.specs.declared.error.LexError.TheVariants as lex
 use Rattle.py_lexer.specs.declared.word.Token.{Token}
@@ -19,7 +19,7 @@ use Rattle.py_syntax.specs.declared.lexeme.Lexeme.{Lexeme}
 use Rattle.py_syntax.specs.declared.lexeme.Lexeme.TheVariants as token
 use Rattle.py_syntax.specs.declared.stmt.Script.{Script}
 use Rattle.py_syntax.specs.Grammar.{Spells}
-use Rattle.py_lexemes.specs.Words.{lexeme_at, lexemes_of}
+use Rattle.source_lexemes.specs.Words.{lexeme_at, lexemes_of}
 use Rattle.py_parser.specs.declared.error.ParseError.{ParseError}
 use Rattle.py_parser.specs.declared.error.ParseError.TheVariants as error
 use Rattle.py_parser.specs.Kinds.{what_of, by_what, refusal_of, without_tokens}

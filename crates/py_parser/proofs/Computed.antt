@@ -1,20 +1,20 @@
 -- What a source gives is what is computed of it.
 use Rattle.std.proofs.Common.{◌≡◌, ℕ, suc, ◌-◌, ◌<◌, ◌≤◌, List, [], length, take, drop, Option, Ok, Err, refl, sym, subst, arith}
-use Rattle.token_reading.specs.declared.fault.Fault.{Fault}
-use Rattle.token_reading.specs.Reading.{Read, given}
-use Rattle.token_reading.proofs.Theorem.{first_refused}
+use Rattle.source_combinators.specs.declared.fault.Fault.{Fault}
+use Rattle.source_combinators.specs.Reading.{Read, given}
+use Rattle.source_combinators.proofs.Theorem.{first_refused}
 use Rattle.py_lexer.specs.Source.{Answer as Lexed, Tokens}
 use Rattle.py_lexer.specs.SourceReading.{source}
 use Rattle.py_lexer.specs.declared.word.Token.{Token}
 use Rattle.py_lexer.proofs.Sources.{gives}
-use Rattle.py_lexemes.specs.Words.{lexemes_of}
+use Rattle.source_lexemes.specs.Words.{lexemes_of}
 use Rattle.py_syntax.specs.declared.lexeme.Lexeme.{Lexeme}
 use Rattle.py_syntax.specs.declared.stmt.Script.{Script}
 use Rattle.py_syntax.specs.Grammar.{Spells}
-use Rattle.statement_reading.specs.Reading.{script}
-use Rattle.statement_reading.proofs.Complete.{complete_script}
-use Rattle.statement_reading.proofs.Whole.{script_reader}
-use Rattle.py_statements.proofs.Whole.{is_spelled}
+use Rattle.source_spec_statements.specs.Reading.{script}
+use Rattle.source_spec_statements.proofs.Complete.{complete_script}
+use Rattle.source_spec_statements.proofs.Whole.{script_reader}
+use Rattle.source_parse_statements.proofs.Whole.{is_spelled}
 use Rattle.py_parser.specs.Parses as parses
 use Rattle.py_parser.specs.Parses.{Answer, Reads, Parses, Ends, Told}
 use Rattle.py_parser.specs.Parsed.{refused_token, read_by, read, parsed_by, parsed}

@@ -1,7 +1,7 @@
 -- END stands only last in what is spelled.
 use Rattle.std.proofs.Common.{◌≡◌, ℕ, Bool, true, false, List, [], ◌∷◌, ◌++◌, Option, refl, subst}
-use Rattle.token_reading.specs.Separated as several
-use Rattle.token_reading.specs.Separated.{IsSeparated, IsListed}
+use Rattle.source_combinators.specs.Separated as several
+use Rattle.source_combinators.specs.Separated.{IsSeparated, IsListed}
 use Rattle.py_syntax.specs.declared.lexeme.Lexeme.{Lexeme}
 use Rattle.py_syntax.specs.declared.lexeme.Lexeme.TheVariants as token
 use Rattle.py_syntax.specs.declared.expr.Expr.{Expr}

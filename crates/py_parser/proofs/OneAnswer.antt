@@ -1,8 +1,8 @@
 -- Each source gives one tree or one refusal.
 use Rattle.std.proofs.Common.{◌≡◌, ℕ, suc, List, [], ◌∷◌, ◌++◌, length, Ok, Err, refl, sym, ap, subst, ◌∙◌, arith, length-append}
-use Rattle.token_reading.specs.declared.fault.Fault.{Fault}
-use Rattle.token_reading.specs.Refusals.{IsFirstRefused}
-use Rattle.token_reading.proofs.Theorem.{one_value}
+use Rattle.source_combinators.specs.declared.fault.Fault.{Fault}
+use Rattle.source_combinators.specs.Refusals.{IsFirstRefused}
+use Rattle.source_combinators.proofs.Theorem.{one_value}
 use Rattle.py_lexer.specs.declared.error.LexError.{LexError}
 use Rattle.py_lexer.specs.declared.word.Token.{Token}
 use Rattle.py_lexer.specs.Source.{Tokens}
@@ -10,9 +10,9 @@ use Rattle.py_lexer.proofs.Sources.{one_answer}
 use Rattle.py_syntax.specs.declared.lexeme.Lexeme.{Lexeme}
 use Rattle.py_syntax.specs.declared.stmt.Script.{Script}
 use Rattle.py_syntax.specs.Grammar.{Spells}
-use Rattle.statement_reading.specs.Reading.{script}
-use Rattle.statement_reading.proofs.Whole.{script_reader}
-use Rattle.py_lexemes.specs.Words.{lexemes_of}
+use Rattle.source_spec_statements.specs.Reading.{script}
+use Rattle.source_spec_statements.proofs.Whole.{script_reader}
+use Rattle.source_lexemes.specs.Words.{lexemes_of}
 use Rattle.py_parser.specs.declared.error.ParseError.{ParseError}
 use Rattle.py_parser.specs.declared.error.ParseError.TheVariants as error
 use Rattle.py_parser.specs.Kinds.{refusal_of}

@@ -1,9 +1,9 @@
 -- A list has one first refused token at most, and none where it spells a value.
 use Rattle.std.proofs.Common.{◌≡◌, ℕ, ◌+◌, List, [], ◌∷◌, ◌++◌, length, refl, sym, ap, subst, ◌∙◌, append_assoc, append-nil}
-use Rattle.token_reading.specs.declared.fault.Refusal.{Refusal}
-use Rattle.token_reading.specs.declared.fault.Refusal.TheVariants.{TooDeep, Syntax}
-use Rattle.token_reading.specs.declared.fault.Fault.{Fault}
-use Rattle.token_reading.specs.Refusals.{IsViable, IsFirstRefused}
+use Rattle.source_combinators.specs.declared.fault.Refusal.{Refusal}
+use Rattle.source_combinators.specs.declared.fault.Refusal.TheVariants.{TooDeep, Syntax}
+use Rattle.source_combinators.specs.declared.fault.Fault.{Fault}
+use Rattle.source_combinators.specs.Refusals.{IsViable, IsFirstRefused}
 
 abbrev fault_at : Refusal → ℕ → Fault
 fault_at kind left = record { kind = kind; left = left }

@@ -2,8 +2,8 @@
 use Rattle.std.specs.Prelude.{ℕ, Bool, ◌&&◌, ◌||◌, if◌then◌else◌, List, [], ◌∷◌, Option, Some, None, codes}
 use Rattle.std.specs.List.{list_any}
 use Rattle.std.specs.Str.{bytes_eq}
-use Rattle.token_reading.specs.declared.fault.Refusal.{Refusal}
-use Rattle.token_reading.specs.declared.fault.Refusal.TheVariants as refusal
+use Rattle.source_combinators.specs.declared.fault.Refusal.{Refusal}
+use Rattle.source_combinators.specs.declared.fault.Refusal.TheVariants as refusal
 use Rattle.py_lexer.specs.declared.error.LexError.{LexError}
 use Rattle.py_lexer.specs.declared.error.LexError.TheVariants.{NoMemory}
 use Rattle.py_lexer.specs.declared.word.Tok.{Tok}

@@ -1,15 +1,15 @@
 -- What a source gives, as a function of its bytes. That it is what `Parses` says is a law of the crate.
 use Rattle.std.specs.Prelude.{ℕ, ◌-◌, List, length, take, Option, Some, None, Ok, Err}
 use Rattle.std.specs.List.{slice_get}
-use Rattle.token_reading.specs.declared.fault.Fault.{Fault}
-use Rattle.token_reading.specs.Reading.{Read}
+use Rattle.source_combinators.specs.declared.fault.Fault.{Fault}
+use Rattle.source_combinators.specs.Reading.{Read}
 use Rattle.py_lexer.specs.Source.{Answer as Lexed}
 use Rattle.py_lexer.specs.SourceReading.{source}
 use Rattle.py_lexer.specs.declared.word.Token.{Token}
-use Rattle.py_lexemes.specs.Words.{lexemes_of}
+use Rattle.source_lexemes.specs.Words.{lexemes_of}
 use Rattle.py_syntax.specs.declared.lexeme.Lexeme.{Lexeme}
 use Rattle.py_syntax.specs.declared.stmt.Script.{Script}
-use Rattle.statement_reading.specs.Reading.{script}
+use Rattle.source_spec_statements.specs.Reading.{script}
 use Rattle.py_parser.specs.declared.error.ParseError.TheVariants as error
 use Rattle.py_parser.specs.Kinds.{refusal_of}
 use Rattle.py_parser.specs.Places.{inside_finally}

@@ -1,12 +1,12 @@
 -- What a source gives: its tree, or why it has none.
 use Rattle.std.specs.Prelude.{◌≡◌, ℕ, suc, List, [], ◌∷◌, ◌++◌, length, Result, Ok, Err}
-use Rattle.token_reading.specs.declared.fault.Fault.{Fault}
-use Rattle.token_reading.specs.Refusals.{IsFirstRefused}
+use Rattle.source_combinators.specs.declared.fault.Fault.{Fault}
+use Rattle.source_combinators.specs.Refusals.{IsFirstRefused}
 use Rattle.py_lexer.specs.declared.error.LexError.{LexError}
 use Rattle.py_lexer.specs.declared.word.Tok.TheVariants.{End}
 use Rattle.py_lexer.specs.declared.word.Token.{Token}
 use Rattle.py_lexer.specs.Source.{Tokens}
-use Rattle.py_lexemes.specs.Words.{lexemes_of}
+use Rattle.source_lexemes.specs.Words.{lexemes_of}
 use Rattle.py_syntax.specs.declared.stmt.Script.{Script}
 use Rattle.py_syntax.specs.Grammar.{Spells}
 use Rattle.py_parser.specs.declared.error.ParseError.{ParseError}

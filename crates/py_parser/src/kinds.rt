@@ -6,8 +6,8 @@ ghost use Rattle.py_parser.specs.Kinds as kinds;
 use crate::error::ParseError;
 use base_types::{Exact, NoMemory, Text};
 use py_lexer::{Tok, Token};
+use source_combinators::Refusal;
 use std::alloc::Global;
-use token_reading::Refusal;
 
 const LISTED_WORDS: [&str; 11] = [
     "class", "for", "with", "async", "await", "yield", "lambda", "nonlocal", "assert", "global",

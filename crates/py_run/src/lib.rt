@@ -1,7 +1,9 @@
-//! Runs scripts: the events that the meaning of a script makes, each on a desk, until its End.
+//! Runs a script on a desk.
 #![tactic(auto)]
 
+mod on_desk;
 mod script;
 
-pub use py_drive::Ending;
+pub use drive_loop::Ending;
+pub use on_desk::OnDesk;
 pub use script::run_script;

@@ -3,16 +3,16 @@ ghost use Rattle.std.specs.Prelude.{◌≡◌, ◌≤◌, ◌+◌, [], IfOk, OnO
 ghost use Rattle.tree_files.specs.Count.{Rose};
 ghost use Rattle.tree_files.specs.Files.{Files};
 ghost use Rattle.machine_desk.specs.Sight.{Sight, IsReady, Continues};
-ghost use Rattle.run_rules.specs.Follows.{Follows};
-ghost use Rattle.run_rules.specs.Lists.{lists_in, ends_in};
-ghost use Rattle.script_end.specs.Ending.{Ended, Broken, IsRead, outcome};
-ghost use Rattle.py_meaning.specs.Meaning.{meaning};
-ghost use Rattle.py_sources.specs.Sources.{sources};
+ghost use Rattle.meaning_runs.specs.Follows.{Follows};
+ghost use Rattle.meaning_runs.specs.Lists.{lists_in, ends_in};
+ghost use Rattle.drive_account.specs.Ending.{Ended, Broken, IsRead, outcome};
+ghost use Rattle.meaning_script.specs.Meaning.{meaning};
+ghost use Rattle.step_calls.specs.Sources.{sources};
 
+use crate::OnDesk;
 use base_types::{NoMemory, Seq};
-use desk_port::OnDesk;
+use drive_loop::{Ending, run_script_on};
 use machine_desk::Desk;
-use py_drive::{Ending, run_script_on};
 use std::alloc::Global;
 use tree_files::Tree;
 

@@ -13,7 +13,7 @@
 -- `return` stands only in a function and not in a `finally` block, `break` and `continue` only in a loop, and
 -- `from .. import *` only outside functions. The bracket of `names` opens a level.
 use Rattle.std.specs.Prelude.{◌≡◌, ℕ, suc, ◌+◌, ◌<◌, Bool, true, false, List, [], ◌∷◌, ◌++◌, Option, Some, None}
-use Rattle.token_reading.specs.Separated.{IsSeparated, IsListed}
+use Rattle.source_combinators.specs.Separated.{IsSeparated, IsListed}
 use Rattle.py_syntax.specs.declared.lexeme.Lexeme.{Lexeme}
 use Rattle.py_syntax.specs.declared.lexeme.Lexeme.TheVariants as token
 use Rattle.py_syntax.specs.declared.expr.BinaryOp.{BinaryOp}

@@ -1,7 +1,7 @@
 //! Expressions.
 
+use base_owners::Shared;
 use base_types::{Seq, Text};
-use shared::Shared;
 
 /// An operator of two operands (Language Reference 6.7).
 #[derive(Clone, Copy, Debug, PartialEq, Eq)]

@@ -1,8 +1,8 @@
 //! Statements.
 
 use crate::expr::{BinaryOp, Expr};
+use base_owners::Shared;
 use base_types::{Seq, Text, Texts};
-use shared::Shared;
 
 /// `a.b` or `a.b as c` of `import` (Language Reference 7.11), with the parts of the dotted name.
 #[derive(Drop)]

@@ -1,9 +1,9 @@
 -- How the call answers, by what was asked for.
 use Rattle.std.proofs.Common.{◌≡◌, List, None, refl, ap}
 use Rattle.import_words.specs.Words.{Word}
-use Rattle.program_call.specs.Sinks.{Moment}
-use Rattle.program_call.specs.Statuses.{want_of_memory}
-use Rattle.program_call.specs.declared.report.Report.{Report}
+use Rattle.program_run.specs.Sinks.{Moment}
+use Rattle.program_run.specs.Statuses.{want_of_memory}
+use Rattle.program_run.specs.declared.report.Report.{Report}
 use Rattle.pyimport.specs.Answers.{Answers}
 
 -- memory was wanted before the words were read

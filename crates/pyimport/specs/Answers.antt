@@ -4,13 +4,13 @@ use Rattle.import_words.specs.Words.{Word}
 use Rattle.import_words.specs.Plans.{plan_of}
 use Rattle.import_words.specs.declared.plan.Plan.{Plan}
 use Rattle.import_words.specs.declared.plan.Plan.TheVariants as plans
-use Rattle.py_meaning.specs.Meaning.{meaning}
-use Rattle.py_sources.specs.Sources.{sources}
-use Rattle.program_call.specs.Sinks.{Moment}
-use Rattle.program_call.specs.Statuses.{want_of_memory}
-use Rattle.program_call.specs.Answers as call
-use Rattle.program_call.specs.declared.report.Report.{Report}
-use Rattle.made_call.specs.MadeRuns.{MadeGives, sinks, workload_of}
+use Rattle.meaning_script.specs.Meaning.{meaning}
+use Rattle.step_calls.specs.Sources.{sources}
+use Rattle.program_run.specs.Sinks.{Moment}
+use Rattle.program_run.specs.Statuses.{want_of_memory}
+use Rattle.program_run.specs.Answers as call
+use Rattle.program_run.specs.declared.report.Report.{Report}
+use Rattle.program_gen.specs.MadeRuns.{MadeGives, sinks, workload_of}
 use Rattle.pyimport.specs.declared.made.Numbers.{Numbers}
 
 -- the numbers of a made workload, where the words ask for one

@@ -1,13 +1,15 @@
-//! The program: scripts of the language, run over a tree as the words of a command line ask.
+//! The program: its scripts as programs of the language, and its words, folder, streams and exit status.
 #![tactic(auto)]
 
+mod entry;
 mod laws;
 mod made;
 mod run;
 mod script;
 
+pub use drive_round::{Gate, OpenGate};
+pub use entry::run;
 pub use laws::each_script_has_a_history;
-pub use program_call::{Out, Report};
-pub use round_run::{Gate, OpenGate};
+pub use program_run::{Out, Report};
 pub use run::{pyimport, run_all, solo};
 pub use script::Script;

@@ -1,18 +1,18 @@
 //! The call that runs a made workload.
 ghost use Rattle.std.specs.Prelude.{◌≡◌, ◌≤◌, Some};
 ghost use Rattle.import_words.specs.declared.plan.Plan.TheVariants as plans;
-ghost use Rattle.made_call.specs.MadeRuns.{MadeGives, sinks, workload_of};
-ghost use Rattle.program_call.specs.Answers.{left_of};
-ghost use Rattle.program_call.specs.Sinks.{at};
-ghost use Rattle.py_meaning.specs.Meaning.{meaning};
-ghost use Rattle.py_sources.specs.Sources.{sources};
+ghost use Rattle.program_gen.specs.MadeRuns.{MadeGives, sinks, workload_of};
+ghost use Rattle.program_run.specs.Answers.{left_of};
+ghost use Rattle.program_run.specs.Sinks.{at};
+ghost use Rattle.meaning_script.specs.Meaning.{meaning};
+ghost use Rattle.step_calls.specs.Sources.{sources};
 ghost use Rattle.pyimport.specs.Answers.{numbers_of};
 
 use crate::script::Script;
+use drive_round::Gate;
 use import_words::Plan;
-use made_call::call_made;
-use program_call::{Report, with_plan};
-use round_run::Gate;
+use program_gen::call_made;
+use program_run::{Report, with_plan};
 use std::alloc::Global;
 use std::sync::Wait;
 use std::thread::Threads;

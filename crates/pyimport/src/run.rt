@@ -1,21 +1,21 @@
 //! The calls of the program.
 ghost use Rattle.std.specs.Prelude.{◌≡◌, ◌≤◌, None, length, map};
 ghost use Rattle.std.specs.String.{string_bytes};
-ghost use Rattle.program_call.specs.Answers.{left_of};
-ghost use Rattle.program_call.specs.Runs.{Gives};
-ghost use Rattle.program_call.specs.Sinks.{at, moment, Passes};
-ghost use Rattle.py_meaning.specs.Meaning.{meaning};
-ghost use Rattle.py_sources.specs.Sources.{sources};
+ghost use Rattle.program_run.specs.Answers.{left_of};
+ghost use Rattle.program_run.specs.Runs.{Gives};
+ghost use Rattle.program_run.specs.Sinks.{at, moment, Passes};
+ghost use Rattle.meaning_script.specs.Meaning.{meaning};
+ghost use Rattle.step_calls.specs.Sources.{sources};
 ghost use Rattle.pyimport.specs.Answers.{Answers};
 
 use crate::made::{numbers_of, run_made};
 use crate::script::Script;
 use base_types::Seq;
+use drive_round::Gate;
 use import_words::RunPlan;
-use program_call::{
+use program_run::{
     Report, WANT_OF_MEMORY, call, plan_for, run_alone, run_together, with_plan, without_run,
 };
-use round_run::Gate;
 use std::alloc::Global;
 use std::sync::Wait;
 use std::thread::Threads;

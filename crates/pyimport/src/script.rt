@@ -1,14 +1,14 @@
 //! A script, as what a thread runs.
-ghost use Rattle.py_meaning.specs.Meaning.{meaning};
-ghost use Rattle.py_safety.proofs.Meaning.{meaning_safe};
-ghost use Rattle.py_sources.specs.Sources.{sources};
+ghost use Rattle.meaning_script.specs.Meaning.{meaning};
+ghost use Rattle.meaning_safety.proofs.Meaning.{meaning_safe};
+ghost use Rattle.step_calls.specs.Sources.{sources};
 
 use base_types::{NoMemory, Seq};
+use drive_account::Ending;
+use drive_round::Program;
 use machine_desk::Desk;
-use program_call::Scripts;
+use program_run::Scripts;
 use py_run::run_script;
-use round_run::Program;
-use script_end::Ending;
 use std::alloc::Global;
 use tree_files::Tree;
 

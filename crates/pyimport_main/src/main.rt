@@ -1,7 +1,7 @@
 //! The program `pyimport`: runs scripts over the files of the current folder.
 #![tactic(auto)]
 
-use pyimport_entry::run;
+use pyimport::run;
 use std::process::ExitCode;
 
 fn main(rt: HostRuntime) -> ExitCode {

@@ -1,7 +1,7 @@
 //! The program, run on a script that is not there: it ends with status 2.
 #![tactic(auto)]
 
-use pyimport_entry::run;
+use pyimport::run;
 use std::process::ExitCode;
 
 fn main(rt: HostRuntime) -> ExitCode {

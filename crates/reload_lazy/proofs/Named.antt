@@ -2,10 +2,10 @@
 use Rattle.std.proofs.Common.{◌≡◌, ◌∙◌, ℕ, List, true, ap, sym, if◌then◌else◌}
 use Rattle.spec_core.specs.Identifiers.{is_dotted}
 use Rattle.py_value.specs.declared.value.ModRef.{ModRef}
-use Rattle.py_faults.specs.declared.fault.Fault.TheVariants as fault
-use Rattle.py_meaning.specs.Pieces.{fails}
-use Rattle.py_meaning.specs.Imports.{Inside}
-use Rattle.py_meaning.specs.Reload.{begins, reloads}
+use Rattle.meaning_state.specs.declared.fault.Fault.TheVariants as fault
+use Rattle.meaning_script.specs.Pieces.{fails}
+use Rattle.meaning_script.specs.Imports.{Inside}
+use Rattle.meaning_script.specs.Reload.{begins, reloads}
 use Rattle.reload_lazy.specs.Reload.{named}
 
 pub read_as : (inside : Inside) (m : ModRef) (n : List ℕ) → n ≡ m.name → is_dotted m.name ≡ true

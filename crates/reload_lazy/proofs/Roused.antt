@@ -2,12 +2,12 @@
 use Rattle.std.proofs.Common.{◌≡◌, ℕ, true, refl, ap}
 use Rattle.py_value.specs.declared.value.ModRef.{ModRef}
 use Rattle.machine_events.specs.declared.event.Event.TheVariants as e
-use Rattle.py_state.specs.declared.flow.Flow.{Flow}
-use Rattle.py_state.specs.declared.flow.Flow.TheVariants.{Went, Left}
-use Rattle.py_state.specs.declared.thread.State.{State}
-use Rattle.py_meaning.specs.Pieces.{Onward, calls, on_value}
-use Rattle.py_meaning.specs.Imports.{Inside, roused}
-use Rattle.py_meaning.specs.Reload.{begun}
+use Rattle.meaning_state.specs.declared.flow.Flow.{Flow}
+use Rattle.meaning_state.specs.declared.flow.Flow.TheVariants.{Went, Left}
+use Rattle.meaning_state.specs.declared.thread.State.{State}
+use Rattle.meaning_script.specs.Pieces.{Onward, calls, on_value}
+use Rattle.meaning_script.specs.Imports.{Inside, roused}
+use Rattle.meaning_script.specs.Reload.{begun}
 use Rattle.find_load.specs.declared.words.In.TheVariants as given
 use Rattle.reload_lazy.specs.Reload.{awaits}
 use Rattle.reload_lazy.specs.declared.reloader.Awaited.TheVariants as await

@@ -2,11 +2,11 @@
 use Rattle.std.proofs.Common.{◌≡◌, ℕ, zero, suc, ◌-◌, ◌<◌, ap, arith}
 use Rattle.py_value.specs.declared.value.ModRef.{ModRef}
 use Rattle.machine_events.specs.declared.event.Event.TheVariants as e
-use Rattle.py_state.specs.declared.thread.State.{State}
-use Rattle.py_meaning.specs.Pieces.{Onward, calls}
-use Rattle.py_meaning.specs.Imports.{Inside}
-use Rattle.py_meaning.specs.Lazy.{Body, rouses, rousing}
-use Rattle.py_meaning.specs.Reload.{Finding, spec_found, text_found, took, retakes}
+use Rattle.meaning_state.specs.declared.thread.State.{State}
+use Rattle.meaning_script.specs.Pieces.{Onward, calls}
+use Rattle.meaning_script.specs.Imports.{Inside}
+use Rattle.meaning_script.specs.Lazy.{Body, rouses, rousing}
+use Rattle.meaning_script.specs.Reload.{Finding, spec_found, text_found, took, retakes}
 
 pub rouses_more : (body : Body) (turns : ℕ) (m : ModRef) (s : State) (k : Onward) → 0 < turns
     → rouses body turns m s k ≡ calls (e.Rouse m.mid) (λ reply. rousing body (rouses body (turns - 1) m) m reply s k)

@@ -2,12 +2,12 @@
 use Rattle.std.specs.Prelude.{ℕ, List, Some, None, true, false}
 use Rattle.py_value.specs.declared.value.ModRef.{ModRef}
 use Rattle.machine_events.specs.declared.event.Event.TheVariants as e
-use Rattle.py_faults.specs.declared.fault.Fault.TheVariants as fault
-use Rattle.py_state.specs.declared.flow.Flow.TheVariants.{Went, Left}
-use Rattle.py_meaning.specs.Pieces.{Piece, calls, done, fails}
-use Rattle.py_meaning.specs.Imports.{Inside}
-use Rattle.py_meaning.specs.Reload as words
-use Rattle.py_meaning.specs.Reload.{HasText, HasPortions, reloads, begin_came, begun, on_search_path, on_entry, on_parent_path, discovers, has_source, took, retakes, ends, ended, stops}
+use Rattle.meaning_state.specs.declared.fault.Fault.TheVariants as fault
+use Rattle.meaning_state.specs.declared.flow.Flow.TheVariants.{Went, Left}
+use Rattle.meaning_script.specs.Pieces.{Piece, calls, done, fails}
+use Rattle.meaning_script.specs.Imports.{Inside}
+use Rattle.meaning_script.specs.Reload as words
+use Rattle.meaning_script.specs.Reload.{HasText, HasPortions, reloads, begin_came, begun, on_search_path, on_entry, on_parent_path, discovers, has_source, took, retakes, ends, ended, stops}
 use Rattle.find_load.specs.Means.{GoesOn}
 use Rattle.find_load.specs.declared.words.In.{In}
 use Rattle.find_load.specs.declared.words.In.TheVariants as given

@@ -5,11 +5,11 @@ use Rattle.py_value.specs.declared.value.NsState.{NsState}
 use Rattle.machine_events.specs.declared.event.Event.{Event}
 use Rattle.machine_events.specs.declared.event.Event.TheVariants as e
 use Rattle.machine_events.specs.declared.module.Slot.{Slot}
-use Rattle.py_faults.specs.declared.fault.Fault.{Fault}
-use Rattle.py_faults.specs.declared.fault.Fault.TheVariants as fault
-use Rattle.py_meaning.specs.Pieces.{Piece}
-use Rattle.py_meaning.specs.Imports.{Inside}
-use Rattle.py_meaning.specs.Reload.{spec_found, text_found, loads_again, reads_path, on_parent, stops, ends, keeps_space}
+use Rattle.meaning_state.specs.declared.fault.Fault.{Fault}
+use Rattle.meaning_state.specs.declared.fault.Fault.TheVariants as fault
+use Rattle.meaning_script.specs.Pieces.{Piece}
+use Rattle.meaning_script.specs.Imports.{Inside}
+use Rattle.meaning_script.specs.Reload.{spec_found, text_found, loads_again, reads_path, on_parent, stops, ends, keeps_space}
 use Rattle.find_load.specs.declared.words.In.{In}
 use Rattle.reload_lazy.specs.Reload.{awaits, meant, named, takes}
 use Rattle.reload_lazy.specs.declared.reloader.Awaited.{Awaited}

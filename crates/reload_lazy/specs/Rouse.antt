@@ -1,10 +1,10 @@
 -- What the first use of a lazy module does from each stage on.
 use Rattle.std.specs.Prelude.{ℕ}
 use Rattle.py_value.specs.declared.value.ModRef.{ModRef}
-use Rattle.py_faults.specs.declared.fault.Fault.TheVariants as fault
-use Rattle.py_meaning.specs.Pieces.{Piece, passes, fails}
-use Rattle.py_meaning.specs.Lazy.{Body, rouses, rousing, woken}
-use Rattle.py_meaning.specs.Imports.{Inside}
+use Rattle.meaning_state.specs.declared.fault.Fault.TheVariants as fault
+use Rattle.meaning_script.specs.Pieces.{Piece, passes, fails}
+use Rattle.meaning_script.specs.Lazy.{Body, rouses, rousing, woken}
+use Rattle.meaning_script.specs.Imports.{Inside}
 use Rattle.find_load.specs.Means.{GoesOn}
 use Rattle.find_load.specs.declared.words.In.{In}
 use Rattle.find_load.specs.declared.words.In.TheVariants as given

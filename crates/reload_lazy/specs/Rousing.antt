@@ -1,7 +1,7 @@
 -- What the first use of a lazy module goes on by.
-use Rattle.py_meaning.specs.Pieces.{Piece}
-use Rattle.py_meaning.specs.Lazy.{rouses}
-use Rattle.py_meaning.specs.Imports.{Inside}
+use Rattle.meaning_script.specs.Pieces.{Piece}
+use Rattle.meaning_script.specs.Lazy.{rouses}
+use Rattle.meaning_script.specs.Imports.{Inside}
 use Rattle.find_load.specs.declared.words.In.{In}
 use Rattle.reload_lazy.specs.Rouse.{does}
 use Rattle.reload_lazy.specs.declared.rouser.RouseStage.{RouseStage}

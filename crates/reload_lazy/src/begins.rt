@@ -1,11 +1,11 @@
 //! How a reload begins: a lazy module is loaded first.
 ghost use Rattle.std.specs.Prelude.{◌≡◌, IfOk};
 ghost use Rattle.machine_events.specs.declared.event.Reply.TheVariants as replies;
-ghost use Rattle.py_faults.specs.declared.fault.Fault.TheVariants as faults;
+ghost use Rattle.meaning_state.specs.declared.fault.Fault.TheVariants as faults;
 ghost use Rattle.find_load.specs.declared.words.In.TheVariants as ins;
-ghost use Rattle.py_meaning.specs.Pieces.{fails};
-ghost use Rattle.py_meaning.specs.Imports.{answers};
-ghost use Rattle.py_meaning.specs.Reload.{begins, reloads};
+ghost use Rattle.meaning_script.specs.Pieces.{fails};
+ghost use Rattle.meaning_script.specs.Imports.{answers};
+ghost use Rattle.meaning_script.specs.Reload.{begins, reloads};
 ghost use Rattle.reload_lazy.specs.Reload.{ReloadGoes, begins_raw};
 ghost use Rattle.reload_lazy.specs.Reloading.{called, does_at};
 ghost use Rattle.reload_lazy.specs.declared.reloader.Awaited.TheVariants as await;
@@ -17,8 +17,7 @@ use crate::waits::wait_for;
 use base_types::{Exact, NoMemory};
 use find_load::Want;
 use machine_events::{Event, Reply};
-use py_faults::Fault;
-use py_state::Flow;
+use meaning_state::{Fault, Flow};
 use py_value::{ModRef, Value};
 use spec_core::Dotted;
 

@@ -1,9 +1,9 @@
 //! How a reload ends once its body ran.
 ghost use Rattle.std.specs.Prelude.{IfOk};
-ghost use Rattle.py_faults.specs.declared.fault.Fault.TheVariants as faults;
+ghost use Rattle.meaning_state.specs.declared.fault.Fault.TheVariants as faults;
 ghost use Rattle.find_load.specs.declared.words.In.TheVariants as ins;
-ghost use Rattle.py_meaning.specs.Pieces.{fails};
-ghost use Rattle.py_meaning.specs.Reload.{ends, kept, reloaded_entry};
+ghost use Rattle.meaning_script.specs.Pieces.{fails};
+ghost use Rattle.meaning_script.specs.Reload.{ends, kept, reloaded_entry};
 ghost use Rattle.reload_lazy.specs.Reload.{ReloadGoes};
 ghost use Rattle.reload_lazy.specs.Reloading.{called, does_at};
 ghost use Rattle.reload_lazy.specs.declared.reloader.Awaited.TheVariants as await;
@@ -14,8 +14,7 @@ use crate::waits::wait_for;
 use base_types::NoMemory;
 use find_load::Want;
 use machine_events::{Event, Reply, Slot};
-use py_faults::Fault;
-use py_state::Flow;
+use meaning_state::{Fault, Flow};
 use py_value::Value;
 use spec_core::Dotted;
 

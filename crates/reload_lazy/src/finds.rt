@@ -2,7 +2,7 @@
 ghost use Rattle.std.specs.Prelude.{◌≡◌, IfOk};
 ghost use Rattle.find_load.specs.declared.words.In.TheVariants as ins;
 ghost use Rattle.find_load.specs.declared.words.Want.TheVariants as wants;
-ghost use Rattle.py_meaning.specs.Reload.{finds, has_source, locates, reads_source};
+ghost use Rattle.meaning_script.specs.Reload.{finds, has_source, locates, reads_source};
 ghost use Rattle.reload_lazy.specs.Reload.{ReloadGoes};
 ghost use Rattle.reload_lazy.specs.Reloading.{called, does_at};
 ghost use Rattle.reload_lazy.specs.declared.reloader.Awaited.TheVariants as await;
@@ -13,8 +13,8 @@ use crate::takes::take_first;
 use crate::waits::wait_for;
 use base_types::{Exact, NoMemory, Seq, TreePath};
 use find_load::{Want, path_of};
+use meaning_state::Fault;
 use path_finder::Found;
-use py_faults::Fault;
 use py_value::Items;
 use spec_core::{Dotted, Spec, SpecKind};
 

@@ -1,8 +1,8 @@
 //! The path on which a reload searches.
 ghost use Rattle.std.specs.Prelude.{[], IfOk, None, Some};
 ghost use Rattle.machine_events.specs.declared.module.Slot.TheVariants as slots;
-ghost use Rattle.py_state.specs.declared.flow.Flow.TheVariants as flows;
-ghost use Rattle.py_faults.specs.declared.fault.Fault.TheVariants as faults;
+ghost use Rattle.meaning_state.specs.declared.flow.Flow.TheVariants as flows;
+ghost use Rattle.meaning_state.specs.declared.fault.Fault.TheVariants as faults;
 ghost use Rattle.spec_core.specs.Names.{parent_of};
 ghost use Rattle.find_load.specs.declared.words.In.TheVariants as ins;
 ghost use Rattle.reload_lazy.specs.Reload.{ReloadGoes};
@@ -16,8 +16,7 @@ use crate::waits::wait_for;
 use base_types::{Exact, NoMemory, Text};
 use find_load::{Want, most, parent_of};
 use machine_events::{Event, Reply, Slot};
-use py_faults::Fault;
-use py_state::Flow;
+use meaning_state::{Fault, Flow};
 use py_value::{Items, ModRef, Value};
 use spec_core::Dotted;
 

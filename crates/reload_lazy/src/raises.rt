@@ -1,9 +1,9 @@
 //! How a reload ends by an error.
 ghost use Rattle.std.specs.Prelude.{IfOk};
-ghost use Rattle.py_state.specs.declared.flow.Flow.TheVariants as flows;
-ghost use Rattle.py_faults.specs.declared.fault.Fault.TheVariants as faults;
-ghost use Rattle.py_meaning.specs.Pieces.{fails};
-ghost use Rattle.py_meaning.specs.Reload.{stops_and};
+ghost use Rattle.meaning_state.specs.declared.flow.Flow.TheVariants as flows;
+ghost use Rattle.meaning_state.specs.declared.fault.Fault.TheVariants as faults;
+ghost use Rattle.meaning_script.specs.Pieces.{fails};
+ghost use Rattle.meaning_script.specs.Reload.{stops_and};
 ghost use Rattle.reload_lazy.specs.Reload.{ReloadGoes};
 ghost use Rattle.reload_lazy.specs.Reloading.{called, stops_at};
 
@@ -12,8 +12,7 @@ use crate::waits::wait_for;
 use base_types::NoMemory;
 use find_load::{In, Want};
 use machine_events::{Event, Reply};
-use py_faults::{Fault, raised};
-use py_state::{Flow, Leave};
+use meaning_state::{Fault, Flow, Leave, raised};
 use spec_core::Dotted;
 
 /// An error is raised.

@@ -14,8 +14,7 @@ use crate::reloader::{Awaited, Finding, ReloadStage, Reloader};
 use crate::takes::{take, took};
 use base_types::NoMemory;
 use find_load::{In, Want};
-use py_faults::Fault;
-use py_state::Flow;
+use meaning_state::{Fault, Flow};
 use py_value::{Items, ModRef, Value};
 use spec_core::{Dotted, Spec};
 

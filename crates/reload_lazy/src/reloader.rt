@@ -1,12 +1,11 @@
 //! The reload of a module (`importlib.reload`).
 ghost use Rattle.std.specs.Prelude.{◌≡◌};
-ghost use Rattle.py_meaning.specs.Pieces as pieces;
+ghost use Rattle.meaning_script.specs.Pieces as pieces;
 ghost use Rattle.reload_lazy.specs.declared.reloader.ReloadStage.TheVariants as stages;
 
 use base_types::{Seq, Texts};
 use find_load::most;
-use py_faults::Fault;
-use py_state::Flow;
+use meaning_state::{Fault, Flow};
 use py_value::{Items, ModRef};
 use spec_core::{Dotted, Spec};
 

@@ -2,12 +2,12 @@
 ghost use Rattle.std.specs.Prelude.{◌<◌, IfOk};
 ghost use Rattle.machine_events.specs.declared.event.Event.TheVariants as ev;
 ghost use Rattle.machine_events.specs.declared.event.Reply.TheVariants as replies;
-ghost use Rattle.run_rules.specs.Runs.{Makes};
+ghost use Rattle.meaning_runs.specs.Runs.{Makes};
 ghost use Rattle.find_load.specs.Means.{wants};
 ghost use Rattle.find_load.specs.declared.words.In.TheVariants as ins;
-ghost use Rattle.py_faults.specs.declared.fault.Fault.TheVariants as faults;
-ghost use Rattle.py_meaning.specs.Pieces.{fails, passes};
-ghost use Rattle.py_meaning.specs.Lazy.{rouses};
+ghost use Rattle.meaning_state.specs.declared.fault.Fault.TheVariants as faults;
+ghost use Rattle.meaning_script.specs.Pieces.{fails, passes};
+ghost use Rattle.meaning_script.specs.Lazy.{rouses};
 ghost use Rattle.reload_lazy.specs.Rouse.{RouseGoes, means};
 ghost use Rattle.reload_lazy.specs.Rousing.{again, does_at, goes_on_by};
 ghost use Rattle.reload_lazy.specs.declared.rouser.RouseStage.TheVariants as stages;
@@ -16,8 +16,7 @@ use crate::rouser::{RouseStage, Rouser};
 use base_types::{Exact, NoMemory, Seq};
 use find_load::{In, Want, most};
 use machine_events::{Event, Reply};
-use py_faults::{Fault, raised};
-use py_state::{Flow, Leave};
+use meaning_state::{Fault, Flow, Leave, raised};
 use py_value::Value;
 use std::mem;
 

@@ -1,10 +1,10 @@
 //! The first use of a lazy module.
 ghost use Rattle.std.specs.Prelude.{◌≡◌};
-ghost use Rattle.py_meaning.specs.Pieces as pieces;
+ghost use Rattle.meaning_script.specs.Pieces as pieces;
 ghost use Rattle.reload_lazy.specs.declared.rouser.RouseStage.TheVariants as stages;
 
 use find_load::most;
-use py_state::Flow;
+use meaning_state::Flow;
 use py_value::ModRef;
 
 /// What the first use of a module waits for.

@@ -2,11 +2,11 @@
 ghost use Rattle.std.specs.Prelude.{◌≡◌, ◌<◌, IfOk};
 ghost use Rattle.machine_events.specs.declared.event.Event.TheVariants as ev;
 ghost use Rattle.machine_events.specs.declared.event.Reply.TheVariants as replies;
-ghost use Rattle.run_rules.specs.Runs.{Makes};
-ghost use Rattle.py_faults.specs.declared.fault.Fault.TheVariants as faults;
+ghost use Rattle.meaning_runs.specs.Runs.{Makes};
+ghost use Rattle.meaning_state.specs.declared.fault.Fault.TheVariants as faults;
 ghost use Rattle.find_load.specs.declared.words.In.TheVariants as ins;
-ghost use Rattle.py_meaning.specs.Pieces.{most, pay};
-ghost use Rattle.py_meaning.specs.Reload.{spec_found, stops, text_found};
+ghost use Rattle.meaning_script.specs.Pieces.{most, pay};
+ghost use Rattle.meaning_script.specs.Reload.{spec_found, stops, text_found};
 ghost use Rattle.reload_lazy.specs.Reload.{ReloadGoes, meant, named, takes};
 ghost use Rattle.reload_lazy.specs.Reloading.{again, body_again, called, does_at, keeps_state, loads_found, stops_at, take_event};
 ghost use Rattle.reload_lazy.specs.declared.reloader.Awaited.TheVariants as await;
@@ -17,7 +17,7 @@ use crate::waits::wait_for;
 use base_types::{Exact, NoMemory, Seq, Texts};
 use find_load::{Want, most};
 use machine_events::{Event, Reply};
-use py_faults::Fault;
+use meaning_state::Fault;
 use py_value::{Items, ModRef, NsState};
 use spec_core::{Dotted, Spec, SpecKind};
 

@@ -1,3 +1,4 @@
 pub mod Mentioned
 pub mod Texts
 pub mod Trees
+pub mod Sources

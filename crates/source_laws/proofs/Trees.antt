@@ -4,19 +4,19 @@ use Rattle.std.specs.List.{AllByRecursion}
 use Rattle.std.specs.Str.{IsUtf8}
 use Rattle.std.specs.Prelude.{IsTrue}
 use Rattle.spec_core.specs.Identifiers.{is_dotted}
-use Rattle.py_lexemes.specs.Words.{lexemes_of}
+use Rattle.source_lexemes.specs.Words.{lexemes_of}
 use Rattle.py_syntax.specs.declared.lexeme.Lexeme.{Lexeme}
 use Rattle.py_syntax.specs.declared.lexeme.Lexeme.TheVariants as token
 use Rattle.py_syntax.specs.declared.stmt.Script.{Script}
 use Rattle.py_syntax.specs.Grammar.{Spells}
-use Rattle.printed_lines.specs.Lines.{Held}
-use Rattle.printed_text.specs.Laws.{IsSource}
-use Rattle.printed_text.proofs.Sources.{Writable, tokens_writable}
+use Rattle.source_spec_print.specs.Lines.{Held}
+use Rattle.source_spec_text.specs.Laws.{IsSource}
+use Rattle.source_spec_text.proofs.Sources.{Writable, tokens_writable}
 use Rattle.py_parser.specs.Parses as parses
 use Rattle.py_parser.specs.Parses.{Answer, Parses}
 use Rattle.py_parser.specs.Parsed.{parsed}
 use Rattle.py_parser.proofs.Computed.{parses_so}
-use Rattle.py_functions.proofs.Numbers.{numbered}
+use Rattle.source_functions.proofs.Numbers.{numbered}
 use Rattle.source_laws.specs.Laws.{dotted_text, FunctionsAreNumbered, NamesAreGood}
 use Rattle.source_laws.proofs.Mentioned.{IsFine, script_told}
 use Rattle.source_laws.proofs.Texts.{IsGoodName, good_name, names_dotted}

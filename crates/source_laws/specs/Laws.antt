@@ -7,7 +7,7 @@ use Rattle.spec_core.specs.Names.{joined}
 use Rattle.py_syntax.specs.declared.stmt.FuncDef.{FuncDef}
 use Rattle.py_syntax.specs.declared.stmt.Script.{Script}
 use Rattle.py_parser.specs.Parsed.{parsed}
-use Rattle.py_functions.specs.Functions.{function_of}
+use Rattle.source_functions.specs.Functions.{function_of}
 use Rattle.source_laws.specs.Mentions.{Mention, Named, Dotted, mentions}
 
 -- the function of a number has this number

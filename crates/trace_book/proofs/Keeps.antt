@@ -10,7 +10,7 @@ use mathlib.Core.Logic.{dite}
 use native.Mathlib.Decide.{ℕ_discrete}
 use Rattle.machine_events.specs.declared.event.Entry.{Entry}
 use Rattle.trace_book.specs.declared.view.Base.{Base}
-use Rattle.thread_knowledge.specs.Own.{own}
+use Rattle.machine_shown.specs.Own.{own}
 use Rattle.machine_book.specs.Bound.{BoundTo}
 use Rattle.machine_desk.specs.Outgo.{Outgo, Pieces}
 use Rattle.machine_book.proofs.Histories.{own_snoc}

@@ -8,12 +8,12 @@ use Rattle.machine_events.specs.declared.event.Event.{Event}
 use Rattle.machine_events.specs.declared.event.Reply.{Reply}
 use Rattle.machine_events.specs.declared.event.Entry.{Entry}
 use Rattle.machine_events.specs.Fitting.{Fits}
-use Rattle.machine_state.specs.declared.state.State.{State}
-use Rattle.machine_state.specs.Allowed.{allowed}
-use Rattle.machine_state.specs.Legal.{Allowed, IsLegal, replay}
+use Rattle.machine_spec.specs.declared.state.State.{State}
+use Rattle.machine_spec.specs.Allowed.{allowed}
+use Rattle.machine_spec.specs.Legal.{Allowed, IsLegal, replay}
 use Rattle.machine_laws.specs.Begun.{Begun, first}
-use Rattle.thread_knowledge.specs.Own.{own, Ready as HasTurn}
-use Rattle.thread_knowledge.specs.Knowing.{Knows}
+use Rattle.machine_shown.specs.Own.{own, Ready as HasTurn}
+use Rattle.machine_shown.specs.Knowing.{Knows}
 use Rattle.machine_book.specs.Bound.{BoundTo}
 use Rattle.machine_desk.specs.Outgo.{Outgo, Pieces, Kept}
 use Rattle.machine_desk.specs.Sight.{Sight, Continues, Gains}

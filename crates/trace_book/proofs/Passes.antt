@@ -14,7 +14,7 @@ use lib.ListN.{get_elem?}
 use Rattle.atomic_table.specs.Table.{State, keeps, Allows, Splits, Joins, Final, Seen, opening, step}
 use Rattle.machine_events.specs.declared.event.Entry.{Entry}
 use Rattle.trace_book.specs.declared.view.Base.{Base}
-use Rattle.thread_knowledge.specs.Own.{own}
+use Rattle.machine_shown.specs.Own.{own}
 use Rattle.machine_book.specs.Bound.{BoundTo}
 use Rattle.machine_desk.specs.Outgo.{Outgo, Pieces}
 use Rattle.trace_book.proofs.Owns.{own_append, own_has, own_tail}

@@ -5,7 +5,7 @@ use mathlib.Core.List.{IsPrefix}
 use lib.ListN.{get_elem?}
 use Rattle.atomic_table.specs.Table.{State}
 use Rattle.machine_events.specs.declared.event.Entry.{Entry}
-use Rattle.thread_knowledge.specs.Own.{own}
+use Rattle.machine_shown.specs.Own.{own}
 use Rattle.machine_book.specs.Bound.{BoundTo}
 use Rattle.machine_desk.specs.Outgo.{Outgo, Pieces, Kept}
 use Rattle.trace_book.specs.declared.view.Base.{Base}

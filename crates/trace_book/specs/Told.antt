@@ -4,7 +4,7 @@ pub use Rattle.atomic_table.specs.Seated.{TableId}
 use Rattle.machine_events.specs.declared.event.Event.{Event}
 use Rattle.machine_events.specs.declared.event.Reply.{Reply}
 use Rattle.machine_events.specs.declared.event.Entry.{Entry}
-use Rattle.thread_knowledge.specs.Own.{own}
+use Rattle.machine_shown.specs.Own.{own}
 use Rattle.machine_desk.specs.Outgo.{Outgo}
 use Rattle.machine_desk.specs.Sight.{Sight}
 use Rattle.trace_book.specs.declared.view.Base.{Base}

@@ -1,7 +1,7 @@
 -- Views, and how a step changes one.
 use Rattle.std.specs.Prelude.{◌≡◌, ℕ, zero, suc, ◌+◌, ◌<◌, ◌≤◌, ◌⊎◌, List, [], ◌∷◌, ◌++◌, length, leb, Bool, true, false, Option, Some, None}
 use Rattle.machine_events.specs.declared.event.Entry.{Entry}
-use Rattle.machine_state.specs.Opening.{opening}
+use Rattle.machine_spec.specs.Opening.{opening}
 use Rattle.machine_desk.specs.declared.outlet.Flow.TheVariants.{Open}
 use Rattle.machine_book.specs.Bound.{BoundTo}
 use Rattle.machine_desk.specs.Outgo.{Outgo}

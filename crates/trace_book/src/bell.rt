@@ -1,7 +1,7 @@
 //! Where those wait who found the turn taken, or their lock.
 ghost use Rattle.std.specs.Prelude.{◌≡◌, false, None};
-ghost use Rattle.machine_state.specs.declared.state.State.{State};
-ghost use Rattle.machine_state.specs.Gives.{gives};
+ghost use Rattle.machine_spec.specs.declared.state.State.{State};
+ghost use Rattle.machine_spec.specs.Gives.{gives};
 ghost use Rattle.trace_book.specs.Frees.{frees};
 
 use machine_events::Event;

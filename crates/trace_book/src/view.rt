@@ -1,7 +1,7 @@
 //! What a pass knows. No value of it is made.
 use machine_desk::Flow;
 use machine_events::Entry;
-use machine_state::State;
+use machine_spec::State;
 use std::collections::LinkedList;
 
 /// What an outlet was when a shelf was opened: its flag, what it had written, where it tells that,

@@ -6,8 +6,8 @@ use Rattle.std.proofs.lemmas.Option.{slice_get_within}
 use Rattle.machine_events.specs.declared.event.Entry.{Entry}
 use Rattle.machine_events.specs.declared.event.Follow.{Follow}
 use Rattle.machine_events.specs.declared.event.Follow.TheVariants as ways
-use Rattle.machine_state.specs.declared.state.State.{State}
-use Rattle.machine_state.specs.Legal.{IsLegal}
+use Rattle.machine_spec.specs.declared.state.State.{State}
+use Rattle.machine_spec.specs.Legal.{IsLegal}
 use Rattle.trace_check.specs.declared.answers.Counts.{Counts}
 use Rattle.trace_check.specs.declared.answers.Why.{Why}
 use Rattle.trace_check.specs.declared.answers.Why.TheVariants as cause

@@ -6,7 +6,7 @@ use Rattle.std.proofs.lemmas.List.{take_more, take-take, length-map}
 use Rattle.std.proofs.lemmas.List.Sums.{count_by_more_yes, sum_by-take-le, sum_by-cons, length-filter}
 use Rattle.std.proofs.lemmas.Option.{slice_get_within, get_or_from_slice_get}
 use Rattle.machine_events.specs.declared.event.Entry.{Entry}
-use Rattle.thread_knowledge.specs.Own.{own}
+use Rattle.machine_shown.specs.Own.{own}
 use Rattle.trace_check.specs.Judge.{made, IsPlaceOf}
 
 -- a history up to one place more

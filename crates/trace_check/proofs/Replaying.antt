@@ -6,10 +6,10 @@ use Rattle.std.proofs.lemmas.List.{take_more, take-take}
 use Rattle.std.proofs.lemmas.Option.{slice_get_past}
 use Rattle.machine_events.specs.declared.event.Event.{Event}
 use Rattle.machine_events.specs.declared.event.Entry.{Entry}
-use Rattle.machine_state.specs.declared.state.State.{State}
-use Rattle.machine_state.specs.Step.{step}
-use Rattle.machine_state.specs.Allowed.{scripts, is_due, is_due_from, has_ended, has_leave}
-use Rattle.machine_state.specs.Legal.{Allowed, IsLegal, replay}
+use Rattle.machine_spec.specs.declared.state.State.{State}
+use Rattle.machine_spec.specs.Step.{step}
+use Rattle.machine_spec.specs.Allowed.{scripts, is_due, is_due_from, has_ended, has_leave}
+use Rattle.machine_spec.specs.Legal.{Allowed, IsLegal, replay}
 use Rattle.trace_check.specs.declared.answers.Why.{Why}
 use Rattle.trace_check.specs.declared.answers.Why.TheVariants as cause
 use Rattle.trace_check.specs.declared.answers.Replayed.{Replayed}

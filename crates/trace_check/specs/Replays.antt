@@ -3,10 +3,10 @@ use Rattle.std.specs.Prelude.{ℕ, ◌≡◌, ◌<◌, ◌≤◌, Bool, true, fa
 use Rattle.machine_events.specs.declared.event.Reply.{Reply}
 use Rattle.machine_events.specs.declared.event.Reply.TheVariants as r
 use Rattle.machine_events.specs.declared.event.Entry.{Entry}
-use Rattle.machine_state.specs.declared.state.State.{State}
-use Rattle.machine_state.specs.Allowed.{allowed, scripts}
-use Rattle.machine_state.specs.Step.{step}
-use Rattle.machine_state.specs.Legal.{Allowed, IsLegal, replay}
+use Rattle.machine_spec.specs.declared.state.State.{State}
+use Rattle.machine_spec.specs.Allowed.{allowed, scripts}
+use Rattle.machine_spec.specs.Step.{step}
+use Rattle.machine_spec.specs.Legal.{Allowed, IsLegal, replay}
 use Rattle.trace_check.specs.declared.answers.Counts.{Counts}
 use Rattle.trace_check.specs.declared.answers.Why.{Why}
 use Rattle.trace_check.specs.declared.answers.Why.TheVariants as cause

@@ -2,9 +2,9 @@
 ghost use Rattle.std.specs.Prelude.{◌≡◌, ◌↔◌, ℕ, List, length};
 ghost use Rattle.machine_events.specs.declared.event.Entry.{Entry};
 ghost use Rattle.machine_events.specs.declared.event.Follow.{Follow};
-ghost use Rattle.machine_state.specs.declared.state.State.{State};
-ghost use Rattle.machine_state.specs.Legal.{IsLegal};
-ghost use Rattle.thread_knowledge.specs.Own.{own};
+ghost use Rattle.machine_spec.specs.declared.state.State.{State};
+ghost use Rattle.machine_spec.specs.Legal.{IsLegal};
+ghost use Rattle.machine_shown.specs.Own.{own};
 ghost use Rattle.trace_check.specs.declared.answers.Replayed.{Replayed};
 ghost use Rattle.trace_check.specs.declared.answers.Verdict.{Verdict};
 ghost use Rattle.trace_check.specs.declared.answers.Replayed.TheVariants as answers;

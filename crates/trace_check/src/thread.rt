@@ -1,7 +1,7 @@
 //! What one thread sees of a history.
 ghost use Rattle.std.specs.Prelude.{◌≡◌, map, IfOk};
 ghost use Rattle.machine_events.specs.declared.event.Pair.{Pair};
-ghost use Rattle.thread_knowledge.specs.Own as knowledge;
+ghost use Rattle.machine_shown.specs.Own as knowledge;
 
 use base_types::{Exact, NoMemory, Seq};
 use machine_events::{Entry, Pair};

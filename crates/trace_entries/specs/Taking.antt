@@ -8,13 +8,13 @@ use Rattle.py_value.specs.declared.value.Raised.{Raised}
 use Rattle.py_value.specs.declared.value.NsState.{NsState}
 use Rattle.py_value.specs.declared.value.Value.{Value}
 use Rattle.machine_events.specs.declared.module.Slot.{Slot}
-use Rattle.decimal_text.specs.Numbers.{number_in}
-use Rattle.quoted_text.specs.Read.{text_in, source_in}
+use Rattle.base_spelling.specs.Numbers.{number_in}
+use Rattle.base_spelling.specs.Read.{text_in, source_in}
 use Rattle.trace_fields.specs.declared.refusal.Cause.{Cause}
 use Rattle.trace_fields.specs.declared.refusal.Cause.TheVariants as cause
 use Rattle.trace_fields.specs.Reading.{Fields, ◌>>=◌, taken}
 use Rattle.trace_fields.specs.Fields.{small_number_in, name_in, any_name_in, variable_in, lookup}
-use Rattle.trace_values.specs.Values.{place_in_path_in, load_in, module_in, error_in, slot_in, value_in, values_in, texts_in, spec_kind_in, state_in, tree_path_in}
+use Rattle.trace_fields.specs.Values.{place_in_path_in, load_in, module_in, error_in, slot_in, value_in, values_in, texts_in, spec_kind_in, state_in, tree_path_in}
 
 -- what the front fields hold, with the fields behind them; or why the first refused one holds nothing
 abbrev pub Taken : Type 0 → Type 0

@@ -4,17 +4,16 @@ ghost use Rattle.trace_fields.specs.Splitting.{views};
 ghost use Rattle.trace_fields.specs.Reading.{Gives, first};
 ghost use Rattle.trace_entries.specs.Taking as taking;
 
+use base_spelling::{read_number, read_quoted, read_source};
 use base_types::{Seq, Text, Texts, TreePath};
-use decimal_text::read_number;
 use machine_events::Slot;
 use py_value::{Items, ModRef, NsState, Raised, Value};
-use quoted_text::{read_quoted, read_source};
 use spec_core::{Dotted, SpecKind};
 use std::alloc::Global;
-use trace_fields::{Cause, Refusal, any_name_in, lookup, name_in, small_number_in, variable_in};
-use trace_values::{
-    error_in, load_in, module_in, place_in_path_in, slot_in, spec_kind_in, state_in, texts_in,
-    tree_path_in, value_in, values_in,
+use trace_fields::{
+    Cause, Refusal, any_name_in, error_in, load_in, lookup, module_in, name_in, place_in_path_in,
+    slot_in, small_number_in, spec_kind_in, state_in, texts_in, tree_path_in, value_in, values_in,
+    variable_in,
 };
 
 /// The first field and those behind it.

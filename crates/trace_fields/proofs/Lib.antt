@@ -2,3 +2,8 @@ pub mod Cuts
 pub mod Closed
 pub mod Names
 pub mod Quoting
+pub mod Items
+pub mod ValuePieces
+pub mod Whole
+pub mod Signs
+pub mod Paths

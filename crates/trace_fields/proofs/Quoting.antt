@@ -2,7 +2,7 @@
 use Rattle.std.proofs.Common.{◌≡◌, ◌∙◌, refl, sym, ap, subst, ℕ, zero, suc, ◌+◌, ◌/◌, ◌%◌, ◌<◌, List, [], ◌∷◌, ◌++◌, Bool, true, false, not, ◌&&◌, eqb, codes, arith, inl, inr}
 use Rattle.std.proofs.lemmas.Bool.{cases_Bool, cases_eq, and_from, cond-true, cond-false}
 use Rattle.std.specs.List.{flat_map}
-use Rattle.quoted_text.specs.Spelling.{hex_digit, hex_byte, is_escaped, escape, escaped, quoted}
+use Rattle.base_spelling.specs.Spelling.{hex_digit, hex_byte, is_escaped, escape, escaped, quoted}
 use Rattle.trace_fields.specs.declared.pieces.Scan.{Scan}
 use Rattle.trace_fields.specs.declared.pieces.Scan.TheVariants as scan
 use Rattle.trace_fields.specs.Splitting.{next, next_quoted}

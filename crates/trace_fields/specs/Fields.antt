@@ -3,8 +3,8 @@ use Rattle.std.specs.Prelude.{ℕ, ◌^◌, List, [], ◌∷◌, map, Bool, nat_
 use Rattle.std.specs.Borrow.{Bor}
 use Rattle.std.specs.Str.{chars, is_utf8, bytes_eq}
 use Rattle.spec_core.specs.Identifiers.{is_identifier, is_dotted}
-use Rattle.decimal_text.specs.Numbers.{number_in}
-use Rattle.quoted_text.specs.Read.{text_in}
+use Rattle.base_spelling.specs.Numbers.{number_in}
+use Rattle.base_spelling.specs.Read.{text_in}
 
 -- a number below 2 ^ 32
 abbrev pub below_u32 : Option ℕ → Option ℕ

@@ -1,12 +1,11 @@
 //! What a single field holds.
 ghost use Rattle.std.specs.Prelude.{◌≡◌, IfOk, IfSome};
-ghost use Rattle.decimal_text.specs.Numbers.{number_in};
-ghost use Rattle.quoted_text.specs.Read.{text_in, source_in};
+ghost use Rattle.base_spelling.specs.Numbers.{number_in};
+ghost use Rattle.base_spelling.specs.Read.{text_in, source_in};
 ghost use Rattle.trace_fields.specs.Fields as held;
 
+use base_spelling::{read_number, read_quoted};
 use base_types::{NoMemory, Text};
-use decimal_text::read_number;
-use quoted_text::read_quoted;
 use spec_core::{Dotted, is_ident};
 use std::alloc::Global;
 use std::str;

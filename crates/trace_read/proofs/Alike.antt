@@ -6,7 +6,7 @@ use Rattle.trace_text.specs.Fields.{entry_fields}
 use Rattle.trace_text.specs.Trace.{unsplit, line}
 use Rattle.trace_fields.specs.declared.refusal.Cause.{Cause}
 use Rattle.trace_entries.specs.Entries.{entry_in}
-use Rattle.trace_lines.specs.Reading.{format_of, trace_in}
+use Rattle.trace_read.specs.Reading.{format_of, trace_in}
 use Rattle.trace_read.specs.Fitting.{entry_fits, entry_bytes, entries_fit, entries_bytes}
 use Rattle.trace_read.specs.Text.{text_of}
 use Rattle.trace_read.proofs.Entries.{entry_again, entry_told}

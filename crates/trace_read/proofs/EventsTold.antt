@@ -5,20 +5,20 @@ use Rattle.std.proofs.lemmas.Option.{option_and_then_some}
 use Rattle.std.specs.Fmt.{decimal}
 use Rattle.base_types.specs.Path.{joined}
 use Rattle.spec_core.specs.declared.spec.Spec.{Spec}
-use Rattle.decimal_text.specs.Numbers.{number_in}
-use Rattle.quoted_text.specs.Spelling.{quoted}
-use Rattle.quoted_text.specs.Read.{text_in, source_in}
+use Rattle.base_spelling.specs.Numbers.{number_in}
+use Rattle.base_spelling.specs.Spelling.{quoted}
+use Rattle.base_spelling.specs.Read.{text_in, source_in}
 use Rattle.trace_text.specs.Values.{variable_text, value_text, spec_text, place_in_path}
 use Rattle.trace_fields.specs.declared.refusal.Cause.TheVariants as cause
 use Rattle.trace_fields.specs.Reading.{Fields, ◌>>=◌}
 use Rattle.trace_fields.specs.Fields.{small_number_in, name_in, any_name_in, variable_in, lookup}
-use Rattle.trace_values.specs.Values.{place_in_path_in, load_in, error_in, slot_in, value_in, texts_in, spec_kind_in, state_in, tree_path_in}
+use Rattle.trace_fields.specs.Values.{place_in_path_in, load_in, error_in, slot_in, value_in, texts_in, spec_kind_in, state_in, tree_path_in}
 use Rattle.trace_entries.specs.Taking.{number_at, source_at, any_name_at, variable_at, load_at, slot_at, value_at, texts_at, spec_kind_at, state_at, flag_in, raw_at, good_at}
-use Rattle.trace_spellings.proofs.Held.{some_is, other_option, any_name_takes, variable_takes, lookup_takes}
-use Rattle.trace_value_laws.proofs.Signed.{place_takes, load_takes}
-use Rattle.trace_value_laws.proofs.Modules.{text_told, error_told, slot_told}
-use Rattle.trace_value_laws.proofs.Told.{value_told}
-use Rattle.trace_value_laws.proofs.Lists.{texts_told, spec_told, state_told}
+use Rattle.trace_laws.proofs.Held.{some_is, other_option, any_name_takes, variable_takes, lookup_takes}
+use Rattle.trace_laws.proofs.Signed.{place_takes, load_takes}
+use Rattle.trace_laws.proofs.Modules.{text_told, error_told, slot_told}
+use Rattle.trace_laws.proofs.Told.{value_told}
+use Rattle.trace_laws.proofs.Lists.{texts_told, spec_told, state_told}
 use Rattle.trace_read.proofs.Taking.{step, bind_ok, ok_is}
 use Rattle.trace_read.proofs.FieldKinds.{small_told, number_told, name_told, source_told, tree_path_told, raw_told, good_told}
 use Rattle.machine_events.specs.declared.event.Event.{Event}

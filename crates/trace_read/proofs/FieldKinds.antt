@@ -9,23 +9,23 @@ use Rattle.std.specs.Option.{option_and_then}
 use Rattle.std.specs.Fmt.{decimal}
 use Rattle.std.specs.Str.{is_utf8}
 use Rattle.base_types.specs.Path.{Path, is_part, joined}
-use Rattle.decimal_text.specs.Numbers.{number_in}
-use Rattle.decimal_text.proofs.Spelled.{number_takes, number_again}
-use Rattle.quoted_text.specs.Spelling.{quoted, source}
-use Rattle.quoted_text.specs.Read.{text_in, source_in}
-use Rattle.quoted_text.proofs.Takes.{source_takes, source_again}
+use Rattle.base_spelling.specs.Numbers.{number_in}
+use Rattle.base_spelling.proofs.Spelled.{number_takes, number_again}
+use Rattle.base_spelling.specs.Spelling.{quoted, source}
+use Rattle.base_spelling.specs.Read.{text_in, source_in}
+use Rattle.base_spelling.proofs.Takes.{source_takes, source_again}
 use Rattle.trace_text.specs.Fields.{raw_word, good_word, init_word, yes_word}
 use Rattle.trace_fields.specs.Fields.{small_number_in, name_in}
 use Rattle.trace_fields.proofs.Closed.{Closed, ordinary_closed}
-use Rattle.trace_values.specs.Values.{parts_of, tree_path_of, tree_path_in}
-use Rattle.trace_values.proofs.Paths.{path_again}
+use Rattle.trace_fields.specs.Values.{parts_of, tree_path_of, tree_path_in}
+use Rattle.trace_fields.proofs.Paths.{path_again}
 use Rattle.trace_entries.specs.Taking.{flag_in}
-use Rattle.trace_spellings.proofs.Naming.{dotted_ordinary}
-use Rattle.trace_spellings.proofs.Held.{some_is, chosen, small_number_takes, small_number_again, name_takes, name_again, lookup_takes}
-use Rattle.trace_spellings.proofs.Sources.{source_closed}
+use Rattle.trace_laws.proofs.Naming.{dotted_ordinary}
+use Rattle.trace_laws.proofs.Held.{some_is, chosen, small_number_takes, small_number_again, name_takes, name_again, lookup_takes}
+use Rattle.trace_laws.proofs.Sources.{source_closed}
 use Rattle.spec_core.specs.Identifiers.{is_dotted}
-use Rattle.trace_value_laws.specs.Fitting.{name_fits, tree_path_fits}
-use Rattle.trace_value_laws.proofs.Modules.{text_read, text_told, number_closed}
+use Rattle.trace_laws.specs.Fitting.{name_fits, tree_path_fits}
+use Rattle.trace_laws.proofs.Modules.{text_read, text_told, number_closed}
 use Rattle.trace_read.specs.Fitting.{small_fits, number_fits, are_bytes}
 
 -- ---- numbers and names

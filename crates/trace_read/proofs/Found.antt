@@ -1,10 +1,10 @@
 -- What the reader answers.
 use Rattle.std.proofs.Common.{ℕ, List, Result, Ok, Err, IfOk}
 use Rattle.std.specs.Result.{IfErr}
-use Rattle.trace_lines.specs.declared.trace.Trace.{Trace}
-use Rattle.trace_lines.specs.declared.trace.TraceError.{TraceError}
-use Rattle.trace_lines.specs.declared.trace.TraceError.TheVariants as error
-use Rattle.trace_lines.specs.Reading.{Gives, format_and_entries, trace_in}
+use Rattle.trace_read.specs.declared.trace.Trace.{Trace}
+use Rattle.trace_read.specs.declared.trace.TraceError.{TraceError}
+use Rattle.trace_read.specs.declared.trace.TraceError.TheVariants as error
+use Rattle.trace_read.specs.Reading.{Gives, format_and_entries, trace_in}
 use Rattle.trace_read.specs.Text.{Spelled}
 use Rattle.trace_read.specs.Refusing.{IsRefusal}
 use Rattle.trace_read.proofs.Lines.{trace_told}

@@ -1,3 +1,5 @@
+pub mod Steps
+pub mod Refusing
 pub mod Taking
 pub mod FieldKinds
 pub mod EventsTold

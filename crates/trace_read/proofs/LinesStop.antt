@@ -5,7 +5,7 @@ use Rattle.trace_fields.specs.declared.refusal.Cause.{Cause}
 use Rattle.trace_fields.specs.declared.refusal.Cause.TheVariants as cause
 use Rattle.trace_fields.specs.Splitting.{split}
 use Rattle.trace_entries.specs.Entries.{entry_in}
-use Rattle.trace_lines.specs.Reading.{Read, behind, with_entry, last, entries_in, format_in, with_format, opened, lines_in, pieces, trace_in}
+use Rattle.trace_read.specs.Reading.{Read, behind, with_entry, last, entries_in, format_in, with_format, opened, lines_in, pieces, trace_in}
 use Rattle.trace_read.specs.Refusing.{NoFirstLine, Refused, RefusedFrom, RefusedLater, RefusedTrace}
 use Rattle.trace_read.proofs.Refusals.{refused_there}
 

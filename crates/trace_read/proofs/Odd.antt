@@ -8,15 +8,15 @@ use Rattle.std.specs.Char.{is_ascii_digit}
 use Rattle.std.specs.Str.{is_utf8}
 use Rattle.std.specs.Str.Parse.{digits_value}
 use Rattle.spec_core.specs.Identifiers.{is_dotted}
-use Rattle.decimal_text.specs.Numbers.{is_number, number_in}
-use Rattle.decimal_text.proofs.Spelled.{parts}
-use Rattle.quoted_text.specs.Spelling.{quoted, in_hex}
-use Rattle.quoted_text.specs.Read.{text_in, source_in}
-use Rattle.quoted_text.proofs.Takes.{text_takes, source_takes}
+use Rattle.base_spelling.specs.Numbers.{is_number, number_in}
+use Rattle.base_spelling.proofs.Spelled.{parts}
+use Rattle.base_spelling.specs.Spelling.{quoted, in_hex}
+use Rattle.base_spelling.specs.Read.{text_in, source_in}
+use Rattle.base_spelling.proofs.Takes.{text_takes, source_takes}
 use Rattle.trace_fields.specs.Fields.{name_in}
 use Rattle.trace_fields.proofs.Closed.{is_ordinary}
-use Rattle.trace_spellings.proofs.Naming.{dotted_ordinary}
-use Rattle.trace_spellings.proofs.Held.{chosen, name_takes}
+use Rattle.trace_laws.proofs.Naming.{dotted_ordinary}
+use Rattle.trace_laws.proofs.Held.{chosen, name_takes}
 use Rattle.trace_entries.specs.EventWords.{any_event_word, event_word_in}
 use Rattle.trace_entries.specs.EventWords as events
 use Rattle.trace_entries.specs.ReplyWords.{any_reply_word, reply_word_in}

@@ -2,8 +2,8 @@
 use Rattle.std.specs.Prelude.{◌≡◌, ℕ, ◌+◌, List, [], ◌∷◌, ◌++◌, length, codes, Bool, Option, Some, None, Ok, ◌⊎◌}
 use Rattle.std.specs.List.{AllByRecursion}
 use Rattle.machine_events.specs.declared.event.Entry.{Entry}
-use Rattle.decimal_text.specs.Numbers.{number_in}
-use Rattle.quoted_text.specs.Read.{text_in, source_in}
+use Rattle.base_spelling.specs.Numbers.{number_in}
+use Rattle.base_spelling.specs.Read.{text_in, source_in}
 use Rattle.trace_fields.specs.declared.refusal.Cause.{Cause}
 use Rattle.trace_fields.specs.declared.refusal.Cause.TheVariants as cause
 use Rattle.trace_fields.specs.Splitting.{split}
@@ -12,9 +12,9 @@ use Rattle.trace_fields.specs.Fields.{name_in}
 use Rattle.trace_entries.specs.EventWords.{event_word_in}
 use Rattle.trace_entries.specs.ReplyWords.{reply_word_in}
 use Rattle.trace_entries.specs.Entries.{entry_of, entry_in}
-use Rattle.trace_lines.specs.declared.trace.TraceError.{TraceError}
-use Rattle.trace_lines.specs.declared.trace.TraceError.TheVariants as error
-use Rattle.trace_lines.specs.Reading.{format_in, pieces}
+use Rattle.trace_read.specs.declared.trace.TraceError.{TraceError}
+use Rattle.trace_read.specs.declared.trace.TraceError.TheVariants as error
+use Rattle.trace_read.specs.Reading.{format_in, pieces}
 
 -- it holds something
 abbrev pub Is : {X : Type 0} → Option X → Type 0

@@ -3,7 +3,7 @@ use Rattle.std.specs.Prelude.{◌≡◌, ℕ, List, [], ◌∷◌, ◌++◌, cod
 use Rattle.std.specs.List.{flat_map}
 use Rattle.machine_events.specs.declared.event.Entry.{Entry}
 use Rattle.trace_text.specs.Trace.{line, first_line}
-use Rattle.trace_lines.specs.Reading.{format_of}
+use Rattle.trace_read.specs.Reading.{format_of}
 use Rattle.trace_read.specs.Fitting.{entries_fit}
 
 -- `old` is format 1

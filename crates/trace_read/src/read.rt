@@ -2,13 +2,13 @@
 ghost use Rattle.std.specs.Prelude.{◌≡◌, List, Bool, true, IfOk, Ok};
 ghost use Rattle.std.specs.Result.{IfErr};
 ghost use Rattle.machine_events.specs.declared.event.Entry.{Entry};
-ghost use Rattle.trace_lines.specs.Reading.{Gives, format_and_entries, format_of, trace_in};
+ghost use Rattle.trace_read.specs.Reading.{Gives, format_and_entries, format_of, trace_in};
 ghost use Rattle.trace_read.specs.Fitting.{entries_fit, entries_bytes};
 ghost use Rattle.trace_read.specs.Text.{Spelled, text_of};
 ghost use Rattle.trace_read.specs.Refusing.{IsRefusal};
 
+use crate::{Trace, TraceError, trace_in};
 use std::alloc::Global;
-use trace_lines::{Trace, TraceError, trace_in};
 
 /// The format, 2 or 1, and the entries of a trace. Where the bytes are no trace: the first line that is no line of the
 /// format, counted from 1, and what could stand in its first field at which no line goes on.

@@ -10,7 +10,7 @@ use Rattle.machine_events.specs.declared.event.Reply.TheVariants as r
 use Rattle.machine_events.specs.declared.event.Outcome.{Outcome}
 use Rattle.machine_events.specs.declared.event.Outcome.TheVariants as outcomes
 use Rattle.machine_events.specs.declared.event.Entry.{Entry}
-use Rattle.quoted_text.specs.Spelling.{quoted, source}
+use Rattle.base_spelling.specs.Spelling.{quoted, source}
 use Rattle.trace_text.specs.Values.{name_text, variable_text, texts_text, module_text, error_text, value_text, values_text, spec_text, slot_text, state_text, place_in_path, load_text}
 
 -- the fields of a line or of a part of it, each as it is spelled

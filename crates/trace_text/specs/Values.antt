@@ -18,7 +18,7 @@ use Rattle.py_value.specs.declared.value.Value.TheFolds.{fold-Value}
 use Rattle.py_value.specs.Names.{kind_name, native_name}
 use Rattle.machine_events.specs.declared.module.Slot.{Slot}
 use Rattle.machine_events.specs.declared.module.Slot.TheVariants as slots
-use Rattle.quoted_text.specs.Spelling.{quoted}
+use Rattle.base_spelling.specs.Spelling.{quoted}
 
 -- commas between, and no blanks
 abbrev pub with_commas : List (List ℕ) → List ℕ

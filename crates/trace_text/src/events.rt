@@ -2,7 +2,7 @@
 ghost use Rattle.std.specs.Prelude.{◌≡◌, ◌∷◌, [], ◌++◌, codes, IfOk};
 ghost use Rattle.std.specs.Fmt.{decimal};
 ghost use Rattle.base_types.specs.Path.{joined};
-ghost use Rattle.quoted_text.specs.Spelling.{quoted};
+ghost use Rattle.base_spelling.specs.Spelling.{quoted};
 ghost use Rattle.trace_text.specs.Values as text;
 ghost use Rattle.trace_text.specs.Fields as fields;
 ghost use Rattle.trace_text.specs.Trace.{spaced};

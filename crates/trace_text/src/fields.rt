@@ -1,17 +1,17 @@
 //! Single fields, each behind a blank.
 ghost use Rattle.std.specs.Prelude.{◌≡◌, ◌∷◌, ◌++◌, IfOk};
 ghost use Rattle.std.specs.Fmt.{decimal};
-ghost use Rattle.quoted_text.specs.Spelling.{quoted, source};
+ghost use Rattle.base_spelling.specs.Spelling.{quoted, source};
 ghost use Rattle.trace_text.specs.Values as text;
 
 use crate::values::{
     put_error, put_load, put_module, put_name, put_number, put_place_in_path, put_slot, put_spec,
     put_state, put_texts, put_value, put_values, put_variable,
 };
+use base_spelling::{put, write_quoted, write_source};
 use base_types::{NoMemory, Text, Texts};
 use machine_events::Slot;
 use py_value::{Items, ModRef, NsState, Raised, Value};
-use quoted_text::{put, write_quoted, write_source};
 use spec_core::SpecKind;
 
 /// A word, or a name that stands bare.

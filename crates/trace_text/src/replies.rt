@@ -1,7 +1,7 @@
 //! Replies.
 ghost use Rattle.std.specs.Prelude.{◌≡◌, ◌∷◌, [], ◌++◌, codes, IfOk};
 ghost use Rattle.std.specs.Fmt.{decimal};
-ghost use Rattle.quoted_text.specs.Spelling.{source};
+ghost use Rattle.base_spelling.specs.Spelling.{source};
 ghost use Rattle.trace_text.specs.Values as text;
 ghost use Rattle.trace_text.specs.Fields as fields;
 ghost use Rattle.trace_text.specs.Trace.{spaced};

@@ -6,9 +6,9 @@ ghost use Rattle.trace_text.specs.Trace.{line, trace};
 use crate::events::put_event;
 use crate::replies::put_reply;
 use crate::values::put_number;
+use base_spelling::put;
 use base_types::{NoMemory, Text};
 use machine_events::Entry;
-use quoted_text::put;
 use std::alloc::Global;
 
 #[tactic(auto, using(crate::proofs::Pieces::entry_line))]

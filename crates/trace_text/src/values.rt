@@ -1,14 +1,14 @@
 //! Values, modules, errors and specs.
 ghost use Rattle.std.specs.Prelude.{◌≡◌, ◌∷◌, [], ◌++◌, ◌==◌, codes, map, IfOk, if◌then◌else◌};
 ghost use Rattle.std.specs.Fmt.{decimal, signed_decimal};
-ghost use Rattle.quoted_text.specs.Spelling.{quoted};
+ghost use Rattle.base_spelling.specs.Spelling.{quoted};
 ghost use Rattle.spec_core.specs.Identifiers.{is_dotted};
 ghost use Rattle.trace_text.specs.Values as text;
 
+use base_spelling::{put, write_quoted};
 use base_types::{NoMemory, Text, Texts};
 use machine_events::Slot;
 use py_value::{Items, ModRef, NsState, Place, Raised, Value};
-use quoted_text::{put, write_quoted};
 use spec_core::{Dotted, SpecKind, is_ident};
 
 pub(crate) fn put_number(out: Text, n: u64) -> Result<Text, NoMemory>

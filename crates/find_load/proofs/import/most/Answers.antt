@@ -1,5 +1,5 @@
 use Rattle.std.proofs.Common.{refl}
-use Rattle.py_meaning.specs.Pieces.{most}
+use Rattle.meaning_script.specs.Pieces.{most}
 use Rattle.find_load.proofs.import.most.Goals as goal
 
 pub returns : goal.returns

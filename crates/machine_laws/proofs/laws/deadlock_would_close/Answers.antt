@@ -1,5 +1,5 @@
 use Rattle.machine_laws.specs.Begun.{first}
-use Rattle.machine_state.specs.Legal.{replay}
+use Rattle.machine_spec.specs.Legal.{replay}
 use Rattle.machine_laws.proofs.Deadlocks.{asked_deadlock, taken_deadlock, reloaded_deadlock, roused_deadlock}
 use Rattle.machine_laws.proofs.laws.deadlock_would_close.Goals as goal
 

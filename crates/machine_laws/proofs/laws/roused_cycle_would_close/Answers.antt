@@ -1,5 +1,5 @@
 use Rattle.machine_laws.specs.Begun.{first}
-use Rattle.machine_state.specs.Legal.{replay}
+use Rattle.machine_spec.specs.Legal.{replay}
 use Rattle.machine_laws.proofs.Deadlocks.{roused_cycle}
 use Rattle.machine_laws.proofs.laws.roused_cycle_would_close.Goals as goal
 

@@ -1,6 +1,6 @@
 use Rattle.std.proofs.Common.{◌≡◌, List, Err, sym, subst}
-use Rattle.token_reading.specs.declared.fault.ReadError.TheVariants.{Refused}
-use Rattle.token_reading.specs.Refusals.{IsFirstRefused}
+use Rattle.source_combinators.specs.declared.fault.ReadError.TheVariants.{Refused}
+use Rattle.source_combinators.specs.Refusals.{IsFirstRefused}
 use Rattle.py_syntax.specs.declared.lexeme.Lexeme.{Lexeme}
 use Rattle.py_syntax.specs.Grammar.{Spells}
 use Rattle.py_parser.specs.Parses as parses

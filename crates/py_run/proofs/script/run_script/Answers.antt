@@ -1,11 +1,11 @@
 use Rattle.std.proofs.Common.{List, ℕ, refl, sym, ap, subst}
 use Rattle.machine_desk.proofs.Keeping.{continues_refl}
-use Rattle.run_rules.specs.Follows.{Follows}
-use Rattle.run_rules.specs.Lists.{ends_in}
-use Rattle.script_end.specs.Ending.{Broken, outcome}
-use Rattle.py_meaning.specs.Meaning.{meaning}
-use Rattle.py_sources.specs.Sources.{sources}
-use Rattle.py_safety.proofs.Meaning.{meaning_safe}
+use Rattle.meaning_runs.specs.Follows.{Follows}
+use Rattle.meaning_runs.specs.Lists.{ends_in}
+use Rattle.drive_account.specs.Ending.{Broken, outcome}
+use Rattle.meaning_script.specs.Meaning.{meaning}
+use Rattle.step_calls.specs.Sources.{sources}
+use Rattle.meaning_safety.proofs.Meaning.{meaning_safe}
 use Rattle.py_run.proofs.Starting.{broken_first}
 use Rattle.py_run.proofs.script.run_script.Goals as goal
 

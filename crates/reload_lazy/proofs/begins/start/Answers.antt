@@ -1,8 +1,8 @@
 use Rattle.std.proofs.Common.{◌≡◌, subst, List, ℕ, Option, MatchOption, IfOk, IsTrue, IsFalse}
 use Rattle.spec_core.specs.Identifiers.{is_dotted}
 use Rattle.py_value.specs.declared.value.ModRef.{ModRef}
-use Rattle.py_meaning.specs.Pieces.{Piece}
-use Rattle.py_meaning.specs.Imports.{Inside}
+use Rattle.meaning_script.specs.Pieces.{Piece}
+use Rattle.meaning_script.specs.Imports.{Inside}
 use Rattle.reload_lazy.specs.Reload.{ReloadGoes}
 use Rattle.reload_lazy.proofs.Named.{read_as}
 use Rattle.reload_lazy.proofs.begins.start.Goals as goal

@@ -1,6 +1,6 @@
 use Rattle.std.proofs.Common.{◌≡◌, map, take}
 use Rattle.machine_events.specs.declared.event.Pair.{Pair}
-use Rattle.thread_knowledge.specs.Own.{own}
+use Rattle.machine_shown.specs.Own.{own}
 use Rattle.trace_check.proofs.thread.own.Given as goal
 
 abbrev pub invariant-loop-entry : goal.invariant-loop-entry

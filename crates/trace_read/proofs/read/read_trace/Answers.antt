@@ -1,5 +1,5 @@
 use Rattle.std.proofs.Common.{◌∙◌, ap, subst}
-use Rattle.trace_lines.specs.Reading.{Gives, format_and_entries, trace_in}
+use Rattle.trace_read.specs.Reading.{Gives, format_and_entries, trace_in}
 use Rattle.trace_read.proofs.Lines.{trace_again}
 use Rattle.trace_read.proofs.Found.{is_found, is_refusal}
 use Rattle.trace_read.proofs.read.read_trace.Goals as goal

@@ -1,7 +1,7 @@
 use Rattle.std.proofs.Common.{◌∙◌, ap, codes, ◌∷◌, ◌++◌}
 use Rattle.std.proofs.lemmas.Result.{IfOk-weaker}
 use Rattle.std.specs.Fmt.{decimal}
-use Rattle.quoted_text.specs.Spelling.{source}
+use Rattle.base_spelling.specs.Spelling.{source}
 use Rattle.trace_text.specs.Values.{spec_text}
 use Rattle.trace_text.proofs.Pieces.{fields_five}
 use Rattle.trace_text.proofs.events.put_reload_take.Goals as goal

@@ -1,6 +1,6 @@
 use Rattle.std.proofs.Common.{◌∙◌, ap, codes, ◌∷◌, ◌++◌}
 use Rattle.std.proofs.lemmas.Result.{IfOk-weaker}
-use Rattle.quoted_text.specs.Spelling.{source}
+use Rattle.base_spelling.specs.Spelling.{source}
 use Rattle.trace_text.specs.Values.{module_text}
 use Rattle.trace_text.proofs.Pieces.{fields_three}
 use Rattle.trace_text.proofs.replies.put_loaded.Goals as goal

@@ -1,5 +1,5 @@
 use Rattle.std.proofs.Common.{◌≡◌, ◌∙◌, ap, ◌++◌, map, take}
-use Rattle.quoted_text.specs.Spelling.{quoted}
+use Rattle.base_spelling.specs.Spelling.{quoted}
 use Rattle.trace_text.specs.Values.{with_commas, comma_before}
 use Rattle.trace_text.proofs.Commas.{put_more}
 use Rattle.trace_text.proofs.values.put_texts_with_commas.Goals as goal

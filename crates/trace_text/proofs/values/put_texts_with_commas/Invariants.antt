@@ -1,5 +1,5 @@
 use Rattle.std.proofs.Common.{◌≡◌, ◌++◌, map, take}
-use Rattle.quoted_text.specs.Spelling.{quoted}
+use Rattle.base_spelling.specs.Spelling.{quoted}
 use Rattle.trace_text.specs.Values.{with_commas}
 use Rattle.trace_text.proofs.values.put_texts_with_commas.Given as goal
 

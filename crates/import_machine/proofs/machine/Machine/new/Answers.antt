@@ -1,7 +1,7 @@
 use Rattle.std.proofs.Common.{sym, subst, arith, refl}
 use Rattle.machine_laws.specs.Sound.{IsSound}
 use Rattle.machine_laws.proofs.First.{sound_opening, rounds_long}
-use Rattle.machine_state.specs.Opening.{opening}
+use Rattle.machine_spec.specs.Opening.{opening}
 use Rattle.import_machine.specs.Counts.{AreCounted}
 use Rattle.import_machine.proofs.Told.{none_counted}
 use Rattle.import_machine.proofs.machine.Machine.new.Goals as goal

@@ -1,8 +1,8 @@
 use Rattle.std.proofs.Common.{sym, subst}
 use Rattle.std.specs.Prelude.{IsTrue}
-use Rattle.machine_state.specs.declared.state.State.{State}
-use Rattle.machine_state.specs.Step.{step}
-use Rattle.machine_state.specs.Allowed.{allowed}
+use Rattle.machine_spec.specs.declared.state.State.{State}
+use Rattle.machine_spec.specs.Step.{step}
+use Rattle.machine_spec.specs.Allowed.{allowed}
 use Rattle.std.proofs.lemmas.Result.{IfOk-weaker}
 use Rattle.machine_events.specs.Fitting.{Fits}
 use Rattle.machine_laws.proofs.Fitting.{fits_step}

@@ -1,7 +1,7 @@
 -- The event is allowed, and the book gained one entry, or is as it was.
 use Rattle.std.proofs.Common.{List, refl, ap, sym, ◌∙◌}
 use Rattle.machine_events.specs.declared.event.Entry.{Entry}
-use Rattle.thread_knowledge.specs.Own.{own}
+use Rattle.machine_shown.specs.Own.{own}
 use Rattle.machine_book.proofs.Histories.{allowed_here, own_snoc}
 use Rattle.machine_desk.proofs.Keeping.{continues_refl, continues_snoc}
 use Rattle.machine_book.proofs.solo.SoloDeskDesk.call.Goals as goal

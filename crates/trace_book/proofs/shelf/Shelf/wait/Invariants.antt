@@ -1,5 +1,5 @@
 use Rattle.std.proofs.Common.{◌≡◌}
-use Rattle.thread_knowledge.specs.Own.{own}
+use Rattle.machine_shown.specs.Own.{own}
 use Rattle.machine_desk.specs.Sight.{Continues}
 use Rattle.trace_book.specs.Seats.{Ready}
 use Rattle.trace_book.specs.Told.{seat_sight}

@@ -1,0 +1,6 @@
+pub mod Spelled
+mod Pieces
+mod Escapes
+mod Sources
+mod Decoding
+pub mod Takes

@@ -1,0 +1,4 @@
+pub mod Numbers
+pub mod Spelling
+pub mod Candidates
+pub mod Read

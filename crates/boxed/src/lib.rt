@@ -1,6 +1,0 @@
-//! Owners of values that stand apart on the heap.
-#![tactic(auto)]
-
-mod boxed;
-
-pub use boxed::Boxed;

@@ -1,0 +1,4 @@
+mod Places
+pub mod Giving
+mod Sums
+mod Paying

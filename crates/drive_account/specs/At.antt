@@ -1,0 +1,24 @@
+-- Where a script stands, with what is left of its budget.
+use Rattle.std.specs.Prelude.{ℕ, List, Bool, true, false, Option, Some, None}
+use Rattle.tree_files.specs.Files.{Files}
+use Rattle.machine_events.specs.declared.event.Event.{Event}
+use Rattle.machine_events.specs.declared.event.Reply.{Reply}
+use Rattle.meaning_runs.specs.Runs.{Run, Stands, IsSpent, IsUnread}
+use Rattle.drive_account.specs.declared.purse.Purse.{Purse}
+
+-- where the purse tells what was left before a payment for the tree, the script stands, with so much left, at a payment
+-- for a call of the tree that it can make; else nothing is claimed
+abbrev pub MayBeUnread : Option Files → Run → ℕ → List (Event × Reply) → Option ℕ → Type 0
+MayBeUnread files whole fuel mine None = Unit {0}
+MayBeUnread files whole fuel mine (Some left) = IsUnread files whole fuel mine left
+
+-- the script stands here; where the purse tells what was left
+-- before a payment for the tree, a call of the tree may fail
+pub record At (files : Option Files) (whole : Run) (fuel : ℕ) (mine : List (Event × Reply)) (purse : Purse) (run : Run) : Type 0 where
+  pub stands : Stands files whole fuel mine purse.budget run
+  pub unread : MayBeUnread files whole fuel mine purse.read
+
+-- after a payment, by whether it was made
+abbrev pub AfterPay : Bool → Option Files → Run → ℕ → List (Event × Reply) → Purse → Run → Type 0
+AfterPay true files whole fuel mine purse next = At files whole fuel mine purse next
+AfterPay false files whole fuel mine purse next = IsSpent files whole fuel mine purse.budget

@@ -1,0 +1,64 @@
+-- How a script ended, and what stands where it was broken off.
+use Rattle.std.specs.Prelude.{◌≡◌, ◌≤◌, ℕ, ◌+◌, List, [], ◌∷◌, ◌++◌, true, Some, Option, Bool}
+use Rattle.tree_files.specs.Files.{Files}
+use Rattle.tree_files.specs.Count.{Rose}
+use Rattle.machine_events.specs.declared.event.Event.{Event}
+use Rattle.machine_events.specs.declared.event.Event.TheVariants.{End}
+use Rattle.machine_events.specs.declared.event.Reply.{Reply}
+use Rattle.machine_events.specs.declared.event.Reply.TheVariants.{Done}
+use Rattle.machine_events.specs.declared.event.Outcome.{Outcome}
+use Rattle.machine_events.specs.declared.event.Outcome.TheVariants as o
+use Rattle.machine_shown.specs.Shown.{shown, Running}
+use Rattle.meaning_runs.specs.Runs.{Run, GivesUp}
+use Rattle.meaning_runs.specs.Follows.{IsPart}
+use Rattle.drive_port.specs.View.{View}
+use Rattle.drive_account.specs.Holds.{held_in}
+use Rattle.drive_account.specs.declared.held.Held.{Held}
+use Rattle.drive_account.specs.declared.end.Ending.{Ending}
+use Rattle.drive_account.specs.declared.end.Ending.TheVariants as ending
+
+-- the ending is that of the End event
+abbrev pub outcome : Ending → Outcome
+outcome ending.Normal = o.Normal
+outcome (ending.Raised error) = o.Raised error
+outcome ending.Fuel = o.Fuel
+outcome ending.Read = o.Read
+
+-- a call of the tree failed
+abbrev pub IsRead : Ending → Type 0
+IsRead ending.Read = Unit {0}
+IsRead _ = ⊥
+
+-- a script ends with one End event
+pub record Ended (mine : List (Event × Reply)) (outcome : Outcome) : Type 0 where
+  pub before : List (Event × Reply)
+  pub paid : ℕ
+  pub whole : mine ≡ before ++ (End outcome paid, Done) ∷ []
+
+-- at want of memory the pairs are a part of those of the whole run with the whole fuel; only where
+-- the tree's count of faults rose may they be on the way that a failed call leaves: with a budget k
+-- the run is spent at a payment for a call of the tree, and what the script holds is being given up
+pub data Broken (files : Files) (t : ℕ) (run : Run) (fuel : ℕ) (mine : List (Event × Reply)) (old new : ℕ) : Type 0 where
+  in_run : IsPart files t run fuel mine → Broken files t run fuel mine old new
+  at_read : (k : ℕ) → k + 1 ≤ fuel → Rose old new → GivesUp (Some files) t run k mine true → Broken files t run fuel mine old new
+
+-- what is held is what the script's own events show
+abbrev pub Holds : {S : Type 0} → View S → Held → Type 0
+Holds v held = held_in held ≡ (shown v.number v.mine).held
+
+-- a script may make events that are free: it is its turn, and what it holds is known
+pub record Idle {S : Type 0} (v : View S) (held : Held) : Type 0 where
+  pub ready : v.ready
+  pub runs : (shown v.number v.mine).doing ≡ Running
+  pub holds : Holds v held
+
+-- what was given up on the way from some pairs to more
+abbrev pub Gave : ℕ → List (Event × Reply) → List (Event × Reply) → Type 0
+Gave t mine mine' = (files : Option Files) (whole : Run) (budget : ℕ) (of_tree : Bool) → GivesUp files t whole budget mine of_tree → GivesUp files t whole budget mine' of_tree
+
+-- all that was held is given up, and then the script made its End event
+pub record GaveAll (t : ℕ) (mine mine' : List (Event × Reply)) (outcome : Outcome) (paid : ℕ) : Type 0 where
+  pub before : List (Event × Reply)
+  pub gave : Gave t mine before
+  pub free : (shown t before).held ≡ []
+  pub whole : mine' ≡ before ++ (End outcome paid, Done) ∷ []

@@ -1,0 +1,4 @@
+pub mod Holds
+pub mod Changes
+pub mod Ending
+pub mod At

@@ -1,0 +1,34 @@
+-- A script from its start until its work is over.
+use Rattle.std.specs.Prelude.{◌≡◌, ℕ, List, [], Option, None}
+use Rattle.tree_files.specs.Files.{Files}
+use Rattle.tree_files.specs.Count.{Rose}
+use Rattle.machine_events.specs.declared.event.Event.{Event}
+use Rattle.machine_events.specs.declared.event.Reply.{Reply}
+use Rattle.meaning_runs.specs.Runs.{Run, Stands, IsSpent, IsUnread}
+use Rattle.drive_port.specs.View.{View}
+use Rattle.drive_account.specs.Holds.{held_in}
+use Rattle.meaning_script.specs.Meaning.{first_state}
+use Rattle.drive_loop.specs.Turns.{ended}
+use Rattle.drive_loop.specs.declared.course.Course.{Course}
+use Rattle.drive_loop.specs.declared.drive.Over.{Over}
+use Rattle.drive_loop.specs.declared.drive.Over.TheVariants as over
+
+-- the script of this number may begin: its turn has come, and it has made no event
+pub record Begun {S : Type 0} (v : View S) (script : ℕ) : Type 0 where
+  pub number : v.number ≡ script
+  pub ready : v.ready
+  pub first : v.mine ≡ []
+
+-- nothing was done yet
+pub record Fresh (script fuel : ℕ) (c : Course) : Type 0 where
+  pub purse : c.purse ≡ record { budget = fuel; read = None }
+  pub held : held_in c.held ≡ []
+  pub thread : c.thread ≡ record { left = 200; state = first_state script }
+  pub work : c.work ≡ []
+
+-- how a run is over: it ended, it is spent, or it could not read, with
+-- this budget before the payment; then the tree's count of faults rose
+abbrev pub Overs : Option Files → ℕ → ℕ → Run → ℕ → List (Event × Reply) → Over → Type 0
+Overs files faults faults' whole fuel mine (over.Came flow) = (budget : ℕ) × Stands files whole fuel mine budget (ended flow)
+Overs files faults faults' whole fuel mine over.Out = (budget : ℕ) × IsSpent files whole fuel mine budget
+Overs files faults faults' whole fuel mine (over.Unread left) = IsUnread files whole fuel mine left × Rose faults faults'

@@ -1,0 +1,152 @@
+//! The loop that does the work of a script.
+ghost use Rattle.std.specs.Prelude.{◌≡◌, [], None, codes, IfOk, OnOk, OnErr, IsErrOf};
+ghost use Rattle.machine_shown.specs.Shown.{shown_first};
+ghost use Rattle.meaning_runs.specs.Runs.{Safe, StandsIn};
+ghost use Rattle.drive_port.specs.View.{View, Stays};
+ghost use Rattle.meaning_script.specs.Meaning.{meaning};
+ghost use Rattle.step_calls.specs.Sources.{sources};
+ghost use Rattle.drive_account.specs.Ending.{Holds};
+ghost use Rattle.drive_search.specs.Asking.{RefusedAt, Asked, AllKept};
+ghost use Rattle.drive_loop.specs.Overs.{Begun, Fresh, Overs};
+
+use crate::course::{Course, Turn};
+use crate::turn::give;
+use base_types::{Seq, Text};
+use drive_account::{Held, Purse};
+use drive_port::{Halt, Port};
+use meaning_state::{Flow, Scope, Stack, State, Thread};
+use py_frames::{Item, Want, Work};
+use spec_core::NumberMap;
+use std::alloc::Global;
+use tree_files::Tree;
+
+/// How the work of a script is over.
+#[derive(Drop)]
+pub enum Over {
+    /// No work is left.
+    Came(Flow),
+    /// A payment could not be made.
+    Out,
+    /// A call of the tree failed after a payment that left so much before it.
+    Unread(u64),
+}
+
+/// The most bodies, calls and imports that may be open at once.
+const DEPTH: u32 = 200;
+
+impl Course {
+    /// What a script keeps before its first step. It takes no memory.
+    pub fn first(alloc: Global, script: u32, fuel: u64) -> Course
+        ensures { Fresh script fuel result }
+    {
+        Course {
+            purse: Purse {
+                budget: fuel,
+                read: None,
+            },
+            held: Held::new(alloc),
+            thread: Thread {
+                left: DEPTH,
+                state: State {
+                    scope: Scope {
+                        mid: script,
+                        load: script,
+                        function: None,
+                    },
+                    kept: NumberMap::new(alloc),
+                    handling: Stack::new(alloc),
+                },
+            },
+            work: Work::new(alloc),
+        }
+    }
+}
+
+/// Runs the body of a script to its end, in the module of this name.
+///
+/// A count of the turns that would pass the end of its type is want of memory.
+fn go<P: Port, T: Tree>(
+    alloc: Global,
+    port: &mut P,
+    tree: &mut T,
+    course: &mut Course,
+    script: u32,
+    name: Text,
+    text: Seq<u8>,
+    fuel: u64,
+) -> Result<Over, Halt>
+    requires name { name ≡ codes "__main__" }
+    requires begun { Begun (P.view port.old) script }
+    requires fresh { Fresh script fuel course.old }
+    requires safe { Safe (shown_first script) (meaning sources script text) }
+    ensures stays { Stays (P.view port.old) (P.view port.new) }
+    ensures over { IfOk result (Overs (T.files tree.old) (T.faults tree.old) (T.faults tree.new)
+        (meaning sources script text) fuel (P.view port.new).mine) }
+    ensures holds { OnOk result (Holds (P.view port.new) course.new.held) }
+    ensures part { OnErr result (StandsIn (T.files tree.old) (meaning sources script text) fuel
+        (P.view port.new).mine) }
+    ensures refused { IsErrOf result Halt.Refused → RefusedAt (P.view port.new) (T.files tree.old)
+        (meaning sources script text) fuel }
+    ensures asked { Asked (T.files tree.old) (T.files tree.new) (T.faults tree.old) (T.faults tree.new) }
+    ensures kept { OnOk result (AllKept (T.lists tree.old) (T.lists tree.new) (P.view port.old).mine
+        (P.view port.new).mine) }
+{
+    let mut want = Want::Then(Item::Start {
+        mid: script,
+        load: script,
+        name,
+        text,
+    });
+    let mut turns: u64 = 0;
+    'turns: loop {
+        if turns == u64::MAX {
+            drop(want);
+            return Err(Halt::NoMemory);
+        }
+        turns += 1;
+        let turn = match give(alloc, port, tree, course, want) {
+            Ok(turn) => turn,
+            Err(halt) => return Err(halt),
+        };
+        match turn {
+            Turn::On(next) => want = next,
+            Turn::Came(flow) => return Ok(Over::Came(flow)),
+            Turn::Out => return Ok(Over::Out),
+            Turn::Unread(left) => return Ok(Over::Unread(left)),
+        }
+    }
+}
+
+/// Runs a script to its end, but for what it still holds and its End event.
+pub fn run<P: Port, T: Tree>(
+    alloc: Global,
+    port: &mut P,
+    tree: &mut T,
+    course: &mut Course,
+    script: u32,
+    text: Seq<u8>,
+    fuel: u64,
+) -> Result<Over, Halt>
+    requires begun { Begun (P.view port.old) script }
+    requires fresh { Fresh script fuel course.old }
+    requires safe { Safe (shown_first script) (meaning sources script text) }
+    ensures stays { Stays (P.view port.old) (P.view port.new) }
+    ensures over { IfOk result (Overs (T.files tree.old) (T.faults tree.old) (T.faults tree.new)
+        (meaning sources script text) fuel (P.view port.new).mine) }
+    ensures holds { OnOk result (Holds (P.view port.new) course.new.held) }
+    ensures part { OnErr result (StandsIn (T.files tree.old) (meaning sources script text) fuel
+        (P.view port.new).mine) }
+    ensures refused { IsErrOf result Halt.Refused → RefusedAt (P.view port.new) (T.files tree.old)
+        (meaning sources script text) fuel }
+    ensures asked { Asked (T.files tree.old) (T.files tree.new) (T.faults tree.old) (T.faults tree.new) }
+    ensures kept { OnOk result (AllKept (T.lists tree.old) (T.lists tree.new) (P.view port.old).mine
+        (P.view port.new).mine) }
+{
+    match Text::from_str(alloc, "__main__") {
+        Ok(name) => go(alloc, port, tree, course, script, name, text, fuel),
+        Err(_) => {
+            drop(text);
+            Err(Halt::NoMemory)
+        }
+    }
+}

@@ -1,4 +1,0 @@
-pub mod Families
-pub mod Right
-pub mod Complete
-pub mod Agrees

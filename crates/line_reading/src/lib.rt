@@ -1,2 +1,0 @@
-//! How lines of simple statements are read by descent, and that this is what the grammar spells.
-#![tactic(auto)]

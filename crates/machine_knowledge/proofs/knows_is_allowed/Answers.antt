@@ -1,5 +1,0 @@
-use Rattle.machine_knowledge.proofs.Law.{knows_allowed}
-use Rattle.machine_knowledge.proofs.knows_is_allowed.Goals as goal
-
-pub returns : goal.returns
-returns c = knows_allowed

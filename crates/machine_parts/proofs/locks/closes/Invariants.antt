@@ -1,5 +1,0 @@
-use Rattle.machine_parts.proofs.locks.closes.Given as goal
-
--- the ledger is the blank's
-abbrev pub ghosts-closes_by : goal.ghosts-closes_by
-ghosts-closes_by a = record { name = a.blank.name; parts = a.blank.parts }

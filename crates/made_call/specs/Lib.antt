@@ -1,3 +1,0 @@
-pub mod Worst
-pub mod Wanting
-pub mod MadeRuns

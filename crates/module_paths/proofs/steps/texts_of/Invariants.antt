@@ -1,6 +1,0 @@
-use Rattle.std.proofs.Common.{◌≡◌, take}
-use Rattle.py_meaning.specs.Paths.{texts_of}
-use Rattle.module_paths.proofs.steps.texts_of.Given as goal
-
-abbrev pub invariant-loop-text : goal.invariant-loop-text
-invariant-loop-text l = l.items ≡ texts_of (take l.text-index l.text-items)

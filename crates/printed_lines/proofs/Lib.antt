@@ -1,4 +1,0 @@
-pub mod Rows
-pub mod Expressions
-pub mod Simple
-pub mod Statements

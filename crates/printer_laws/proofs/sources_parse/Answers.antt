@@ -1,6 +1,0 @@
-use Rattle.std.proofs.Common.{Ok}
-use Rattle.printer_laws.proofs.Sources.{source_parses, parsed_source}
-use Rattle.printer_laws.proofs.sources_parse.Goals as goal
-
-pub returns : goal.returns
-returns c src s = (source_parses src s, λ h. parsed_source src (Ok s) h)

@@ -1,0 +1,4 @@
+pub mod Summary
+pub mod Worst
+pub mod Wanting
+pub mod MadeRuns

@@ -1,0 +1,31 @@
+use Rattle.std.proofs.Common.{sym, subst, arith}
+use Rattle.program_run.specs.Sinks.{Moment, at, moment}
+use Rattle.program_run.specs.Runs.{Gives}
+use Rattle.program_run.specs.declared.report.Left.{Left}
+use Rattle.program_run.proofs.Leaving.{leaves_of}
+use Rattle.program_run.proofs.Lone.{has_run, ended_one}
+use Rattle.program_run.proofs.Threads.{many_mean}
+use Rattle.program_run.proofs.alone.run_alone.Goals as goal
+
+pub run_on_book-history-requires-clause-some : goal.run_on_book-history-requires-clause-some
+run_on_book-history-requires-clause-some g c = let many = many_mean g.S.Program.run g.S.Scripts.means c.args.texts c.in-Ok.it.programs.items c.in-Ok.ensures.programs in let one = c.requires.text in omega (arith, many, one)
+
+pub returns-clause-run : goal.returns-clause-run
+returns-clause-run g c =
+    let run = g.S.Program.run in
+    let means = g.S.Scripts.means in
+    let plan = c.args.plan.now in
+    let it = c.in-Ok.it in
+    let is = c.in-Ok.ensures in
+    let tree = g.T.Tree.files c.args.tree.now in
+    let old : Moment = moment g.T.Tree.files g.T.Tree.faults g.T.Tree.lists c.args.tree.now (at g.O.Sink.written g.O.Sink.faults c.args.out.now) (at g.K.Sink.written g.K.Sink.faults c.args.err.now) in
+    let new : Moment = moment g.T.Tree.files g.T.Tree.faults g.T.Tree.lists c.run_on_book-history.new.tree (at g.O.Sink.written g.O.Sink.faults c.close-flow.new.sink) (at g.K.Sink.written g.K.Sink.faults c.finish-status.new.err) in
+    let left = c.run_on_book-history.result in
+    let ran = c.run_on_book-history.ensures in
+    let status = c.finish-status.result in
+    let ended = ended_one run means c.args.texts it.programs.items tree plan.fuel _ _ left.history left.came c.requires.text is.programs ran.ran in
+    let leaves = leaves_of old new _ _ plan.trace c.as_slice.result.now plan.scripts left.history status c.close-flow.result c.open-outlet.ensures.trace c.open-outlet.ensures.gets ran.kept c.close-flow.ensures.written c.close-flow.ensures.faults
+    c.close-flow.ensures.flow c.as_slice.ensures (c.finish-status.ensures.leaves left.history ended) in
+    subst (λ (r : Left). Gives means plan c.args.texts old new r) (sym c.of_run.ensures)
+    (has_run means g.met.S.Scripts.safe plan c.args.texts old new left.history status c.requires.script c.requires.text it.opening is.can_open is.rounds is.opening ran.legal leaves run it.programs.items left.came is.programs ran.ran
+    c.finish-status.ensures.short)

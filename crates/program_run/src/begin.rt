@@ -1,0 +1,70 @@
+//! What scripts run on.
+ghost use Rattle.std.specs.Prelude.{◌≡◌, ◌≤◌, ◌∷◌, [], ℕ, IfOk, length};
+ghost use Rattle.machine_book.specs.Bound.{opened, CanOpen};
+ghost use Rattle.program_run.specs.Alone.{opening_of};
+ghost use Rattle.program_run.specs.Scripts.{AreFew};
+ghost use Rattle.program_run.specs.Together.{Mean};
+
+use crate::scripts::Scripts;
+use base_types::{Exact, NoMemory, Seq};
+use import_machine::Machine;
+use import_words::RunPlan;
+use machine_book::Opening;
+use std::alloc::Global;
+
+/// What scripts run on: the machine and what it was opened with; and the scripts.
+#[derive(Drop)]
+pub struct Begun<S: Scripts> {
+    pub opening: Opening,
+    pub machine: Machine,
+    pub programs: Vec<S>,
+}
+
+fn one_round(alloc: Global, size: usize) -> Result<Seq<u32>, NoMemory>
+    requires { size ≤ 16 }
+    ensures { IfOk result (λ rounds. rounds ≡ size ∷ []) }
+{
+    let mut rounds = Seq::new(alloc);
+    rounds.push(size as u32)?;
+    Ok(rounds)
+}
+
+/// The scripts of these texts.
+fn programs_of<S: Scripts>(alloc: Global, texts: &[Seq<u8>]) -> Result<Vec<S>, NoMemory>
+    ensures { IfOk result (λ programs. Mean S.run S.means texts.now programs.items) }
+{
+    let mut programs = Vec::new(alloc);
+    for text in texts {
+        programs.push(S::of_text(text.copy()?))?;
+    }
+    Ok(programs)
+}
+
+/// The machine for the scripts of a plan, which are of one round.
+pub fn begin<S: Scripts>(
+    alloc: Global,
+    plan: &RunPlan,
+    texts: Seq<Seq<u8>>,
+) -> Result<Begun<S>, NoMemory>
+    requires few { AreFew plan.now.scripts }
+    requires texts { length texts ≡ length plan.now.scripts }
+    ensures opening { IfOk result (λ it. opened it.opening ≡ opening_of plan.now texts) }
+    ensures machine { IfOk result (λ it. it.machine ≡ opening_of plan.now texts) }
+    ensures can_open { IfOk result (λ it. CanOpen it.opening) }
+    ensures rounds { IfOk result (λ it. it.opening.rounds ≡ length plan.now.scripts ∷ []) }
+    ensures programs { IfOk result (λ it. Mean S.run S.means texts it.programs.items) }
+{
+    let programs = programs_of(alloc, texts.as_slice())?;
+    let opening = Opening {
+        scripts: plan.scripts.copy()?,
+        texts,
+        path: plan.path.copy()?,
+        rounds: one_round(alloc, plan.scripts.len())?,
+    };
+    let machine = opening.machine()?;
+    Ok(Begun {
+        opening,
+        machine,
+        programs,
+    })
+}

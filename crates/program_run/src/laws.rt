@@ -1,0 +1,21 @@
+//! What holds of every script that runs alone.
+ghost use Rattle.std.specs.Prelude.{◌≡◌, ℕ, List, length};
+ghost use Rattle.tree_files.specs.Files.{Files};
+ghost use Rattle.machine_events.specs.declared.event.Entry.{Entry};
+ghost use Rattle.machine_laws.specs.Begun.{Begun, first};
+ghost use Rattle.meaning_solo.specs.Solo.{AreAlone, IsSolo};
+ghost use Rattle.program_run.specs.Alone.{turns_of};
+
+use crate::scripts::Scripts;
+use meaning_solo::solo_without_stops;
+
+/// Scripts that run alone, each in a round of its own, have a history, whatever their texts, their
+/// files and their budget are, where no call of the tree fails. (That they have no other is the law
+/// `solo_is_one`.)
+pub fn scripts_have_a_history<S: Scripts>()
+    ensures { (b : Begun) (scripts : List (Files × List ℕ)) (fuel : ℕ) → AreAlone (first b)
+        → length scripts ≡ length (first b).rounds
+        → (history : List Entry) × IsSolo (first b) (turns_of S.means 0 scripts) fuel history }
+{
+    solo_without_stops();
+}

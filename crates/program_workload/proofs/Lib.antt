@@ -1,0 +1,5 @@
+pub mod Names
+pub mod Flat
+pub mod Lengths
+pub mod Naming
+pub mod Standing

@@ -1,7 +1,0 @@
-use Rattle.std.proofs.Common.{arith}
-use Rattle.std.proofs.lemmas.Grind.{common_steps}
-use Rattle.py_costs.proofs.Sums.{texts_last}
-use Rattle.py_costs.proofs.costs.texts_size.Goals as goal
-
-pub loop-text-preserved : goal.loop-text-preserved
-loop-text-preserved c = grind (arith, common_steps, texts_last)

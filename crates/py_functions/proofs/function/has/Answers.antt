@@ -1,6 +1,0 @@
-use Rattle.std.proofs.Common.{◌∙◌}
-use Rattle.py_functions.proofs.Locals.{any_is_among}
-use Rattle.py_functions.proofs.function.has.Goals as goal
-
-pub returns : goal.returns
-returns c = c.contains.ensures ∙ any_is_among c.args.name.now c.args.names.now.keys

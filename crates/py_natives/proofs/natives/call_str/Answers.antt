@@ -1,8 +1,0 @@
-use Rattle.std.proofs.Common.{sym, ap}
-use Rattle.py_meaning.specs.Calls.{str_call}
-use Rattle.py_natives.proofs.Alone.{only_is}
-use Rattle.py_natives.proofs.Lifts.{lifted}
-use Rattle.py_natives.proofs.natives.call_str.Goals as goal
-
-pub returns-in-Some : goal.returns-in-Some
-returns-in-Some c = lifted _ _ _ _ c.str_value.result (ap str_call (sym (only_is c.args.values c.in-Some.value c.in-Some.ensures))) c.str_value.ensures

@@ -1,6 +1,0 @@
-use Rattle.std.proofs.Common.{◌≡◌, drop}
-use Rattle.py_natives.specs.Lines.{continued}
-use Rattle.py_natives.proofs.print.continued.Given as goal
-
-abbrev pub invariant-loop-value : goal.invariant-loop-value
-invariant-loop-value l = continued l.initial.line l.values ≡ continued l.line (drop l.value-index l.values)

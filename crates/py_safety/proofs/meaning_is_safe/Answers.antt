@@ -1,5 +1,0 @@
-use Rattle.py_safety.proofs.Meaning.{meaning_safe}
-use Rattle.py_safety.proofs.meaning_is_safe.Goals as goal
-
-pub returns : goal.returns
-returns c = meaning_safe

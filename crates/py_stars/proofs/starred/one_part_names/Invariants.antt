@@ -1,7 +1,0 @@
-use Rattle.std.proofs.Common.{◌≡◌, take}
-use Rattle.std.specs.List.{filter}
-use Rattle.py_meaning.specs.ImportStatements.{is_one_part}
-use Rattle.py_stars.proofs.starred.one_part_names.Given as goal
-
-abbrev pub invariant-loop-name : goal.invariant-loop-name
-invariant-loop-name l = l.kept ≡ filter is_one_part (take l.name-index l.name-items)

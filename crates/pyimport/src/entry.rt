@@ -1,0 +1,65 @@
+//! The program `pyimport`, over the files of the current folder.
+
+ghost use Rattle.std.specs.Prelude.{◌≡◌};
+ghost use Rattle.std.specs.Process.{exit_status};
+ghost use Rattle.pyimport.specs.Status.{status_of};
+
+use crate::{OpenGate, Report, pyimport};
+use base_types::{NoMemory, Text};
+use std::env;
+use std::io::ErrorKind;
+use std::process::ExitCode;
+use std::sync::Wait;
+use std::thread::Threads;
+use tree_system::{RealTree, StdSink};
+
+/// The words after the program's name. Words that are not UTF-8 are refused, as no words are.
+fn words_of(rt: &HostRuntime) -> Result<Vec<String>, NoMemory> {
+    let mut words = Vec::new(rt.alloc());
+    match env::args(rt) {
+        Ok(all) => {
+            for word in all.skip(1) {
+                words.push(word)?;
+            }
+            Ok(words)
+        }
+        Err(error) if error.kind() == ErrorKind::OutOfMemory => Err(NoMemory),
+        Err(_) => Ok(words),
+    }
+}
+
+/// What the words of the command line ask for is done over the current folder. There is no report
+/// where memory was wanted for the words. Several scripts run on threads of `threads`.
+fn report<R: Threads + Wait + Sync>(rt: HostRuntime, threads: &R) -> Option<Report> {
+    let alloc = rt.alloc();
+    let Ok(words) = words_of(&rt) else {
+        return None;
+    };
+    let mut tree = RealTree::at(rt, Text::new(alloc));
+    let mut out = StdSink::out(rt);
+    let mut err = StdSink::err(rt);
+    Some(pyimport(
+        threads,
+        alloc,
+        words.as_slice(),
+        &mut tree,
+        &mut out,
+        &mut err,
+        &OpenGate,
+    ))
+}
+
+/// How the program ends: with the status of its report, and with 6 where it has none.
+fn exit_of(report: Option<Report>) -> ExitCode
+    ensures { exit_status result ≡ status_of report }
+{
+    match report {
+        Some(report) => ExitCode::from(report.status),
+        None => ExitCode::from(6),
+    }
+}
+
+/// Runs the program, and gives its exit status.
+pub fn run<R: Threads + Wait + Sync>(rt: HostRuntime, threads: &R) -> ExitCode {
+    exit_of(report(rt, threads))
+}

@@ -1,5 +1,0 @@
-mod Pieces
-mod Escapes
-mod Sources
-mod Decoding
-pub mod Takes

@@ -1,5 +1,0 @@
-use Rattle.tree_files.proofs.Listings.{listing_told}
-use Rattle.run_rules.proofs.listing_is_told.Goals as goal
-
-pub returns : goal.returns
-returns c = listing_told

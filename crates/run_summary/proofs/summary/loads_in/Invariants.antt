@@ -1,7 +1,0 @@
-use Rattle.std.proofs.Common.{◌≡◌, take}
-use Rattle.std.specs.Prelude.{count_by}
-use Rattle.run_summary.specs.Summary.{is_load}
-use Rattle.run_summary.proofs.summary.loads_in.Given as goal
-
-abbrev pub invariant-loop-entry : goal.invariant-loop-entry
-invariant-loop-entry l = l.count ≡ count_by is_load (take l.entry-index l.history)

@@ -1,0 +1,14 @@
+use Rattle.std.proofs.Common.{◌≡◌, ℕ, ◌<◌, length}
+use Rattle.source_combinators.specs.Many.{many}
+use Rattle.source_combinators.specs.Separated.{next_item, separated}
+use Rattle.source_spec_lines.specs.Lines as reading
+use Rattle.source_parse_lines.proofs.imports.several_names.Given as goal
+
+abbrev pub invariant-names : goal.invariant-names
+invariant-names l = record {
+  reads : (n : ℕ) × (length l.rest < n) × (many (λ found. reading.comma_ahead) (next_item reading.item) n l.found l.rest ≡ separated reading.comma_ahead reading.item l.tokens);
+  shorter : length l.rest < length l.tokens;
+}
+
+abbrev pub decreases-names : goal.decreases-names
+decreases-names l = length l.rest

@@ -1,0 +1,11 @@
+pub mod ExpressionFamilies
+pub mod TokenForms
+pub mod ExpressionRight
+pub mod ExpressionComplete
+pub mod ExpressionAgrees
+pub mod Targets
+pub mod Whole
+pub mod LineFamilies
+pub mod LineRight
+pub mod LineComplete
+pub mod LineAgrees

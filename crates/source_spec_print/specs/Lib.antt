@@ -1,0 +1,5 @@
+pub mod Expressions
+pub mod Statements
+pub mod Laws
+pub mod Lines
+pub mod LaidLaws

@@ -1,0 +1,10 @@
+pub mod Bound
+pub mod Depth
+pub mod Lines
+pub mod Alone
+pub mod Asking
+pub mod Missing
+pub mod Lifts
+pub mod Listed
+pub mod BodyDepth
+pub mod Told

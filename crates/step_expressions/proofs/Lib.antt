@@ -1,0 +1,4 @@
+pub mod OperatorLayers
+pub mod OnLists
+pub mod Layers
+pub mod Places

@@ -1,0 +1,2 @@
+pub mod OperatorForms
+pub mod Forms

@@ -1,0 +1,13 @@
+use Rattle.std.proofs.Common.{refl, ap, List, ℕ, true}
+use Rattle.machine_events.specs.declared.event.Event.TheVariants as e
+use Rattle.py_frames.specs.declared.replies.OnReply.TheVariants as ons
+use Rattle.step_shared.proofs.Awake.{awake_again}
+use Rattle.step_from_names.proofs.module_name.wake_for_name.Goals as goal
+
+pub returns : goal.returns
+returns c =
+    let m = c.args.«module» in
+    let event = λ (n : List ℕ). e.GetVar m.mid n true in
+    let on = ons.FromModule m c.args.name c.args.is_bound true in
+    awake_again c.args.thread.now m c.in_ok-lazy.lazy (event c.in_ok-read.read) (event c.args.name) on on c.rouse.result
+    c.in_ok-lazy.ensures (ap event c.in_ok-read.ensures) refl c.rouse.ensures

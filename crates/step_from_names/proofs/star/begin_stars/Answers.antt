@@ -1,0 +1,15 @@
+use Rattle.std.proofs.Common.{◌∙◌, sym}
+use Rattle.meaning_script.specs.Meaning.{around_at}
+use Rattle.meaning_script.specs.ImportStatements.{binds_star}
+use Rattle.step_shared.proofs.Places.{order_ends, order_goes}
+use Rattle.step_from_names.proofs.star.begin_stars.Goals as goal
+
+pub returns-in_default : goal.returns-in_default
+returns-in_default c =
+    let th = c.args.thread.now in
+    record { does = λ w next. c.went.ensures.does w next ∙ order_ends (binds_star (around_at w th.left) c.args.«module») c.args.names c.args.at th.state (next th.left) (sym c.in_default.ensures.value) }
+
+pub returns : goal.returns
+returns c =
+    let th = c.args.thread.now in
+    record { does = λ w next. rw (c.in_ok-owner.ensures, c.in_ok-name.ensures) (order_goes (binds_star (around_at w th.left) c.args.«module») c.args.names c.args.at c.in-Some.name.now th.state (next th.left) (sym c.in-Some.ensures.value)) }

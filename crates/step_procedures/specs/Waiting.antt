@@ -1,0 +1,32 @@
+-- What procedures that are open want and wait for.
+use Rattle.std.specs.Prelude.{ℕ, List}
+use Rattle.py_value.specs.declared.value.ModRef.{ModRef}
+use Rattle.find_load.specs.Means.{wants}
+use Rattle.find_load.specs.declared.words.In.TheVariants as given
+use Rattle.find_load.specs.declared.words.Want.{Want}
+use Rattle.meaning_script.specs.Pieces.{Piece}
+use Rattle.meaning_script.specs.Paths.{paths}
+use Rattle.meaning_script.specs.Imports.{roused}
+use Rattle.meaning_script.specs.Meaning.{World, inside_at}
+use Rattle.py_frames.specs.Does.{fed}
+use Rattle.py_frames.specs.declared.procedures.Procedure.{Procedure}
+
+-- the procedure waits for a piece, and is fed with how that ended
+abbrev pub waits : World → ℕ → Procedure → Piece → Piece
+waits w d p piece s k = piece s (λ flow s. fed w d p (given.Ended flow) s k)
+
+-- for the import of a parent
+abbrev pub waits_parent : World → ℕ → Procedure → List ℕ → Piece
+waits_parent w d p n = waits w d p ((inside_at w d).parent n)
+
+-- for the path of a module, at most so many modules one above the other
+abbrev pub waits_path : World → ℕ → Procedure → ℕ → ModRef → Piece
+waits_path w d p turns m = waits w d p (paths (roused (inside_at w d)) turns m)
+
+-- for the first use of a module
+abbrev pub waits_rouse : World → ℕ → Procedure → ModRef → Piece
+waits_rouse w d p m = waits w d p (roused (inside_at w d) m)
+
+-- what the procedure wants, and then its next step
+abbrev pub lifts : World → ℕ → Want → Procedure → Piece
+lifts w d wanted p = wants (inside_at w d) wanted (fed w d p)

@@ -1,6 +1,0 @@
-use Rattle.std.proofs.Common.{◌≡◌, take}
-use Rattle.system_edge.specs.Systems.{with_parts}
-use Rattle.system_edge.proofs.real_tree.with_parts.Given as goal
-
-abbrev pub invariant-loop-part : goal.invariant-loop-part
-invariant-loop-part l = l.name ≡ with_parts l.folder (take l.part-index l.path)

@@ -1,5 +1,0 @@
-use Rattle.std.proofs.Common.{◌≡◌, length}
-use Rattle.thread_tests.proofs.stopped.empty_texts.Given as goal
-
-abbrev pub invariant-loop : goal.invariant-loop
-invariant-loop l = length l.all ≡ l.counter

@@ -1,6 +1,0 @@
-use Rattle.std.proofs.Common.{◌≡◌, ◌++◌, take}
-use Rattle.printed_tokens.specs.Statements.{aliases}
-use Rattle.token_printer.proofs.imports.put_aliases.Given as goal
-
-abbrev pub invariant-loop-n : goal.invariant-loop-n
-invariant-loop-n l = l.out ≡ l.initial.out ++ aliases (take l.n l.aliases)

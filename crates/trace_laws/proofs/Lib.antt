@@ -1,0 +1,12 @@
+pub mod Bytes
+pub mod Naming
+pub mod Sources
+pub mod Decimals
+pub mod Held
+pub mod Between
+pub mod Listed
+pub mod Signed
+pub mod Modules
+pub mod Nested
+pub mod Told
+pub mod Lists

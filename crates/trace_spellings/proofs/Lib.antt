@@ -1,5 +1,0 @@
-pub mod Bytes
-pub mod Naming
-pub mod Sources
-pub mod Decimals
-pub mod Held

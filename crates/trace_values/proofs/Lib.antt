@@ -1,5 +1,0 @@
-pub mod Items
-pub mod Pieces
-pub mod Whole
-pub mod Signs
-pub mod Paths
