@@ -9,9 +9,8 @@ mod outcomes;
 mod runs;
 mod schedules;
 
-use crate::Runs;
+use crate::runs::Runs;
 use rows_words::{Row, answer_rows_by};
-pub use runs::Runs;
 use std::alloc::Global;
 use std::process::ExitCode;
 
