@@ -60,6 +60,6 @@ fn exit_of(report: Option<Report>) -> ExitCode
 }
 
 /// Runs the program, and gives its exit status.
-pub fn run<R: Threads + Wait + Sync>(rt: HostRuntime, threads: &R) -> ExitCode {
+pub fn run_program<R: Threads + Wait + Sync>(rt: HostRuntime, threads: &R) -> ExitCode {
     exit_of(report(rt, threads))
 }

@@ -8,7 +8,7 @@ mod run;
 mod script;
 
 pub use drive_round::{Gate, OpenGate};
-pub use entry::run;
+pub use entry::run_program;
 pub use laws::each_script_has_a_history;
 pub use program_run::{Out, Report};
 pub use run::{pyimport, run_all, solo};

@@ -1,9 +1,9 @@
 //! The program, run on a script that an error leaves: it ends with status 1.
 #![tactic(auto)]
 
-use pyimport::run;
+use pyimport::run_program;
 use std::process::ExitCode;
 
 fn main(rt: HostRuntime) -> ExitCode {
-    run(rt, &rt)
+    run_program(rt, &rt)
 }

@@ -1,9 +1,9 @@
 //! The program, run on a script that is not there: it ends with status 2.
 #![tactic(auto)]
 
-use pyimport::run;
+use pyimport::run_program;
 use std::process::ExitCode;
 
 fn main(rt: HostRuntime) -> ExitCode {
-    run(rt, &rt)
+    run_program(rt, &rt)
 }
