@@ -11,7 +11,7 @@ use Rattle.drive_round.proofs.round.run_each.Goals as goal
 pub for_each_mut-requires-sync-F : goal.for_each_mut-requires-sync-F
 for_each_mut-requires-sync-F g c κs within =
     let lifetimes = κs.1.1.1.1.1.1 in
-    runner-sync 2 (codes "round_run::round::fn::run_each::for_each_mut+Self") (record { mir = named 6; lft = lifetimes.0 }) (record { mir = named 7; lft = lifetimes.1.0 })
+    runner-sync 2 (codes "drive_round::round::fn::run_each::for_each_mut+Self") (record { mir = named 6; lft = lifetimes.0 }) (record { mir = named 7; lft = lifetimes.1.0 })
     (param 0 g.row.R) (param 1 g.row.O) (param 2 g.row.G) g.O.Outlet c.type_bounds.send-O c.type_bounds.sync-R c.type_bounds.sync-G
 
 pub for_each_mut-requires-clause-accepts : goal.for_each_mut-requires-clause-accepts
