@@ -12,8 +12,8 @@ use Rattle.machine_events.specs.declared.event.Reply.TheVariants as r
 use Rattle.machine_shown.specs.Shown.{Shown, shown_more}
 use Rattle.machine_shown.specs.Knowing.{MayBeSearched}
 use Rattle.meaning_state.specs.declared.fault.Fault.TheVariants as fault
-use Rattle.meaning_script.specs.Pieces.{calls, fails}
-use Rattle.meaning_script.specs.Methods.{path_added, adds_entry, appends, inserts_at, inserts, gets, pops, calls_method_at, calls_method}
+use Rattle.meaning_script.specs.Pieces.{Piece, calls, fails}
+use Rattle.meaning_script.specs.Methods.{path_added, nests_too_deep, adds_entry, appends, inserts_at, inserts, gets, pops, calls_method_at, calls_method}
 use Rattle.meaning_safety.specs.Known.{KnowsValue}
 use Rattle.meaning_safety.proofs.Pieces.{SafeAt, Always, SafeOf, fails_safe, passes_safe, pick_safe, steady}
 use Rattle.meaning_safety.proofs.Values.{nothing_known}
@@ -55,11 +55,16 @@ path_added_safe reply s = fails_safe fault.NotInProfile s
 adds_entry_safe : (s : Shown) (index : Option ℤ) (v : Value) → KnowsValue s v → SafeAt s (adds_entry index v)
 adds_entry_safe s index v known = at (is_special v) refl
   where
-    at : (b : Bool) → is_special v ≡ b → SafeAt s (if b then fails fault.NotInProfile else (λ st k. calls (e.PathAdd index v) (λ reply. path_added reply st k)))
-    at true is = fails_safe fault.NotInProfile s
-    at false is = λ run.
+    added : Piece
+    added = λ st k. calls (e.PathAdd index v) (λ reply. path_added reply st k)
+    added_safe : is_special v ≡ false → SafeAt s added
+    added_safe is = λ run.
         steady s (e.PathAdd index v) (λ reply. path_added reply) (run, (searched v is, known.0)) (λ reply. refl) (λ reply. run)
         (λ reply. path_added_safe reply (shown_more s (e.PathAdd index v, reply))) run
+    at : (b : Bool) → is_special v ≡ b
+        → SafeAt s (if b then fails fault.NotInProfile else if nests_too_deep v then fails fault.PathTooDeep else added)
+    at true is = fails_safe fault.NotInProfile s
+    at false is = pick_safe s (nests_too_deep v) (fails fault.PathTooDeep) added (fails_safe fault.PathTooDeep s) (added_safe is)
 
 appends_safe : (x : List ℕ) → SafeOf (appends x)
 appends_safe x s (v ∷ []) h = adds_entry_safe s None v h.0

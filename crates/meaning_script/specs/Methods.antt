@@ -1,10 +1,11 @@
 -- The methods of `sys.path` and `sys.modules`, which stand for
 -- the search path and the cache. They are read as callees alone.
-use Rattle.std.specs.Prelude.{ℕ, List, [], ◌∷◌, codes, Option, Some, None, Bool, false, ◌||◌, if◌then◌else◌, ℤ}
+use Rattle.std.specs.Prelude.{ℕ, List, [], ◌∷◌, codes, Option, Some, None, Bool, false, ◌||◌, if◌then◌else◌, ℤ, nat_le}
 use Rattle.std.specs.Str.{bytes_eq}
 use Rattle.py_value.specs.declared.value.Value.{Value, out-Value}
 use Rattle.py_value.specs.declared.value.Value.TheVariants as values
 use Rattle.py_value.specs.declared.value.Value.TheOpen.{Value-F}
+use Rattle.py_value.specs.Measures.{nesting_of}
 use Rattle.value_operators.specs.Outcomes.{is_special, number_of}
 use Rattle.machine_events.specs.declared.event.Event.TheVariants as e
 use Rattle.machine_events.specs.declared.event.Reply.{Reply}
@@ -31,9 +32,16 @@ path_added r.Done = passes
 path_added r.Full = fails fault.PathFull
 path_added reply = fails fault.NotInProfile
 
--- what stands for something in the machine is no entry of the path
+-- the search path is a list: around a value that is nested 64 deep it would be nested deeper than a list may be
+abbrev pub nests_too_deep : Value → Bool
+nests_too_deep v = nat_le 64 (nesting_of v)
+
+-- what stands for something in the machine is no entry of the path, and neither is what is nested too deep
 abbrev pub adds_entry : Option ℤ → Value → Piece
-adds_entry at v = if is_special v then fails fault.NotInProfile else (λ s k. calls (e.PathAdd at v) (λ reply. path_added reply s k))
+adds_entry at v =
+    if is_special v then fails fault.NotInProfile
+    else if nests_too_deep v then fails fault.PathTooDeep
+    else (λ s k. calls (e.PathAdd at v) (λ reply. path_added reply s k))
 
 -- `append` takes one argument, which becomes the last entry
 abbrev pub appends : List ℕ → List Value → Piece

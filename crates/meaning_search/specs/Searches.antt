@@ -20,7 +20,8 @@ abbrev pub probe_of : Reply → Option Probe
 probe_of (r.Listing time bare file) = Some (record { time = time; bare = bare; file = file })
 probe_of reply = None
 
--- the run that makes the search and goes on by its answer. An event is paid for but DirSet, after which its names are
+-- the run that makes the search and goes on by its answer, which is what is found of the whole path: that is the law
+-- `a_search_ends_in_what_is_found` of `path_finder`. An event is paid for but DirSet, after which its names are
 abbrev pub searches_in : Search → (Option Found → Run) → Run
 searches_in (search.Ends answer) k = k answer
 searches_in (search.Pays of_tree next) k = Pays of_tree 1 (searches_in next k)

@@ -76,6 +76,7 @@ error_of (fault.MethodCount x) = raised kinds.TypeError (codes "wrong number of 
 error_of fault.NotIndices = raised kinds.TypeError (codes "indices must be integers")
 error_of fault.Unhashable = raised kinds.TypeError (codes "unhashable type: 'list'")
 error_of fault.PathFull = raised kinds.ProfileError (codes "list too long")
+error_of fault.PathTooDeep = raised kinds.ProfileError (codes "list too deep")
 error_of fault.NotReloadable = raised kinds.TypeError (codes "reload() argument must be a module")
 error_of (fault.NotCached n) = import_error (codes "module " ++ n ++ codes " not in sys.modules") n
 error_of (fault.NoLongerCached n) = import_error (codes "module '" ++ n ++ codes "' not in sys.modules") n

@@ -86,6 +86,8 @@ pub enum Fault {
     Unhashable,
     /// The search path has 4,096 entries.
     PathFull,
+    /// An entry for the search path is nested so deep that a list around it would be past the limit.
+    PathTooDeep,
     /// What is to be reloaded is no module.
     NotReloadable,
     /// The module that is to be reloaded is not the entry of its name.
@@ -394,6 +396,7 @@ pub fn raised(alloc: Global, fault: Fault) -> Result<Raised, NoMemory>
         Fault::NotIndices => return plain(alloc, Kind::TypeError, "indices must be integers"),
         Fault::Unhashable => return plain(alloc, Kind::TypeError, "unhashable type: 'list'"),
         Fault::PathFull => return plain(alloc, Kind::ProfileError, "list too long"),
+        Fault::PathTooDeep => return plain(alloc, Kind::ProfileError, "list too deep"),
         Fault::NotReloadable => {
             return plain(alloc, Kind::TypeError, "reload() argument must be a module");
         }

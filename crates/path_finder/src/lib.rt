@@ -1,6 +1,7 @@
 //! The search for a module, over listings that are handed in.
 #![tactic(auto)]
 
+mod laws;
 mod load;
 mod look;
 mod probes;
@@ -8,6 +9,7 @@ mod sought;
 mod stamps;
 mod words;
 
+pub use laws::a_search_ends_in_what_is_found;
 pub use load::{LoadFault, load_text};
 pub use look::Look;
 pub use words::{Found, LookIn, LookWant, Probe};

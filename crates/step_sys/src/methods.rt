@@ -2,6 +2,7 @@
 ghost use Rattle.std.specs.Prelude.{◌≡◌, IfOk};
 ghost use Rattle.value_operators.specs.Outcomes as outcomes;
 ghost use Rattle.py_syntax.specs.declared.expr.Expr.{out-Expr};
+ghost use Rattle.meaning_script.specs.Methods as methods;
 ghost use Rattle.meaning_script.specs.Methods.{calls_on_path, calls_on_cache};
 ghost use Rattle.meaning_script.specs.Pieces.{fails, sized};
 ghost use Rattle.step_sys.specs.Arguments.{appends_one, inserts_two, gets_key, pops_key};
@@ -18,9 +19,10 @@ use machine_events::{Event, Reply};
 use meaning_state::{Fault, Thread};
 use py_frames::{Frame, Item, OnReply, Want};
 use py_syntax::Expr;
-use py_value::Value;
+use py_value::{Value, nesting};
 use std::alloc::Global;
 use step_shared::{fail, went};
+use value_operators::MOST_NESTING;
 
 fn attribute_name(expr: &Expr) -> &str
     ensures { result.now ≡ does.attribute_name (out-Expr expr.now) }
@@ -49,6 +51,13 @@ fn is_special(value: &Value) -> bool
         Value::SysModules | Value::SysPath | Value::NsPath => true,
         _ => false,
     }
+}
+
+/// Whether a list around a value would be nested too deep.
+fn nests_too_deep(value: &Value) -> bool
+    ensures { result ≡ methods.nests_too_deep value.now }
+{
+    nesting(value) >= MOST_NESTING
 }
 
 /// A value as a number.
@@ -178,6 +187,9 @@ pub fn add_entry(
 {
     if is_special(&value) {
         return fail(alloc, thread, Fault::NotInProfile);
+    }
+    if nests_too_deep(&value) {
+        return fail(alloc, thread, Fault::PathTooDeep);
     }
     Ok(Want::Call(Event::PathAdd { at, value }, OnReply::PathAdded))
 }
