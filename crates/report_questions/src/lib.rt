@@ -9,4 +9,4 @@ mod sources;
 
 pub use modules::package_of_file;
 pub use question::{Query, Question};
-pub use sources::questions;
+pub use sources::{questions, too_long};

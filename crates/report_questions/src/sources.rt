@@ -1,5 +1,6 @@
 //! What the imports of a source ask.
-ghost use Rattle.std.specs.Prelude.{◌≡◌, ◌++◌, ◌∷◌, [], IfOk, OnOk, Ok};
+ghost use Rattle.std.specs.Prelude.{◌≡◌, ◌++◌, ◌∷◌, ◌<◌, [], ℕ, List, length, Option, IfOk, OnOk, Ok};
+ghost use Rattle.base_types.specs.declared.limits.TheConstants.{LONGEST_SOURCE};
 ghost use Rattle.py_lexer.specs.SourceReading.{source};
 ghost use Rattle.report_questions.specs.Questions as list;
 ghost use Rattle.report_questions.specs.Sources as spec;
@@ -10,7 +11,7 @@ use crate::faults::fault_of;
 use crate::question::{Query, Question};
 use crate::relative::queries_of;
 use base_types::{NoMemory, Seq, Text};
-use py_lexer::tokens;
+use py_lexer::{LexError, tokens};
 use py_parser::{ParseError, parse};
 use py_syntax::Script;
 use source_imports::{Import, imports_of};
@@ -45,6 +46,14 @@ fn fault_alone(alloc: Global, error: ParseError) -> Result<Seq<Question>, NoMemo
     let mut questions = Seq::new(alloc);
     questions.push(fault_of(alloc, error)?)?;
     Ok(questions)
+}
+
+/// The one question of a source that is too long, which is told of its first line.
+pub fn too_long(alloc: Global) -> Result<Seq<Question>, NoMemory>
+    ensures { (home : Option (List ℕ)) (src : List ℕ) → LONGEST_SOURCE < length src
+        → IfOk result (λ all. all ≡ spec.questions home src) }
+{
+    fault_alone(alloc, ParseError::Lex(LexError::TooLong))
 }
 
 /// The one line of a source that has no tree. Want of memory is no fault of a source.
