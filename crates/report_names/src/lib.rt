@@ -4,5 +4,5 @@
 mod meaning;
 mod seeking;
 
-pub use meaning::{Meaning, meaning_of};
+pub use meaning::{Meaning, entries, meaning_of};
 pub use seeking::search;

@@ -38,7 +38,7 @@ fn is_builtin(name: &str) -> bool
 }
 
 /// The entries of a path as a search takes them.
-fn entries(path: &Texts) -> Result<Items, NoMemory>
+pub fn entries(path: &Texts) -> Result<Items, NoMemory>
     ensures { IfOk result (λ items. items ≡ spec.entries path.now) }
 {
     let mut items = Seq::new(path.alloc());

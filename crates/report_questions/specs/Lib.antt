@@ -1,0 +1,4 @@
+pub mod Modules
+pub mod Questions
+pub mod Faults
+pub mod Sources
