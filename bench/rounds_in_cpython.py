@@ -132,11 +132,13 @@ def made_of(pick):
     known = sorted({*files, *others} - {KEPT})
     texts = [text for name, text in [*files.items(), *others.items()] if name != KEPT]
     rounds = []
-    for turn in range(pick.randrange(2, 5)):
+    count = pick.randrange(2, 5)
+    for turn in range(count):
         edits = [edit_of(pick, known, texts, turn) for _ in range(pick.randrange(5))]
         script = f"s{turn}.py"
-        lines = trees.Body(pick, "", is_main=True).lines(8)
-        files[script] = "".join(line + "\n" for line in ["import st", "st.n = 0", *lines, "import sys"]) + tail
+        lines = ["import st", "st.n = 0", *trees.Body(pick, "", is_main=True).lines(8), "import sys"]
+        # (what is left of the modules is told at the very end: `hasattr` of a namespace's path searches it here, and not there)
+        files[script] = "".join(line + "\n" for line in lines) + (tail if turn == count - 1 else "")
         rounds.append((edits, script))
     return files, path, rounds
 
