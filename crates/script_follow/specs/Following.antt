@@ -1,0 +1,64 @@
+-- Where a recorded list of a script's events parts from what the script means.
+use Rattle.std.specs.Prelude.{ℕ, ◌≡◌, ◌<◌, ◌⊎◌, List, [], ◌∷◌, Some, None, Option, take, length, slice_get, IfSome}
+use Rattle.tree_files.specs.Files.{Files}
+use Rattle.machine_events.specs.Fitting.{Fits}
+use Rattle.machine_events.specs.declared.event.Event.{Event}
+use Rattle.machine_events.specs.declared.event.Event.TheVariants as e
+use Rattle.machine_events.specs.declared.event.Reply.{Reply}
+use Rattle.machine_events.specs.declared.event.Outcome.{Outcome}
+use Rattle.machine_events.specs.declared.event.Outcome.TheVariants as o
+use Rattle.machine_events.specs.declared.event.Follow.{Follow}
+use Rattle.machine_events.specs.declared.event.Follow.TheVariants as ways
+use Rattle.meaning_runs.specs.Runs.{Run, How, Came, Cut, on_budget, replies_of}
+use Rattle.meaning_runs.specs.Follows.{Follows, Ends}
+
+-- the budget that an End tells: what was paid, where a call of the tree failed, and else the fuel
+abbrev pub budget_of : ℕ → Outcome → ℕ → ℕ
+budget_of fuel o.Normal spent = fuel
+budget_of fuel (o.Raised error) spent = fuel
+budget_of fuel o.Fuel spent = fuel
+budget_of fuel o.Read spent = spent
+
+-- the budget by which a list is to be followed: that of its first End, and the fuel where it has none
+abbrev pub budget_by : ℕ → List (Event × Reply) → ℕ
+budget_by fuel [] = fuel
+budget_by fuel ((e.End outcome spent, reply) ∷ own) = budget_of fuel outcome spent
+budget_by fuel (pair ∷ own) = budget_by fuel own
+
+-- the event that is due after these pairs: the next that the run makes on their replies with this budget,
+-- or, where the run is over, the End that tells how
+abbrev pub IsDue : Files → ℕ → Run → ℕ → ℕ → List (Event × Reply) → Event → Type 0
+IsDue files t run fuel budget before event =
+    (on_budget files t run budget (replies_of before) ≡ record { pairs = before; stop = Cut event; left = [] })
+    ⊎ ((how : How) × (outcome : Outcome) × (paid : ℕ) × (event ≡ e.End outcome paid) × (budget ≡ budget_of fuel outcome paid) × Ends fuel outcome paid how
+    × (on_budget files t run budget (replies_of before) ≡ record { pairs = before; stop = Came how; left = [] }))
+
+-- each reply is of a kind that its event can get: one that is not ends what the script means there
+abbrev pub AllFit : List (Event × Reply) → Type 0
+AllFit [] = Unit {0}
+AllFit (pair ∷ own) = Fits pair.0 pair.1 × AllFit own
+
+-- at this place of the list stands the event that is due there
+pub record IsRightAt (files : Files) (t : ℕ) (run : Run) (fuel : ℕ) (own : List (Event × Reply)) (at : ℕ) : Type 0 where
+  pub pair : Event × Reply
+  pub there : slice_get own at ≡ Some pair
+  pub fit : AllFit (take at own)
+  pub due : IsDue files t run fuel (budget_by fuel own) (take at own) pair.0
+
+-- the list is all that the script makes, up to its one End, and each reply fits
+pub record IsWhole (files : Files) (t : ℕ) (run : Run) (fuel : ℕ) (own : List (Event × Reply)) : Type 0 where
+  pub outcome : Outcome
+  pub follows : Follows files t run fuel own outcome
+  pub fit : AllFit own
+
+-- the least place that parts: a place of the list with an event that is not the one
+-- that is due, or the length of the list, where an event or the End is missing
+pub record IsPart (files : Files) (t : ℕ) (run : Run) (fuel : ℕ) (own : List (Event × Reply)) (at : ℕ) : Type 0 where
+  pub before : (i : ℕ) → i < at → IsRightAt files t run fuel own i
+  pub here : IsRightAt files t run fuel own at → ⊥
+  pub broken : IsWhole files t run fuel own → ⊥
+
+-- whether a recorded list follows what the script means
+abbrev pub Answers : Files → ℕ → Run → ℕ → List (Event × Reply) → Follow → Type 0
+Answers files t run fuel own ways.Yes = IsWhole files t run fuel own
+Answers files t run fuel own (ways.Parts at) = IsPart files t run fuel own at
