@@ -1,7 +1,6 @@
 -- Where a recorded list of a script's events parts from what the script means.
-use Rattle.std.specs.Prelude.{ℕ, ◌≡◌, ◌<◌, ◌⊎◌, List, [], ◌∷◌, Some, None, Option, take, length, slice_get, IfSome}
+use Rattle.std.specs.Prelude.{ℕ, ◌≡◌, ◌<◌, ◌⊎◌, List, [], ◌∷◌, Some, take, slice_get}
 use Rattle.tree_files.specs.Files.{Files}
-use Rattle.machine_events.specs.Fitting.{Fits}
 use Rattle.machine_events.specs.declared.event.Event.{Event}
 use Rattle.machine_events.specs.declared.event.Event.TheVariants as e
 use Rattle.machine_events.specs.declared.event.Reply.{Reply}
@@ -9,8 +8,9 @@ use Rattle.machine_events.specs.declared.event.Outcome.{Outcome}
 use Rattle.machine_events.specs.declared.event.Outcome.TheVariants as o
 use Rattle.machine_events.specs.declared.event.Follow.{Follow}
 use Rattle.machine_events.specs.declared.event.Follow.TheVariants as ways
-use Rattle.meaning_runs.specs.Runs.{Run, How, Came, Cut, on_budget, replies_of}
+use Rattle.meaning_runs.specs.Runs.{Run, How, Stop, Came, Cut, on_budget, replies_of}
 use Rattle.meaning_runs.specs.Follows.{Follows, Ends}
+use Rattle.drive_port.specs.Replay.{AllFit}
 
 -- the budget that an End tells: what was paid, where a call of the tree failed, and else the fuel
 abbrev pub budget_of : ℕ → Outcome → ℕ → ℕ
@@ -19,26 +19,39 @@ budget_of fuel (o.Raised error) spent = fuel
 budget_of fuel o.Fuel spent = fuel
 budget_of fuel o.Read spent = spent
 
+-- the budget that an event tells, where it is an End, and else one that is given
+abbrev pub budget_or : ℕ → Event → ℕ → ℕ
+budget_or fuel (e.End outcome spent) other = budget_of fuel outcome spent
+budget_or fuel event other = other
+
 -- the budget by which a list is to be followed: that of its first End, and the fuel where it has none
 abbrev pub budget_by : ℕ → List (Event × Reply) → ℕ
 budget_by fuel [] = fuel
-budget_by fuel ((e.End outcome spent, reply) ∷ own) = budget_of fuel outcome spent
-budget_by fuel (pair ∷ own) = budget_by fuel own
+budget_by fuel (pair ∷ own) = budget_or fuel pair.0 (budget_by fuel own)
+
+-- the run with this budget makes these pairs on their replies, and stops so
+abbrev pub StopsBy : Files → ℕ → Run → ℕ → List (Event × Reply) → Stop → Type 0
+StopsBy files t run budget before stop =
+    on_budget files t run budget (replies_of before) ≡ record { pairs = before; stop = stop; left = [] }
+
+-- the End that is due where the run is over: it tells how, by what the budget is
+pub record IsDueEnd (files : Files) (t : ℕ) (run : Run) (fuel budget : ℕ) (before : List (Event × Reply)) (event : Event) : Type 0 where
+  pub how : How
+  pub outcome : Outcome
+  pub paid : ℕ
+  pub is : event ≡ e.End outcome paid
+  pub within : budget ≡ budget_of fuel outcome paid
+  pub ends : Ends fuel outcome paid how
+  pub over : StopsBy files t run budget before (Came how)
 
 -- the event that is due after these pairs: the next that the run makes on their replies with this budget,
--- or, where the run is over, the End that tells how
+-- or, where the run is over, the End
 abbrev pub IsDue : Files → ℕ → Run → ℕ → ℕ → List (Event × Reply) → Event → Type 0
 IsDue files t run fuel budget before event =
-    (on_budget files t run budget (replies_of before) ≡ record { pairs = before; stop = Cut event; left = [] })
-    ⊎ ((how : How) × (outcome : Outcome) × (paid : ℕ) × (event ≡ e.End outcome paid) × (budget ≡ budget_of fuel outcome paid) × Ends fuel outcome paid how
-    × (on_budget files t run budget (replies_of before) ≡ record { pairs = before; stop = Came how; left = [] }))
+    StopsBy files t run budget before (Cut event) ⊎ IsDueEnd files t run fuel budget before event
 
--- each reply is of a kind that its event can get: one that is not ends what the script means there
-abbrev pub AllFit : List (Event × Reply) → Type 0
-AllFit [] = Unit {0}
-AllFit (pair ∷ own) = Fits pair.0 pair.1 × AllFit own
-
--- at this place of the list stands the event that is due there
+-- at this place of the list stands the event that is due there. A reply
+-- of a kind that its event cannot get ends what the script means, so no event is due behind it
 pub record IsRightAt (files : Files) (t : ℕ) (run : Run) (fuel : ℕ) (own : List (Event × Reply)) (at : ℕ) : Type 0 where
   pub pair : Event × Reply
   pub there : slice_get own at ≡ Some pair

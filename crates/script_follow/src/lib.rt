@@ -4,4 +4,4 @@
 
 mod follow;
 
-pub use follow::follow;
+pub use follow::count;
