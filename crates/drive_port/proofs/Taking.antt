@@ -1,10 +1,11 @@
 -- One more pair of a recorded list.
-use Rattle.std.proofs.Common.{◌≡◌, ℕ, zero, suc, ◌+◌, List, [], ◌∷◌, ◌++◌, take, slice_get, Some, ap, subst, sym, arith}
+use Rattle.std.proofs.Common.{◌≡◌, ℕ, zero, suc, ◌+◌, List, [], ◌∷◌, ◌++◌, take, slice_get, Some, Result, Ok, Err, IfOk, OnErr, ap, subst, sym, arith}
 use Rattle.std.proofs.lemmas.Option.{slice_get_within}
 use Rattle.machine_events.specs.declared.event.Event.{Event}
 use Rattle.machine_events.specs.declared.event.Reply.{Reply}
 use Rattle.machine_events.specs.declared.event.Pair.{Pair}
 use Rattle.machine_events.specs.Fitting.{Fits}
+use Rattle.drive_port.specs.declared.port.Halt.{Halt}
 use Rattle.drive_port.specs.Replay.{pairs_of, AllFit, Met}
 
 pub taken_more : (own : List Pair) (at : ℕ) (p : Pair) → slice_get own at ≡ Some p → pairs_of (take (suc at) own) ≡ pairs_of (take at own) ++ (p.event, p.reply) ∷ []
@@ -35,3 +36,9 @@ met_more own own' at at' e r same next here fits met =
 -- none more is met
 pub met_still : (own own' : List Pair) (at at' : ℕ) → own' ≡ own → at' ≡ at → Met own at → Met own' at'
 met_still own own' at at' same still met = rw (same, still) met
+
+-- after a call that was answered or refused
+pub met_after : (own own' : List Pair) (at at' : ℕ) (e : Event) (r : Result Reply Halt) → own' ≡ own
+    → IfOk r (λ reply. (at' ≡ at + 1) × (slice_get own at ≡ Some (record { event = e; reply = reply })) × Fits e reply) → OnErr r (at' ≡ at) → Met own at → Met own' at'
+met_after own own' at at' e (Ok reply) same ok err met = met_more own own' at at' e reply same ok.0 ok.1 ok.2 met
+met_after own own' at at' e (Err halt) same ok err met = met_still own own' at at' same err met

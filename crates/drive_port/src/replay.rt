@@ -47,7 +47,6 @@ impl ReplayPort<'_> {
             (slice_get self.old.own.now self.old.at) event.now }
         ensures own { self.new.own.now ≡ self.old.own.now }
         ensures number { self.new.number ≡ self.old.number }
-        ensures met { Met self.old.own.now self.old.at → Met self.new.own.now self.new.at }
     {
         self.misfit = false;
         let pair = match self.own.get(self.at) {

@@ -1,2 +1,4 @@
 mod Playing
 mod Parting
+mod Due
+mod Ending

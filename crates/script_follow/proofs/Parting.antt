@@ -27,12 +27,12 @@ take_there [] (suc i) p h = absurd (cc h)
 take_there (x ∷ own) zero p h = let same : x ≡ p = cc h in ap (λ (q : Event × Reply). q ∷ own) same
 take_there (x ∷ own) (suc i) p h = ap (λ (ps : List (Event × Reply)). x ∷ ps) (take_there own i p h)
 
-some_there : (own : List (Event × Reply)) (i : ℕ) → i < length own → (p : Event × Reply) × (slice_get own i ≡ Some p)
+pub some_there : (own : List (Event × Reply)) (i : ℕ) → i < length own → (p : Event × Reply) × (slice_get own i ≡ Some p)
 some_there [] i less = absurd (omega (arith, less))
 some_there (x ∷ own) zero less = (x, refl)
 some_there (x ∷ own) (suc i) less = some_there own i (omega (arith, less))
 
-take_one_more : (own : List (Event × Reply)) (i : ℕ) (p : Event × Reply) → slice_get own i ≡ Some p → take (suc i) own ≡ take i own ++ p ∷ []
+pub take_one_more : (own : List (Event × Reply)) (i : ℕ) (p : Event × Reply) → slice_get own i ≡ Some p → take (suc i) own ≡ take i own ++ p ∷ []
 take_one_more [] zero p h = absurd (cc h)
 take_one_more [] (suc i) p h = absurd (cc h)
 take_one_more (x ∷ own) zero p h = let same : x ≡ p = cc h in ap (λ (q : Event × Reply). q ∷ []) same
@@ -46,7 +46,7 @@ front_there (x ∷ own) zero i p h less = absurd (omega (arith, less))
 front_there (x ∷ own) (suc n) zero p h less = h
 front_there (x ∷ own) (suc n) (suc i) p h less = front_there own n i p h (omega (arith, less))
 
-take_all : (own : List (Event × Reply)) (n : ℕ) → length own ≤ n → take n own ≡ own
+pub take_all : (own : List (Event × Reply)) (n : ℕ) → length own ≤ n → take n own ≡ own
 take_all [] zero h = refl
 take_all [] (suc n) h = refl
 take_all (x ∷ own) zero h = absurd (omega (arith, h))
@@ -69,16 +69,16 @@ fit_there (x ∷ own) (suc i) p h all = fit_there own i p h all.1
 -- What is due.
 
 -- a run stops in one way
-one_stop : {f : Files} {t : ℕ} {run : Run} {budget : ℕ} {before : List (Event × Reply)} {a b : Stop} → StopsBy f t run budget before a → StopsBy f t run budget before b → a ≡ b
+pub one_stop : {f : Files} {t : ℕ} {run : Run} {budget : ℕ} {before : List (Event × Reply)} {a b : Stop} → StopsBy f t run budget before a → StopsBy f t run budget before b → a ≡ b
 one_stop a b = ap (λ (x : Ending). x.stop) (sym a ∙ b)
 
-cut_came : (event : Event) (how : How) → Cut event ≡ Came how → ⊥
+pub cut_came : (event : Event) (how : How) → Cut event ≡ Came how → ⊥
 cut_came event how is = cc is
 
-one_cut : (a b : Event) → Cut a ≡ Cut b → a ≡ b
+pub one_cut : (a b : Event) → Cut a ≡ Cut b → a ≡ b
 one_cut a b is = cc is
 
-one_came : (a b : How) → Came a ≡ Came b → a ≡ b
+pub one_came : (a b : How) → Came a ≡ Came b → a ≡ b
 one_came a b is = cc is
 
 -- up to where a run stops on the pairs of a list, each is the one that is due
@@ -140,7 +140,7 @@ budget_behind fuel [] outcome paid r more none = refl
 budget_behind fuel (pair ∷ before) outcome paid r more none =
     budget_other fuel pair.0 (budget_by fuel (before ++ (e.End outcome paid, r) ∷ more)) (omega (arith, none)) ∙ budget_behind fuel before outcome paid r more (omega (arith, none))
 
-budget_ends : (fuel : ℕ) (outcome : Outcome) (paid : ℕ) (how : How) → Ends fuel outcome paid how → budget_of fuel outcome paid ≡ paid
+pub budget_ends : (fuel : ℕ) (outcome : Outcome) (paid : ℕ) (how : How) → Ends fuel outcome paid how → budget_of fuel outcome paid ≡ paid
 budget_ends fuel o.Normal paid how ends = sym ends.1
 budget_ends fuel (o.Raised error) paid how ends = sym ends.1
 budget_ends fuel o.Fuel paid how ends = sym ends.1
@@ -162,7 +162,7 @@ there_behind : (before : List (Event × Reply)) (p : Event × Reply) → slice_g
 there_behind [] p = refl
 there_behind (x ∷ before) p = there_behind before p
 
-length_more : (before : List (Event × Reply)) (p : Event × Reply) → length (before ++ p ∷ []) ≡ length before + 1
+pub length_more : (before : List (Event × Reply)) (p : Event × Reply) → length (before ++ p ∷ []) ≡ length before + 1
 length_more [] p = refl
 length_more (x ∷ before) p = let more = length_more before p in omega (arith, more)
 

@@ -1,5 +1,5 @@
 -- Where a recorded list of a script's events parts from what the script means.
-use Rattle.std.specs.Prelude.{ℕ, ◌≡◌, ◌<◌, ◌⊎◌, List, [], ◌∷◌, Some, take, slice_get}
+use Rattle.std.specs.Prelude.{ℕ, ◌≡◌, ◌<◌, ◌+◌, ◌==◌, ◌⊎◌, Bool, true, false, if◌then◌else◌, List, [], ◌∷◌, Some, take, slice_get}
 use Rattle.tree_files.specs.Files.{Files}
 use Rattle.machine_events.specs.declared.event.Event.{Event}
 use Rattle.machine_events.specs.declared.event.Event.TheVariants as e
@@ -75,3 +75,13 @@ pub record IsPart (files : Files) (t : ℕ) (run : Run) (fuel : ℕ) (own : List
 abbrev pub Answers : Files → ℕ → Run → ℕ → List (Event × Reply) → Follow → Type 0
 Answers files t run fuel own ways.Yes = IsWhole files t run fuel own
 Answers files t run fuel own (ways.Parts at) = IsPart files t run fuel own at
+
+-- where the event that is due is refused, its place parts; but where it stands there with a reply of no kind for it,
+-- the place behind it
+abbrev pub part_of : Bool → ℕ → ℕ
+part_of true at = at + 1
+part_of false at = at
+
+-- behind the End the list has to be used up
+abbrev pub answer_behind : ℕ → ℕ → Follow
+answer_behind at count = if at == count then ways.Yes else ways.Parts at
