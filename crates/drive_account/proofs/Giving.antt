@@ -48,9 +48,9 @@ refused_given first old new h event before after is stays idle popped gave same 
       event = event;
       refuses = refuses;
       due = λ files whole budget of_tree up. (
-            λ _. gives_up of_tree (held_in after),
-            rw (same, is) (subst (λ (all : List Holding). Reaches files (spend budget (shown_first first.number) whole) 0 old.mine (gives_up of_tree all)) held (gave files whole budget of_tree up)),
-          );
+        λ _. gives_up of_tree (held_in after),
+        rw (same, is) (subst (λ (all : List Holding). Reaches files (spend budget (shown_first first.number) whole) 0 old.mine (gives_up of_tree all)) held (gave files whole budget of_tree up)),
+      );
     }
 
 -- where nothing is held the End may be made

@@ -1,5 +1,6 @@
 -- What is paid for replies.
-use Rattle.std.proofs.Common.{◌≡◌, ◌≤◌, ◌-◌, ℕ, zero, suc, List, Bool, true, false, Option, refl, ◌∙◌, sym, ap, subst, tt, arith}
+use Rattle.std.proofs.Common.{◌≡◌, ◌≤◌, ◌-◌, ◌&&◌, ℕ, nat_lt, List, Bool, true, false, if◌then◌else◌, Option, Some, None, refl, ◌∙◌, sym, ap, subst}
+use Rattle.std.proofs.lemmas.Bool.{ltb-true}
 use Rattle.tree_files.specs.Files.{Files}
 use Rattle.machine_events.specs.declared.event.Event.{Event}
 use Rattle.machine_events.specs.declared.event.Reply.{Reply}
@@ -57,8 +58,11 @@ owed {files = files} {whole} {fuel} {mine} purse reply units next other is at =
 -- what would be told of a read that fails right behind a payment is where the script stands before it
 pub told_unread : {files : Option Files} {whole : Run} {fuel : ℕ} {mine : List (Event × Reply)} (budget units : ℕ) (of_tree : Bool) (next : Run) → units ≤ budget
     → Stands files whole fuel mine budget (Pays of_tree units next) → MayBeUnread files whole fuel mine (told_of budget of_tree units)
-told_unread budget zero true next enough s = tt
-told_unread budget (suc less) true next enough s = record { units = suc less; next = next; stands = s; some = omega arith; enough = enough }
+told_unread {files} {whole} {fuel} {mine} budget units true next enough s = at (nat_lt 0 units) refl
+  where
+    at : (some : Bool) → nat_lt 0 units ≡ some → MayBeUnread files whole fuel mine (if true && some then Some budget else None)
+    at true is = record { units = units; next = next; stands = s; some = ltb-true 0 units is; enough = enough }
+    at false is = tt
 told_unread budget units false next enough s = tt
 
 -- a payment that is made: the script stands behind it
