@@ -44,6 +44,10 @@ pub record IsDueEnd (files : Files) (t : ℕ) (run : Run) (fuel budget : ℕ) (b
   pub ends : Ends fuel outcome paid how
   pub over : StopsBy files t run budget before (Came how)
 
+-- where a run is over in this way, no End tells it by what the budget is
+abbrev pub NoEnd : ℕ → ℕ → How → Type 0
+NoEnd fuel budget how = (outcome : Outcome) (paid : ℕ) → budget ≡ budget_of fuel outcome paid → Ends fuel outcome paid how → ⊥
+
 -- the event that is due after these pairs: the next that the run makes on their replies with this budget,
 -- or, where the run is over, the End
 abbrev pub IsDue : Files → ℕ → Run → ℕ → ℕ → List (Event × Reply) → Event → Type 0

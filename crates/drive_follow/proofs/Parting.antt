@@ -1,7 +1,7 @@
 -- Where a recorded list parts.
 use Rattle.std.proofs.Common.{◌≡◌, ◌≤◌, ◌<◌, ◌⊎◌, inl, inr, ℕ, zero, suc, ◌+◌, List, [], ◌∷◌, ◌++◌, Option, Some, None, length, take, drop, slice_get, refl, sym, ◌∙◌, ap, subst, arith}
 use Rattle.std.proofs.lemmas.Bool.{cases_lt}
-use Rattle.std.proofs.lemmas.List.{append-nil, append_assoc, append_cancel_left, take-append-drop, take-take, length-take-le, take_append_seam}
+use Rattle.std.proofs.lemmas.List.{append-nil, append_assoc, append_cancel_left, take-append-drop, take-take, length-take-le, take_all}
 use Rattle.std.proofs.lemmas.Option.{slice_get_within}
 use Rattle.tree_files.specs.Files.{Files}
 use Rattle.machine_events.specs.Fitting.{Fits}
@@ -16,8 +16,8 @@ use Rattle.meaning_runs.specs.Lists.{ends, ends_in}
 use Rattle.meaning_runs.specs.Follows.{Follows, Ends}
 use Rattle.meaning_runs.specs.Runs.{Run, Stop, Cut, Came, How, Ending, on_budget, replies_of, spend, Safe}
 use Rattle.drive_port.specs.Replay.{AllFit}
-use Rattle.script_follow.specs.Following.{budget_of, budget_or, budget_by, StopsBy, IsDueEnd, IsDue, IsRightAt, IsWhole, IsPart}
-use Rattle.script_follow.proofs.Playing.{play_cut, ends_more, budget_no_end}
+use Rattle.drive_follow.specs.Following.{budget_of, budget_or, budget_by, StopsBy, IsDueEnd, IsDue, IsRightAt, IsWhole, IsPart}
+use Rattle.drive_follow.proofs.Playing.{play_cut, ends_more, budget_no_end}
 
 -- Lists up to a place.
 
@@ -46,15 +46,9 @@ front_there (x ∷ own) zero i p h less = absurd (omega (arith, less))
 front_there (x ∷ own) (suc n) zero p h less = h
 front_there (x ∷ own) (suc n) (suc i) p h less = front_there own n i p h (omega (arith, less))
 
-pub take_all : (own : List (Event × Reply)) (n : ℕ) → length own ≤ n → take n own ≡ own
-take_all [] zero h = refl
-take_all [] (suc n) h = refl
-take_all (x ∷ own) zero h = absurd (omega (arith, h))
-take_all (x ∷ own) (suc n) h = ap (λ (ps : List (Event × Reply)). x ∷ ps) (take_all own n (omega (arith, h)))
-
 -- Replies that fit.
 
-fit_front : (own : List (Event × Reply)) (n : ℕ) → AllFit own → AllFit (take n own)
+pub fit_front : (own : List (Event × Reply)) (n : ℕ) → AllFit own → AllFit (take n own)
 fit_front [] zero all = tt
 fit_front [] (suc n) all = tt
 fit_front (x ∷ own) zero all = tt
@@ -69,8 +63,8 @@ fit_there (x ∷ own) (suc i) p h all = fit_there own i p h all.1
 -- What is due.
 
 -- a run stops in one way
-pub one_stop : {f : Files} {t : ℕ} {run : Run} {budget : ℕ} {before : List (Event × Reply)} {a b : Stop} → StopsBy f t run budget before a → StopsBy f t run budget before b → a ≡ b
-one_stop a b = ap (λ (x : Ending). x.stop) (sym a ∙ b)
+pub one_stop : {x : Ending} {before : List (Event × Reply)} {a b : Stop} → x ≡ record { pairs = before; stop = a; left = [] } → x ≡ record { pairs = before; stop = b; left = [] } → a ≡ b
+one_stop p q = ap (λ (e : Ending). e.stop) (sym p ∙ q)
 
 pub cut_came : (event : Event) (how : How) → Cut event ≡ Came how → ⊥
 cut_came event how is = cc is
@@ -154,7 +148,7 @@ budget_of_whole fuel own before outcome paid how is once ends =
 
 -- Lists that are whole.
 
-take_front : (before : List (Event × Reply)) (p : Event × Reply) (more : List (Event × Reply)) → take (length before) (before ++ p ∷ more) ≡ before
+pub take_front : (before : List (Event × Reply)) (p : Event × Reply) (more : List (Event × Reply)) → take (length before) (before ++ p ∷ more) ≡ before
 take_front [] p more = refl
 take_front (x ∷ before) p more = ap (λ (ps : List (Event × Reply)). x ∷ ps) (take_front before p more)
 
@@ -214,7 +208,7 @@ parts_at f t run fuel own at stop safe within fit stops wrong = record {
   here = wrong;
   broken = λ whole. elim (cases_lt at (length own)) [
     | inl less ↦ wrong (whole_right f t run fuel own whole at less)
-    | inr all ↦ not_whole f t run fuel own stop safe (subst (λ (x : List (Event × Reply)). StopsBy f t run (budget_by fuel own) x stop) (take_all own at all) stops) whole
+    | inr all ↦ not_whole f t run fuel own stop safe (subst (λ (x : List (Event × Reply)). StopsBy f t run (budget_by fuel own) x stop) (take_all at own all) stops) whole
   ];
 }
 

@@ -2,3 +2,4 @@ mod Playing
 mod Parting
 mod Due
 mod Ending
+mod Telling

@@ -8,8 +8,8 @@ use Rattle.machine_events.specs.declared.event.Outcome.{Outcome}
 use Rattle.machine_events.specs.declared.event.Outcome.TheVariants as o
 use Rattle.meaning_runs.specs.Follows.{Ends}
 use Rattle.meaning_runs.specs.Runs.{Run, Stop, Cut, Came, How, Ended, Spent}
-use Rattle.script_follow.specs.Following.{budget_of, StopsBy, IsDueEnd, IsDue}
-use Rattle.script_follow.proofs.Parting.{one_stop, one_cut, one_came, cut_came}
+use Rattle.drive_follow.specs.Following.{budget_of, StopsBy, IsDueEnd, IsDue, NoEnd}
+use Rattle.drive_follow.proofs.Parting.{one_stop, one_cut, one_came, cut_came}
 
 -- the event is due, and no other is
 pub record IsOnlyDue (f : Files) (t : ℕ) (run : Run) (fuel budget : ℕ) (before : List (Event × Reply)) (event : Event) : Type 0 where
@@ -21,9 +21,6 @@ pub record IsOnlyDue (f : Files) (t : ℕ) (run : Run) (fuel budget : ℕ) (befo
 -- where a run is over, which Ends tell how
 abbrev pub OnlyEnd : ℕ → ℕ → How → Event → Type 0
 OnlyEnd fuel budget how event = (outcome : Outcome) (paid : ℕ) → budget ≡ budget_of fuel outcome paid → Ends fuel outcome paid how → e.End outcome paid ≡ event
-
-abbrev pub NoEnd : ℕ → ℕ → How → Type 0
-NoEnd fuel budget how = (outcome : Outcome) (paid : ℕ) → budget ≡ budget_of fuel outcome paid → Ends fuel outcome paid how → ⊥
 
 pub only_cut : (f : Files) (t : ℕ) (run : Run) (fuel budget : ℕ) (before : List (Event × Reply)) (event : Event) → StopsBy f t run budget before (Cut event) → IsOnlyDue f t run fuel budget before event
 only_cut f t run fuel budget before event stops = record {

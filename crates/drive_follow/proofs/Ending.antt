@@ -1,7 +1,7 @@
 -- What a recorded list that was followed answers.
 use Rattle.std.proofs.Common.{◌≡◌, ◌≤◌, ◌<◌, ◌==◌, inl, inr, ℕ, zero, suc, ◌+◌, Bool, true, false, cond, List, [], ◌∷◌, ◌++◌, Option, Some, None, map, length, take, slice_get, refl, sym, ◌∙◌, ap, subst, arith}
 use Rattle.std.proofs.lemmas.Bool.{cases_lt, eq-eqb, ne_eqb}
-use Rattle.std.proofs.lemmas.List.{append-nil, append_cancel_left, length-map, take-map, length-take-le}
+use Rattle.std.proofs.lemmas.List.{append-nil, append_cancel_left, length-map, take-map, length-take-le, take_all}
 use Rattle.std.proofs.lemmas.Option.{slice_get_within}
 use Rattle.tree_files.specs.Files.{Files}
 use Rattle.machine_events.specs.Fitting.{Fits}
@@ -19,16 +19,16 @@ use Rattle.meaning_runs.specs.Runs.{Run, Over, Makes, Stop, Cut, Came, How, on_b
 use Rattle.meaning_runs.proofs.Spends.{played}
 use Rattle.meaning_runs.proofs.Stand.{came, whole_of}
 use Rattle.drive_port.specs.Replay.{pairs_of, AllFit, Met, IsOther}
-use Rattle.script_follow.specs.Following.{budget_of, budget_by, StopsBy, IsDue, IsRightAt, IsWhole, IsPart, Answers, part_of, answer_behind}
-use Rattle.script_follow.proofs.Parting.{parts_at, parts_behind, parts_after_end, take_one_more, take_all, some_there, budget_ends, length_more}
-use Rattle.script_follow.proofs.Due.{IsOnlyDue}
+use Rattle.drive_follow.specs.Following.{budget_of, budget_by, StopsBy, IsDue, IsRightAt, IsWhole, IsPart, Answers, part_of, answer_behind}
+use Rattle.drive_follow.proofs.Parting.{parts_at, parts_behind, parts_after_end, take_one_more, some_there, budget_ends, length_more}
+use Rattle.drive_follow.proofs.Due.{IsOnlyDue}
 
 -- the pairs up to a place
 front : (own : List Pair) (at : ℕ) → take at (pairs_of own) ≡ pairs_of (take at own)
 front own at = take-map (λ (p : Pair). (p.event, p.reply)) at own
 
 many : (own : List Pair) → length (pairs_of own) ≡ length own
-many own = length-map (λ (p : Pair). (p.event, p.reply)) own
+many own = length-map own (λ (p : Pair). (p.event, p.reply))
 
 pair_there : (own : List Pair) (i : ℕ) (p : Event × Reply) → slice_get (pairs_of own) i ≡ Some p → (it : Pair) × ((slice_get own i ≡ Some it) × ((it.event, it.reply) ≡ p))
 pair_there [] i p h = absurd (cc h)
@@ -66,10 +66,13 @@ module _ (f : Files) (t : ℕ) (run : Run) (fuel : ℕ) (own : List Pair) (at : 
     where
       budget : ℕ
       budget = budget_by fuel (pairs_of own)
+
       stops : StopsBy f t run (budget_by fuel (pairs_of own)) (take at (pairs_of own)) due.stop
       stops = subst (λ (x : List (Event × Reply)). StopsBy f t run (budget_by fuel (pairs_of own)) x due.stop) (sym (front own at)) due.stops
+
       same : (right : IsRightAt f t run fuel (pairs_of own) at) → right.pair.0 ≡ event
       same right = due.only right.pair.0 (subst (λ (x : List (Event × Reply)). IsDue f t run fuel (budget_by fuel (pairs_of own)) x right.pair.0) (front own at) right.due)
+
       go : (misfit : Bool) (it : Option Pair) → slice_get own at ≡ it → IsOther misfit it event → IsPart f t run fuel (pairs_of own) (part_of misfit at)
       go false None is other =
           parts_at f t run fuel (pairs_of own) at due.stop safe within fit stops
@@ -95,30 +98,30 @@ module _ (f : Files) (t : ℕ) (run : Run) (fuel : ℕ) (own : List Pair) (at : 
             (subst (λ (n : ℕ). Answers f t run fuel (pairs_of own) (ways.Parts n)) (sym next) (parts_after_end f t run fuel (pairs_of own) at how outcome paid Done safe fit stops there budget ends (let all = many own in omega (arith, all, next, less))))
         | inr more ↦
             let all : at' ≡ length own = omega (arith, more, inside) in
-            let whole : pairs_of own ≡ pairs_of (take at own) ++ (e.End outcome paid, Done) ∷ [] = sym (ap pairs_of (ap (take at') same ∙ take_own own at' more)) ∙ made in
+            let whole : pairs_of own ≡ pairs_of (take at own) ++ (e.End outcome paid, Done) ∷ [] = sym (ap pairs_of (ap (take at') same ∙ take_all at' own more)) ∙ made in
             subst (λ (x : Follow). Answers f t run fuel (pairs_of own) x) (sym (ap (answer_behind at') (ap length same) ∙ ap (λ (b : Bool). cond b ways.Yes (ways.Parts at')) (eq-eqb at' (length own) all)))
             (record {
               outcome = outcome;
               follows = whole_of f t paid whole refl (subst (λ (b : ℕ). Reaches (Some f) (spend b (shown_first t) run) 0 (pairs_of (take at own)) (Over how)) (budget ∙ budget_ends fuel outcome paid how ends) reached) ends safe;
-              fit = subst AllFit (ap pairs_of (ap (take at') same ∙ take_own own at' more)) met'.fit;
+              fit = subst AllFit (ap pairs_of (ap (take at') same ∙ take_all at' own more)) met'.fit;
             })
       ]
     where
-      take_own : (own : List Pair) (n : ℕ) → length own ≤ n → take n own ≡ own
-      take_own [] zero h = refl
-      take_own [] (suc n) h = refl
-      take_own (x ∷ own) zero h = absurd (omega (arith, h))
-      take_own (x ∷ own) (suc n) h = ap (λ (ps : List Pair). x ∷ ps) (take_own own n (omega (arith, h)))
       inside : at' ≤ length own
       inside = subst (λ (x : List Pair). at' ≤ length x) same met'.within
+
       before : length (pairs_of (take at own)) ≡ at
       before = many (take at own) ∙ length-take-le at own met.within
+
       after : length (pairs_of (take at' own')) ≡ at'
       after = many (take at' own') ∙ length-take-le at' own' met'.within
+
       next : at' ≡ at + 1
       next = sym after ∙ (ap length made ∙ (length_more (pairs_of (take at own)) (e.End outcome paid, Done) ∙ ap (λ (n : ℕ). n + 1) before))
+
       stops : StopsBy f t run (budget_by fuel (pairs_of own)) (take at (pairs_of own)) (Came how)
       stops = subst (λ (x : List (Event × Reply)). StopsBy f t run (budget_by fuel (pairs_of own)) x (Came how)) (sym (front own at)) (came f t run (budget_by fuel (pairs_of own)) reached)
+
       there : slice_get (pairs_of own) at ≡ Some (e.End outcome paid, Done)
       there =
           let here = some_there (pairs_of own) at (let all = many own in omega (arith, all, next, inside)) in
