@@ -5,8 +5,8 @@ ghost use Rattle.machine_spec.specs.Step.{step};
 ghost use Rattle.trace_check.specs.Replays.{begins_body, waits, is_cycle, is_deadlock, replied, counts_of, Tests, Replays};
 ghost use Rattle.trace_check.specs.Judge.{IsPlaced};
 
-use base_types::{Exact, NoMemory, Same};
 use crate::answers::{Counts, Replayed, Why};
+use base_types::{Exact, NoMemory, Same};
 use import_machine::Machine;
 use machine_events::{Entry, Reply};
 
