@@ -14,7 +14,7 @@ use Rattle.trace_check.specs.declared.answers.Why.{Why}
 use Rattle.trace_check.specs.declared.answers.Why.TheVariants as cause
 use Rattle.trace_check.specs.declared.answers.Replayed.{Replayed}
 use Rattle.trace_check.specs.declared.answers.Replayed.TheVariants as replays
-use Rattle.trace_check.specs.Replays.{IsWrong, IsBroken, Replays, counts_of}
+use Rattle.trace_check.specs.Replays.{IsWrong, IsBroken, Replays, Tests, counts_of}
 use Rattle.trace_check.proofs.Lists.{slice_get_take}
 
 pub replay_snoc : (s : State) (h : List Entry) (e : Entry) → replay s (h ++ e ∷ []) ≡ (step (replay s h) e.thread e.event).1
@@ -139,3 +139,9 @@ is_legal (replays.Breaks at why) = false
 pub replay_exact : (s : State) (h : List Entry) (a : Replayed) → Replays s h a → ((a ≡ replays.Legal (counts_of h)) ↔ IsLegal s h)
 replay_exact s h (replays.Legal c) a = (λ _. a.0, λ _. ap replays.Legal a.1)
 replay_exact s h (replays.Breaks at why) a = (λ same. absurd (false≢true (ap is_legal same)), λ legal. absurd (broken_not_legal s h at why a legal))
+
+-- one more entry that was tested and is not wrong
+pub up_to_tested : (first s s' : State) (h : List Entry) (i : ℕ) (e : Entry) (fault : Option Why) → ((why : Why) → fault ≡ Some why → ⊥) → Tests s s' e fault → IsUpTo first s h i → i < length h → e ≡ get_or h i e
+    → IsUpTo first s' h (i + 1)
+up_to_tested first s s' h i e None right tests before less is = up_to_more first s s' h i e before less is tests.0 tests.1 tests.2
+up_to_tested first s s' h i e (Some why) right tests before less is = absurd (right why refl)

@@ -1,5 +1,5 @@
 -- What a replay of a history on the machine answers.
-use Rattle.std.specs.Prelude.{ℕ, ◌≡◌, ◌<◌, ◌≤◌, Bool, true, false, List, Some, take, slice_get, count_by}
+use Rattle.std.specs.Prelude.{ℕ, ◌≡◌, ◌<◌, ◌≤◌, Bool, true, false, List, Option, Some, None, take, slice_get, count_by}
 use Rattle.machine_events.specs.declared.event.Reply.{Reply}
 use Rattle.machine_events.specs.declared.event.Reply.TheVariants as r
 use Rattle.machine_events.specs.declared.event.Entry.{Entry}
@@ -68,3 +68,8 @@ pub record IsBroken (s : State) (history : List Entry) (at : ℕ) (why : Why) : 
 abbrev pub Replays : State → List Entry → Replayed → Type 0
 Replays s history (replays.Legal counts) = IsLegal s history × (counts ≡ counts_of history)
 Replays s history (replays.Breaks at why) = IsBroken s history at why
+
+-- the replay of one entry: the machine has made its event, or it is wrong
+abbrev pub Tests : State → State → Entry → Option Why → Type 0
+Tests s s' e None = Allowed s e.thread e.event × (e.reply ≡ (step s e.thread e.event).0) × (s' ≡ (step s e.thread e.event).1)
+Tests s s' e (Some why) = IsWrong s e why

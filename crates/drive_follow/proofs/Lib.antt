@@ -1,0 +1,5 @@
+mod Playing
+mod Parting
+mod Due
+mod Ending
+mod Telling
