@@ -1,5 +1,5 @@
 -- Rounds that are played one after another.
-use Rattle.std.proofs.Common.{◌≡◌, ◌≢◌, ◌<◌, ◌≤◌, ◌⊎◌, inl, inr, ℕ, zero, suc, ◌+◌, Bool, true, false, eqb, nat_lt, List, [], ◌∷◌, ◌++◌, length, map, take, drop, get_or, set, Option, Some, None, Ok, Err, Result, IfOk, OnErr, refl, sym, subst, ◌∙◌, ap, arith}
+use Rattle.std.proofs.Common.{◌≡◌, ◌≢◌, ◌<◌, ◌≤◌, inl, inr, ℕ, ◌+◌, Bool, true, false, eqb, nat_lt, List, [], ◌∷◌, ◌++◌, length, map, take, drop, get_or, set, Option, Some, Ok, Err, Result, refl, sym, subst, ◌∙◌, ap, arith}
 use Rattle.std.proofs.lemmas.Bool.{eqb-true, eqb-false, ltb-true, ltb-false}
 use Rattle.std.proofs.lemmas.List.{append-nil, append_assoc, drop-map, drop_more, drop-drop, drop_all, drop-set-lt, take_all, take_more_set, take-append-drop, length-drop}
 use Rattle.std.proofs.lemmas.Grind.{drop_more_same}
@@ -25,10 +25,10 @@ use Rattle.meaning_runs.specs.Follows.{IsPart}
 use Rattle.meaning_runs.specs.Lists.{ends_in}
 use Rattle.meaning_runs.proofs.Stand.{part, stands_start}
 use Rattle.meaning_solo.specs.Solo.{AreAlone}
-use Rattle.meaning_solo.proofs.Parts.{own_append, own_cons, own_other, ended_front, ended_back}
+use Rattle.meaning_solo.proofs.Parts.{own_append, own_cons, own_other, ended_front}
 use Rattle.drive_account.specs.declared.end.Ending.{Ending}
-use Rattle.drive_account.specs.Ending.{Ended, Broken, in_run, outcome}
-use Rattle.drive_round.specs.Ran.{Pairs, Ran, RanOver, Results, Runs}
+use Rattle.drive_account.specs.Ending.{Ended, in_run, outcome}
+use Rattle.drive_round.specs.Ran.{Pairs, RanOver, Results, Runs}
 use Rattle.drive_rounds.specs.Played.{AllPlayed, none, more, AreShort, NoneBegan, GoesOn}
 
 -- ---- whose turn it is
@@ -213,7 +213,7 @@ module _ {T : Type 0} (files : T → Option Files) (faults lists : T → ℕ) (f
     pub all_ended : (i : ℕ) (h : List Entry) (xs : List T) (rs : Results) → length xs ≤ i → length rs ≤ i → length runs ≤ i → length olds ≤ i → Goes i h (take i xs) (take i rs) → AllPlayed files faults lists fuel h 0 runs olds xs rs
     all_ended i h xs rs a b c d goes =
         let last : AllPlayed files faults lists fuel h i (drop i runs) (drop i olds) [] [] =
-            subst (λ (ws : Runs). AllPlayed files faults lists fuel h i ws (drop i olds) [] []) (sym (drop_all i runs c))
-            (subst (λ (ys : List T). AllPlayed files faults lists fuel h i [] ys [] []) (sym (drop_all i olds d)) (none i)) in
+        subst (λ (ws : Runs). AllPlayed files faults lists fuel h i ws (drop i olds) [] []) (sym (drop_all i runs c))
+        (subst (λ (ys : List T). AllPlayed files faults lists fuel h i [] ys [] []) (sym (drop_all i olds d)) (none i)) in
         subst (λ (ys : List T). AllPlayed files faults lists fuel h 0 runs olds ys rs) (append-nil (take i xs) ∙ take_all i xs a)
         (subst (λ (zs : Results). AllPlayed files faults lists fuel h 0 runs olds (take i xs ++ []) zs) (append-nil (take i rs) ∙ take_all i rs b) (goes h [] [] (λ u less. refl) last))

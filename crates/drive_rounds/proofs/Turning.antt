@@ -1,11 +1,10 @@
 -- From what was played to the one history of its threads.
-use Rattle.std.proofs.Common.{◌≡◌, ◌≤◌, ◌⊎◌, inl, inr, ℕ, suc, ◌+◌, List, [], ◌∷◌, ◌++◌, length, map, Option, Some, None, Ok, Err, Result, refl, sym, subst, ◌∙◌, ap, arith}
+use Rattle.std.proofs.Common.{◌≡◌, ◌⊎◌, inl, inr, ℕ, ◌+◌, List, [], ◌∷◌, length, map, Option, Some, None, Ok, Err, refl, sym, subst, ◌∙◌, ap, arith}
 use Rattle.std.proofs.lemmas.List.{length-map}
 use Rattle.tree_files.specs.Files.{Files}
-use Rattle.tree_files.specs.Count.{Rose, raised}
+use Rattle.tree_files.specs.Count.{Rose}
 use Rattle.machine_events.specs.declared.event.Entry.{Entry}
 use Rattle.machine_events.specs.declared.event.Outcome.TheVariants as o
-use Rattle.machine_spec.specs.declared.state.State.{State}
 use Rattle.machine_spec.specs.Legal.{IsLegal}
 use Rattle.machine_laws.specs.Begun.{Begun, first}
 use Rattle.machine_shown.specs.Own.{own}
@@ -16,7 +15,7 @@ use Rattle.drive_account.specs.declared.end.Ending.{Ending}
 use Rattle.drive_account.specs.declared.end.Ending.TheVariants as ending
 use Rattle.drive_account.specs.Ending.{Broken, in_run, at_read, IsRead, outcome}
 use Rattle.meaning_solo.specs.Made.{Turn}
-use Rattle.meaning_solo.specs.Solo.{AreAlone, IsSolo, Plays, AllPlay, AllSafe, BreaksAt, AreToCome, PlayOrBreak}
+use Rattle.meaning_solo.specs.Solo.{AreAlone, Plays, AllPlay, AllSafe, BreaksAt, AreToCome, PlayOrBreak}
 use Rattle.meaning_solo.proofs.On.{solo_on}
 use Rattle.drive_round.specs.Ran.{Pairs, Results, Runs}
 use Rattle.drive_rounds.specs.Played.{AllPlayed, none, more, NoneBegan}

@@ -1,4 +1,4 @@
-use Rattle.std.proofs.Common.{◌≡◌, ◌∙◌, ◌+◌, ℕ, map, length, drop, get_or, refl, sym, ap, subst, arith, Ok}
+use Rattle.std.proofs.Common.{◌∙◌, ◌+◌, map, get_or, refl, sym, ap, subst, arith, Ok}
 use Rattle.std.proofs.lemmas.List.{drop-set-lt, length-map}
 use Rattle.std.proofs.lemmas.Grind.{drop_more_same}
 use Rattle.drive_rounds.specs.Played.{AreShort}

@@ -1,4 +1,4 @@
-use Rattle.std.proofs.Common.{◌≡◌, ◌<◌, ℕ, length, map, take, drop}
+use Rattle.std.proofs.Common.{◌≡◌, ◌<◌, ℕ, map, take, drop}
 use Rattle.machine_desk.specs.Outgo.{Kept}
 use Rattle.machine_shown.specs.Own.{HasEnded}
 use Rattle.drive_rounds.specs.Played.{AreShort, NoneBegan}
