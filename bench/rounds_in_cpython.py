@@ -26,8 +26,8 @@ import random_in_cpython as trees
 import rows_in_cpython
 
 FIRST_TIME = 1000
-# Never edited: the count of bodies, by which each run ends.
-KEPT = "st.py"
+# Never edited: the count of bodies, by which each run ends, and what may get the entry `None` and so imports nothing.
+KEPT = ["st", *trees.LEAVES]
 
 RUNNER = """import sys, importlib, unicodedata, json, os, shutil
 with open(sys.argv[1]) as plan:
@@ -104,6 +104,10 @@ def folders_of(files):
     return found
 
 
+def is_kept(path):
+    return path.rpartition("/")[2].removesuffix(".py") in KEPT
+
+
 def edit_of(pick, known, texts, turn):
     """One edit: its kind, its path, and the text or the time. `known` are paths of files, `texts` are bodies."""
     path = pick.choice(known)
@@ -129,8 +133,8 @@ def made_of(pick):
     del others["main.py"]
     for folder in trees.FOLDERS[1:]:
         files.setdefault(f"{folder}/i.py", "x = 1\n")
-    known = sorted({*files, *others} - {KEPT})
-    texts = [text for name, text in [*files.items(), *others.items()] if name != KEPT]
+    known = sorted(name for name in {*files, *others} if not is_kept(name))
+    texts = [text for name, text in [*files.items(), *others.items()] if not is_kept(name)]
     rounds = []
     count = pick.randrange(2, 5)
     for turn in range(count):
