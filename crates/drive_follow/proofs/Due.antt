@@ -1,5 +1,5 @@
 -- The one event that is due after some pairs.
-use Rattle.std.proofs.Common.{◌≡◌, ◌≤◌, ◌<◌, inl, inr, ℕ, ◌+◌, List, Bool, true, refl, sym, ◌∙◌, ap, subst, arith}
+use Rattle.std.proofs.Common.{◌≡◌, ◌<◌, inl, inr, ℕ, List, Bool, true, refl, sym, ◌∙◌, subst, arith}
 use Rattle.tree_files.specs.Files.{Files}
 use Rattle.machine_events.specs.declared.event.Event.{Event}
 use Rattle.machine_events.specs.declared.event.Event.TheVariants as e
@@ -8,7 +8,7 @@ use Rattle.machine_events.specs.declared.event.Outcome.{Outcome}
 use Rattle.machine_events.specs.declared.event.Outcome.TheVariants as o
 use Rattle.meaning_runs.specs.Follows.{Ends}
 use Rattle.meaning_runs.specs.Runs.{Run, Stop, Cut, Came, How, Ended, Spent}
-use Rattle.drive_follow.specs.Following.{budget_of, StopsBy, IsDueEnd, IsDue, NoEnd}
+use Rattle.drive_follow.specs.Following.{budget_of, StopsBy, IsDue, NoEnd}
 use Rattle.drive_follow.proofs.Parting.{one_stop, one_cut, one_came, cut_came}
 
 -- the event is due, and no other is

@@ -1,8 +1,7 @@
 -- What a recorded list that was followed answers.
-use Rattle.std.proofs.Common.{◌≡◌, ◌≤◌, ◌<◌, ◌==◌, inl, inr, ℕ, zero, suc, ◌+◌, Bool, true, false, cond, List, [], ◌∷◌, ◌++◌, Option, Some, None, map, length, take, slice_get, refl, sym, ◌∙◌, ap, subst, arith}
+use Rattle.std.proofs.Common.{◌≡◌, ◌≤◌, inl, inr, ℕ, zero, suc, ◌+◌, Bool, true, false, cond, List, [], ◌∷◌, ◌++◌, Option, Some, None, length, take, slice_get, refl, sym, ◌∙◌, ap, subst, arith}
 use Rattle.std.proofs.lemmas.Bool.{cases_lt, eq-eqb, ne_eqb}
 use Rattle.std.proofs.lemmas.List.{append-nil, append_cancel_left, length-map, take-map, length-take-le, take_all}
-use Rattle.std.proofs.lemmas.Option.{slice_get_within}
 use Rattle.tree_files.specs.Files.{Files}
 use Rattle.machine_events.specs.Fitting.{Fits}
 use Rattle.machine_events.specs.declared.event.Event.{Event}
@@ -19,7 +18,7 @@ use Rattle.meaning_runs.specs.Runs.{Run, Over, Makes, Stop, Cut, Came, How, on_b
 use Rattle.meaning_runs.proofs.Spends.{played}
 use Rattle.meaning_runs.proofs.Stand.{came, whole_of}
 use Rattle.drive_port.specs.Replay.{pairs_of, AllFit, Met, IsOther}
-use Rattle.drive_follow.specs.Following.{budget_of, budget_by, StopsBy, IsDue, IsRightAt, IsWhole, IsPart, Answers, part_of, answer_behind}
+use Rattle.drive_follow.specs.Following.{budget_of, budget_by, StopsBy, IsDue, IsRightAt, IsPart, Answers, part_of, answer_behind}
 use Rattle.drive_follow.proofs.Parting.{parts_at, parts_behind, parts_after_end, take_one_more, some_there, budget_ends, length_more}
 use Rattle.drive_follow.proofs.Due.{IsOnlyDue}
 

@@ -3,3 +3,4 @@ mod Parting
 mod Due
 mod Ending
 mod Telling
+pub mod Standing

@@ -1,7 +1,7 @@
 -- Where a recorded list parts.
-use Rattle.std.proofs.Common.{◌≡◌, ◌≤◌, ◌<◌, ◌⊎◌, inl, inr, ℕ, zero, suc, ◌+◌, List, [], ◌∷◌, ◌++◌, Option, Some, None, length, take, drop, slice_get, refl, sym, ◌∙◌, ap, subst, arith}
+use Rattle.std.proofs.Common.{◌≡◌, ◌≤◌, ◌<◌, inl, inr, ℕ, zero, suc, ◌+◌, List, [], ◌∷◌, ◌++◌, Some, length, take, drop, slice_get, refl, sym, ◌∙◌, ap, subst, arith}
 use Rattle.std.proofs.lemmas.Bool.{cases_lt}
-use Rattle.std.proofs.lemmas.List.{append-nil, append_assoc, append_cancel_left, take-append-drop, take-take, length-take-le, take_all}
+use Rattle.std.proofs.lemmas.List.{take-take, take_all}
 use Rattle.std.proofs.lemmas.Option.{slice_get_within}
 use Rattle.tree_files.specs.Files.{Files}
 use Rattle.machine_events.specs.Fitting.{Fits}
@@ -13,10 +13,10 @@ use Rattle.machine_events.specs.declared.event.Outcome.{Outcome}
 use Rattle.machine_events.specs.declared.event.Outcome.TheVariants as o
 use Rattle.machine_shown.specs.Shown.{shown_first}
 use Rattle.meaning_runs.specs.Lists.{ends, ends_in}
-use Rattle.meaning_runs.specs.Follows.{Follows, Ends}
+use Rattle.meaning_runs.specs.Follows.{Ends}
 use Rattle.meaning_runs.specs.Runs.{Run, Stop, Cut, Came, How, Ending, on_budget, replies_of, spend, Safe}
 use Rattle.drive_port.specs.Replay.{AllFit}
-use Rattle.drive_follow.specs.Following.{budget_of, budget_or, budget_by, StopsBy, IsDueEnd, IsDue, IsRightAt, IsWhole, IsPart}
+use Rattle.drive_follow.specs.Following.{budget_of, budget_or, budget_by, StopsBy, IsDue, IsRightAt, IsWhole, IsPart}
 use Rattle.drive_follow.proofs.Playing.{play_cut, ends_more, budget_no_end}
 
 -- Lists up to a place.

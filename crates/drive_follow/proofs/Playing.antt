@@ -1,12 +1,12 @@
 -- How a run plays on the first of some replies.
-use Rattle.std.proofs.Common.{◌≡◌, ◌≤◌, ◌<◌, ℕ, zero, suc, ◌+◌, List, [], ◌∷◌, ◌++◌, length, refl, sym, ◌∙◌, ap, subst, arith}
+use Rattle.std.proofs.Common.{◌≡◌, ℕ, ◌+◌, List, [], ◌∷◌, ◌++◌, refl, sym, ◌∙◌, ap, arith}
 use Rattle.std.proofs.lemmas.List.{append-nil, append_assoc, append_cancel_left}
 use Rattle.tree_files.specs.Files.{Files}
 use Rattle.machine_events.specs.declared.event.Event.{Event}
 use Rattle.machine_events.specs.declared.event.Reply.{Reply}
 use Rattle.machine_shown.specs.Shown.{Shown, shown_first, shown_more}
 use Rattle.meaning_runs.specs.Lists.{ends, ends_in}
-use Rattle.meaning_runs.specs.Runs.{Run, Over, Pays, Looks, Makes, Stop, Cut, Came, How, Ending, play, spend, on_budget, replies_of, told, Safe}
+use Rattle.meaning_runs.specs.Runs.{Run, Over, Pays, Looks, Makes, Stop, Cut, Ending, play, spend, on_budget, replies_of, told, Safe}
 use Rattle.meaning_runs.proofs.Spends.{play_longer, safe_looked}
 use Rattle.meaning_runs.proofs.Giving.{safe_spend}
 use Rattle.meaning_runs.proofs.Once.{no_end_made}

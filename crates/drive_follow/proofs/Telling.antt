@@ -1,5 +1,5 @@
 -- What the last events of a script answer.
-use Rattle.std.proofs.Common.{◌≡◌, ◌≤◌, ◌<◌, ◌⊎◌, inl, inr, ℕ, ◌+◌, Bool, true, false, List, [], ◌∷◌, ◌++◌, Option, Some, None, Result, Ok, Err, IfOk, OnErr, IsErrOf, take, length, slice_get, refl, sym, ◌∙◌, ap, subst, arith}
+use Rattle.std.proofs.Common.{◌≡◌, ◌≤◌, inl, inr, ℕ, ◌+◌, Bool, List, [], ◌∷◌, ◌++◌, Some, Result, Ok, Err, IfOk, OnErr, IsErrOf, take, length, slice_get, refl, sym, ◌∙◌, ap, subst, arith}
 use Rattle.std.proofs.lemmas.List.{length-map, length-take-le, take-map, take-take}
 use Rattle.tree_files.specs.Files.{Files}
 use Rattle.tree_files.specs.declared.tree.TreeFault.{TreeFault}
@@ -8,19 +8,18 @@ use Rattle.machine_events.specs.declared.event.Event.TheVariants as e
 use Rattle.machine_events.specs.declared.event.Reply.{Reply}
 use Rattle.machine_events.specs.declared.event.Reply.TheVariants.{Done}
 use Rattle.machine_events.specs.declared.event.Outcome.{Outcome}
-use Rattle.machine_events.specs.declared.event.Outcome.TheVariants as o
 use Rattle.machine_events.specs.declared.event.Pair.{Pair}
 use Rattle.machine_events.specs.declared.event.Follow.{Follow}
 use Rattle.machine_events.specs.declared.event.Follow.TheVariants as ways
 use Rattle.machine_shown.specs.Shown.{shown, shown_first}
 use Rattle.meaning_runs.specs.Follows.{Ends}
-use Rattle.meaning_runs.specs.Runs.{Run, Over, Makes, Came, How, Ended, Spent, spend, Reaches, GivesUp, gives_up, Safe}
+use Rattle.meaning_runs.specs.Runs.{Run, Over, Came, Ended, Spent, spend, Reaches, GivesUp, Safe}
 use Rattle.meaning_runs.proofs.Stand.{came, all_given}
 use Rattle.meaning_state.specs.declared.flow.Leave.TheVariants.{Raised, Return, Break, Continue}
 use Rattle.meaning_state.specs.declared.flow.Flow.{Flow}
 use Rattle.meaning_state.specs.declared.flow.Flow.TheVariants.{Went, Left}
 use Rattle.meaning_script.specs.Meaning.{outcome_of}
-use Rattle.drive_port.specs.View.{View, Stays}
+use Rattle.drive_port.specs.View.{View}
 use Rattle.drive_port.specs.Replay.{pairs_of, AllFit, Met, IsOther}
 use Rattle.drive_port.specs.declared.port.Halt.{Halt}
 use Rattle.drive_port.specs.declared.port.Halt.TheVariants as halts

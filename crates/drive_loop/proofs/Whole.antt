@@ -9,12 +9,12 @@ use Rattle.machine_events.specs.declared.event.Reply.TheVariants.{Done}
 use Rattle.machine_events.specs.declared.event.Outcome.TheVariants as o
 use Rattle.machine_shown.specs.Shown.{shown, shown_first}
 use Rattle.machine_shown.specs.Knowing.{IsShown}
-use Rattle.meaning_runs.specs.Runs.{Run, Ended, Stands, StandsIn, IsUnread, Safe}
+use Rattle.meaning_runs.specs.Runs.{Run, Ended, Stands, StandsIn, IsSpent, IsUnread, GivesUp, Safe}
 use Rattle.meaning_runs.specs.Follows.{Follows, Ends}
 use Rattle.meaning_runs.specs.Lists.{lists_in, ends_in}
 use Rattle.meaning_runs.proofs.Giving.{safe_spend}
 use Rattle.meaning_runs.proofs.Once.{no_end}
-use Rattle.meaning_runs.proofs.Stand.{whole_of, safe_stands, over_reached, part, part_given, all_given, unread_gives_up}
+use Rattle.meaning_runs.proofs.Stand.{whole_of, safe_stands, over_reached, part, part_given, all_given, spent_gives_up, unread_gives_up}
 use Rattle.meaning_state.specs.declared.flow.Leave.TheVariants.{Raised, Return, Break, Continue}
 use Rattle.meaning_state.specs.declared.flow.Flow.{Flow}
 use Rattle.meaning_state.specs.declared.flow.Flow.TheVariants.{Went, Left}
@@ -22,7 +22,6 @@ use Rattle.meaning_script.specs.Meaning.{outcome_of}
 use Rattle.drive_port.specs.View.{View, Stays}
 use Rattle.drive_account.specs.At.{IsShort}
 use Rattle.drive_account.specs.declared.held.Held.{Held}
-use Rattle.drive_account.proofs.Paying.{short_gives_up}
 use Rattle.drive_search.specs.Asking.{AllKept}
 use Rattle.drive_loop.specs.Turns.{ended}
 use Rattle.drive_loop.specs.Overs.{Begun}
@@ -38,6 +37,12 @@ ends_came (Left Continue) fuel = (refl, refl)
 pub follows_came : (f : Files) (t : ℕ) (whole : Run) (fuel budget : ℕ) (mine mine' : List (Event × Reply)) (flow : Flow) → Stands (Some f) whole fuel mine budget (ended flow)
     → mine' ≡ mine ++ (End (outcome_of flow) fuel, Done) ∷ [] → Safe (shown_first t) whole → Follows f t whole fuel mine' (outcome_of flow)
 follows_came f t whole fuel budget mine mine' flow s is safe = whole_of f t fuel is refl (over_reached t s) (ends_came flow fuel) safe
+
+-- a script that stands at a payment that it cannot make gives up what it holds
+short_gives_up : {files : Option Files} (t : ℕ) {whole : Run} {fuel : ℕ} {mine : List (Event × Reply)} {budget : ℕ} {of_tree : Bool} → IsShort files whole fuel mine budget of_tree → GivesUp files t whole fuel mine of_tree
+short_gives_up {files} t {whole} {fuel} {mine} {budget} {of_tree} s =
+    let spent : IsSpent files whole fuel mine budget = record { of_tree = of_tree; units = s.units; next = s.next; stands = s.stands; short = s.short } in
+    spent_gives_up t spent
 
 pub follows_out : (f : Files) (t : ℕ) (whole : Run) (fuel budget : ℕ) (of_tree : Bool) (mine mine' : List (Event × Reply)) → IsShort (Some f) whole fuel mine budget of_tree → GaveAll t mine mine' o.Fuel fuel
     → Safe (shown_first t) whole → Follows f t whole fuel mine' o.Fuel

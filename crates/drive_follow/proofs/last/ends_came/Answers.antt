@@ -1,4 +1,4 @@
-use Rattle.std.proofs.Common.{◌≡◌, refl, arith}
+use Rattle.std.proofs.Common.{refl}
 use Rattle.drive_follow.proofs.Telling.{answers_came, answers_no_end}
 use Rattle.drive_follow.proofs.last.ends_came.Goals as goal
 

@@ -1,5 +1,4 @@
-use Rattle.std.proofs.Common.{◌≡◌, ◌∙◌, Err, refl, sym, ap}
-use Rattle.drive_port.specs.declared.port.Halt.TheVariants.{Refused}
+use Rattle.std.proofs.Common.{◌∙◌, Err, refl, sym, ap}
 use Rattle.drive_follow.proofs.Telling.{answers_nowhere, answers_giving}
 use Rattle.drive_follow.proofs.last.ends_nowhere.Goals as goal
 

@@ -1,9 +1,8 @@
-use Rattle.std.proofs.Common.{◌≡◌, ◌<◌, ◌∙◌, ℕ, Bool, true, refl, sym, ap, subst, arith}
+use Rattle.std.proofs.Common.{◌≡◌, ◌<◌, ℕ, Bool, true, refl, sym, ap, subst, arith}
 use Rattle.machine_events.specs.declared.event.Outcome.TheVariants as o
 use Rattle.machine_events.specs.declared.event.Event.TheVariants as e
 use Rattle.meaning_runs.specs.Runs.{Spent}
-use Rattle.meaning_runs.specs.Follows.{Ends}
-use Rattle.drive_follow.proofs.Due.{OnlyEnd, only_fuel, only_read, none_spent}
+use Rattle.drive_follow.proofs.Due.{OnlyEnd, only_fuel, only_read}
 use Rattle.drive_follow.proofs.Telling.{answers_out}
 use Rattle.drive_follow.proofs.last.ends_out.Goals as goal
 
