@@ -105,7 +105,8 @@ def folders_of(files):
 
 
 def is_kept(path):
-    return path.rpartition("/")[2].removesuffix(".py") in KEPT
+    # (without that `__init__.py` there would be a namespace below a package that may be taken out: CPython looks there for its path)
+    return path.rpartition("/")[2].removesuffix(".py") in KEPT or path.endswith("p/s/__init__.py")
 
 
 def edit_of(pick, known, texts, turn):
