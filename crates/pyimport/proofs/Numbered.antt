@@ -12,8 +12,9 @@ use Rattle.words_options.specs.declared.command.Command.TheVariants as command
 use Rattle.import_words.specs.Plans.{plan_of, plan_by, command_of, run_plan, check_plan, module_plan, report_plan, gen_of, gen_with, number_of, within, digits_of, only_word, run_of, run_with, path_of}
 use Rattle.import_words.specs.declared.plan.Plan.{Plan}
 use Rattle.import_words.specs.declared.plan.Plan.TheVariants as plans
-use Rattle.pyimport.specs.Answers.{numbers_of}
-use Rattle.pyimport.specs.declared.made.Numbers.{Numbers}
+use Rattle.pyimport.specs.Tasks.{task_of}
+use Rattle.pyimport.specs.declared.task.Numbers.{Numbers}
+use Rattle.pyimport.specs.declared.task.Task.TheVariants as tasks
 
 abbrev pub Fits : Option Plan → Type 0
 Fits (Some (plans.Gen seed modules scripts)) = (1 ≤ modules) × ((1 ≤ scripts) × (scripts ≤ 16))
@@ -99,7 +100,7 @@ plan_fits [] = tt
 plan_fits (word ∷ words) = if_not (list_any is_refused (word ∷ words)) (plan_by (command_of word) words) (command_fits (command_of word) words)
 
 -- of what was read
-fits_by : (plan : Option Plan) → Fits plan → (it : Numbers) → numbers_of plan ≡ Some it → (1 ≤ it.modules) × ((1 ≤ it.scripts) × (it.scripts ≤ 16))
+fits_by : (plan : Option Plan) → Fits plan → (it : Numbers) → task_of plan ≡ tasks.Make it → (1 ≤ it.modules) × ((1 ≤ it.scripts) × (it.scripts ≤ 16))
 fits_by None fits it is = absurd (cc is)
 fits_by (Some (plans.Run run)) fits it is = absurd (cc is)
 fits_by (Some (plans.Gen seed modules scripts)) fits it is =
@@ -111,6 +112,17 @@ fits_by (Some (plans.Module run)) fits it is = absurd (cc is)
 fits_by (Some (plans.Report path dir)) fits it is = absurd (cc is)
 fits_by (Some (plans.Bundle dir)) fits it is = absurd (cc is)
 
-pub fits_of : (words : List Word) (plan : Option Plan) → plan ≡ plan_of words → (it : Numbers) → numbers_of plan ≡ Some it
+pub fits_of : (words : List Word) (plan : Option Plan) → plan ≡ plan_of words → (it : Numbers) → task_of plan ≡ tasks.Make it
     → (1 ≤ it.modules) × ((1 ≤ it.scripts) × (it.scripts ≤ 16))
 fits_of words plan is it found = fits_by plan (subst Fits (sym is) (plan_fits words)) it found
+
+-- the plan that runs scripts is the one that was read
+pub run_is : (plan other : Option Plan) → task_of plan ≡ tasks.Run other → other ≡ plan
+run_is None other is = sym (cc is)
+run_is (Some (plans.Run run)) other is = sym (cc is)
+run_is (Some (plans.Gen seed modules scripts)) other is = absurd (cc is)
+run_is (Some (plans.Check run file)) other is = sym (cc is)
+run_is (Some (plans.Convert file)) other is = absurd (cc is)
+run_is (Some (plans.Module run)) other is = sym (cc is)
+run_is (Some (plans.Report path dir)) other is = sym (cc is)
+run_is (Some (plans.Bundle dir)) other is = sym (cc is)

@@ -11,23 +11,24 @@ use Rattle.program_run.specs.Statuses.{want_of_memory}
 use Rattle.program_run.specs.Answers as call
 use Rattle.program_run.specs.declared.report.Report.{Report}
 use Rattle.program_gen.specs.MadeRuns.{MadeGives, sinks, workload_of}
-use Rattle.pyimport.specs.declared.made.Numbers.{Numbers}
-
--- the numbers of a made workload, where the words ask for one
-abbrev pub numbers_of : Option Plan → Option Numbers
-numbers_of (Some (plans.Gen seed modules scripts)) = Some (record { seed = seed; modules = modules; scripts = scripts })
-numbers_of plan = None
+use Rattle.program_convert.specs.Converting.{Converts}
+use Rattle.pyimport.specs.declared.task.Numbers.{Numbers}
+use Rattle.pyimport.specs.declared.task.Task.TheVariants as tasks
+use Rattle.pyimport.specs.Tasks.{task_of}
 
 -- how a call ends that was made with these words, from one moment to a later one
 pub data Answers (words : List Word) (old new : Moment) (report : Report) : Type 0 where
   -- a made workload was run: the tree is as it was, and so are its counts
-  made : (it : Numbers) → numbers_of (plan_of words) ≡ Some it
+  made : (it : Numbers) → task_of (plan_of words) ≡ tasks.Make it
       → report.plan ≡ Some (plans.Gen it.seed it.modules it.scripts) → new.faults ≡ old.faults → new.lists ≡ old.lists
       → MadeGives (meaning sources) (workload_of it.seed it.modules it.scripts) (sinks old.out old.err)
       (sinks new.out new.err) (call.left_of report)
       → Answers words old new report
+  -- a stored trace was written anew, or the line about it: no folder of the tree was listed
+  converted : (file : Word) → task_of (plan_of words) ≡ tasks.Convert file → report.plan ≡ Some (plans.Convert file)
+      → report.history ≡ None → new.lists ≡ old.lists → Converts file old new report.status → Answers words old new report
   -- scripts of the tree were run, or the words were refused
-  runs : numbers_of (plan_of words) ≡ None → call.Answers (meaning sources) words old new report
+  runs : (plan : Option Plan) → task_of (plan_of words) ≡ tasks.Run plan → call.Answers (meaning sources) words old new report
       → Answers words old new report
   -- memory was wanted before the words were read: nothing is written, and no call of the tree was made
   wordless : new ≡ old → report.plan ≡ None → report.history ≡ None → report.status ≡ want_of_memory

@@ -6,6 +6,7 @@ mod laws;
 mod made;
 mod run;
 mod script;
+mod task;
 
 pub use drive_round::{Gate, OpenGate};
 pub use entry::run_program;

@@ -6,9 +6,9 @@ ghost use Rattle.program_run.specs.Answers.{left_of};
 ghost use Rattle.program_run.specs.Sinks.{at};
 ghost use Rattle.meaning_script.specs.Meaning.{meaning};
 ghost use Rattle.step_calls.specs.Sources.{sources};
-ghost use Rattle.pyimport.specs.Answers.{numbers_of};
 
 use crate::script::Script;
+use crate::task::Numbers;
 use drive_round::Gate;
 use import_words::Plan;
 use program_gen::call_made;
@@ -17,34 +17,6 @@ use std::alloc::Global;
 use std::sync::Wait;
 use std::thread::Threads;
 use tree_files::Sink;
-
-/// The numbers of a made workload.
-#[derive(Clone, Copy, Drop)]
-pub struct Numbers {
-    pub seed: u64,
-    pub modules: u32,
-    pub scripts: u32,
-}
-
-/// The numbers of a made workload, where the plan asks for one.
-pub fn numbers_of(plan: &Option<Plan>) -> Option<Numbers>
-    ensures { result ≡ numbers_of plan.now }
-{
-    match plan {
-        Some(
-            Plan::Gen {
-                seed,
-                modules,
-                scripts,
-            },
-        ) => Some(Numbers {
-            seed: *seed,
-            modules: *modules,
-            scripts: *scripts,
-        }),
-        _ => None,
-    }
-}
 
 /// Runs a made workload.
 pub fn run_made<R: Threads + Wait + Sync, K: Sink, G: Gate + Sync>(

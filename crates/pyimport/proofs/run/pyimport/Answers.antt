@@ -1,28 +1,37 @@
 use Rattle.std.proofs.Common.{◌≡◌, ◌∙◌, Some, None, refl, sym, ap, map}
 use Rattle.std.specs.String.{string_bytes}
 use Rattle.import_words.specs.Plans.{plan_of}
-use Rattle.pyimport.specs.Answers.{Answers, numbers_of}
+use Rattle.pyimport.specs.Answers.{Answers}
+use Rattle.pyimport.specs.Tasks.{task_of}
 use Rattle.pyimport.proofs.Answering.{wordless_by}
-use Rattle.pyimport.proofs.Numbered.{fits_of}
+use Rattle.pyimport.proofs.Numbered.{fits_of, run_is}
 use Rattle.pyimport.proofs.run.pyimport.Goals as goal
 
 pub run_made-requires-clause-modules : goal.run_made-requires-clause-modules
 run_made-requires-clause-modules g c κs within =
-    (fits_of (map string_bytes c.args.words.now) c.in-Ok.plan c.in-Ok.ensures c.in-Some.it (sym c.numbers_of.ensures ∙ c.in-Some.is)).0
+    (fits_of (map string_bytes c.args.words.now) c.in-Ok.plan c.in-Ok.ensures c.in-Make.it (sym c.task_of.ensures ∙ c.in-Make.is)).0
 
 pub run_made-requires-clause-scripts : goal.run_made-requires-clause-scripts
 run_made-requires-clause-scripts g c κs within =
-    (fits_of (map string_bytes c.args.words.now) c.in-Ok.plan c.in-Ok.ensures c.in-Some.it (sym c.numbers_of.ensures ∙ c.in-Some.is)).1
+    (fits_of (map string_bytes c.args.words.now) c.in-Ok.plan c.in-Ok.ensures c.in-Make.it (sym c.task_of.ensures ∙ c.in-Make.is)).1
 
-pub returns-in-Some-clause-answers : goal.returns-in-Some-clause-answers
-returns-in-Some-clause-answers g c =
-    let asked = ap numbers_of (sym c.in-Ok.ensures) ∙ (sym c.numbers_of.ensures ∙ c.in-Some.is) in
-    Answers.made c.in-Some.it asked c.run_made.ensures.plan refl refl c.run_made.ensures.run
+pub call-requires-clause-plan : goal.call-requires-clause-plan
+call-requires-clause-plan g c κs within = run_is c.in-Ok.plan c.in-Run.plan (sym c.task_of.ensures ∙ c.in-Run.is) ∙ c.in-Ok.ensures
 
-pub returns-in-None-clause-answers : goal.returns-in-None-clause-answers
-returns-in-None-clause-answers g c =
-    let unasked = ap numbers_of (sym c.in-Ok.ensures) ∙ (sym c.numbers_of.ensures ∙ c.in-None.is) in
-    Answers.runs unasked c.call.ensures.answers
+pub returns-in-Make-clause-answers : goal.returns-in-Make-clause-answers
+returns-in-Make-clause-answers g c =
+    let asked = ap task_of (sym c.in-Ok.ensures) ∙ (sym c.task_of.ensures ∙ c.in-Make.is) in
+    Answers.made c.in-Make.it asked c.run_made.ensures.plan refl refl c.run_made.ensures.run
+
+pub returns-in-Convert-clause-answers : goal.returns-in-Convert-clause-answers
+returns-in-Convert-clause-answers g c =
+    let asked = ap task_of (sym c.in-Ok.ensures) ∙ (sym c.task_of.ensures ∙ c.in-Convert.is) in
+    Answers.converted c.in-Convert.file asked c.convert.ensures.plan c.convert.ensures.history c.convert.ensures.lists c.convert.ensures.answers
+
+pub returns-in-Run-clause-answers : goal.returns-in-Run-clause-answers
+returns-in-Run-clause-answers g c =
+    let asked = ap task_of (sym c.in-Ok.ensures) ∙ (sym c.task_of.ensures ∙ c.in-Run.is) in
+    Answers.runs c.in-Run.plan asked c.call.ensures.answers
 
 pub returns-in-Err-clause-answers : goal.returns-in-Err-clause-answers
 returns-in-Err-clause-answers g c = wordless_by _ _ c.without_run.result c.without_run.ensures
