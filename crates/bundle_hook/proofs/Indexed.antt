@@ -103,7 +103,7 @@ begins [] q n h = (take n q, refl)
 begins (x ∷ p) q zero h = absurd (omega arith)
 begins (x ∷ p) q (suc n) h = let b = begins p q n (omega arith) in (b.0, ap (λ t. x ∷ t) b.1)
 
-begun : (front : List ℕ) (size : ℕ) (bytes : List ℕ) (files : List Packed) → IsFrontOf front size bytes → IsBundle files bytes → (rest : List ℕ) × (front_in front ≡ Some (entries_of files, length rest)) × (length front ≡ length (front_of (entries_of files)) + length rest)
+pub begun : (front : List ℕ) (size : ℕ) (bytes : List ℕ) (files : List Packed) → IsFrontOf front size bytes → IsBundle files bytes → (rest : List ℕ) × (front_in front ≡ Some (entries_of files, length rest)) × (length front ≡ length (front_of (entries_of files)) + length rest)
 begun front size bytes files of is =
     let es : List Entry = entries_of files in
     let b = begins (front_of es) (data_of files) most_front is.short in

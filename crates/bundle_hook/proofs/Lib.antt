@@ -6,3 +6,4 @@ mod Fronts
 mod Written
 mod Indexed
 mod Listed
+mod Filled

@@ -1,3 +1,4 @@
 pub mod Spelling
 pub mod Bundle
 pub mod Reading
+pub mod Files

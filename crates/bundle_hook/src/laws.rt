@@ -1,8 +1,9 @@
 //! Writing and reading agree.
-ghost use Rattle.std.specs.Prelude.{◌≡◌, ℕ, List, Option, Some};
+ghost use Rattle.std.specs.Prelude.{◌≡◌, ◌↔◌, ℕ, List, Option, Some};
 ghost use Rattle.bundle_hook.specs.declared.bundle.Index.{Index};
 ghost use Rattle.bundle_hook.specs.declared.bundle.Packed.{Packed};
 ghost use Rattle.bundle_hook.specs.Bundle.{IsBundle, IsFrontOf, Reads, StandIn, entries_of, index_of};
+ghost use Rattle.bundle_hook.specs.Files.{files_in, index_in};
 
 /// The bytes are a bundle of at most one list of files.
 pub fn at_most_one_list()
@@ -20,4 +21,15 @@ pub fn bytes_stand_there()
 pub fn what_is_written_is_read()
     ensures { (files : List Packed) (bytes front : List ℕ) (size : ℕ) (o : Option Index) → IsBundle files bytes
         → IsFrontOf front size bytes → Reads front size o → o ≡ Some (index_of (entries_of files)) }
+{}
+
+/// The files that are found in bytes are those of which the bytes are a bundle.
+pub fn files_are_found()
+    ensures { (files : List Packed) (bytes : List ℕ) → (files_in bytes ≡ Some files) ↔ IsBundle files bytes }
+{}
+
+/// An answer of `read_index` on the first bytes of a file is the index of what is found in the file.
+pub fn index_is_of_the_file()
+    ensures { (bytes front : List ℕ) (size : ℕ) (o : Option Index) → IsFrontOf front size bytes
+        → Reads front size o → o ≡ index_in bytes }
 {}
