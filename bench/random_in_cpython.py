@@ -392,10 +392,11 @@ def show(files, path, wanted, came):
         print(f"==== {title}, status {status}\n{out}{err}")
 
 
-def main():
+def main(both, description):
+    """Compares what `both` gives for each seed that the words name."""
     if sys.version_info[:2] != (3, 12):
         sys.exit("this needs CPython 3.12")
-    words = argparse.ArgumentParser(description=__doc__.split("\n")[0])
+    words = argparse.ArgumentParser(description=description.split("\n")[0])
     words.add_argument("program", type=pathlib.Path)
     words.add_argument("seeds", type=int, nargs="*")
     words.add_argument("--from", type=int, default=0, dest="first")
@@ -416,4 +417,4 @@ def main():
 
 
 if __name__ == "__main__":
-    main()
+    main(both, __doc__)

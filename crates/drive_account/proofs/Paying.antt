@@ -1,12 +1,14 @@
 -- What is paid for replies.
-use Rattle.std.proofs.Common.{◌≡◌, ℕ, List, false, Option, refl, ◌∙◌, sym, ap, subst}
+use Rattle.std.proofs.Common.{◌≡◌, ◌≤◌, ◌-◌, ◌&&◌, ℕ, nat_lt, List, Bool, true, false, if◌then◌else◌, Option, Some, None, refl, ◌∙◌, sym, ap, subst}
+use Rattle.std.proofs.lemmas.Bool.{ltb-true}
 use Rattle.tree_files.specs.Files.{Files}
 use Rattle.machine_events.specs.declared.event.Event.{Event}
 use Rattle.machine_events.specs.declared.event.Reply.{Reply}
 use Rattle.machine_events.specs.declared.event.Reply.TheVariants as r
-use Rattle.meaning_runs.specs.Runs.{Run, Pays}
+use Rattle.meaning_runs.specs.Runs.{Run, Pays, Stands, IsSpent, GivesUp}
+use Rattle.meaning_runs.proofs.Stand.{stands_paid, spent_gives_up}
 use Rattle.meaning_runs.specs.Costs.{reply_units, after_reply}
-use Rattle.drive_account.specs.At.{At}
+use Rattle.drive_account.specs.At.{At, MayBeUnread, IsShort, told_of}
 use Rattle.drive_account.specs.declared.purse.Purse.{Purse}
 
 -- each reply but a wait is paid for
@@ -52,3 +54,28 @@ pub owed : {files : Option Files} {whole : Run} {fuel : ℕ} {mine : List (Event
     → At files whole fuel mine purse (after_reply reply next) → At files whole fuel mine purse (Pays false units next)
 owed {files = files} {whole} {fuel} {mine} purse reply units next other is at =
     subst (λ (run : Run). At files whole fuel mine purse run) (paid_reply reply next other ∙ ap (λ (n : ℕ). Pays false n next) (sym is)) at
+
+-- what would be told of a read that fails right behind a payment is where the script stands before it
+pub told_unread : {files : Option Files} {whole : Run} {fuel : ℕ} {mine : List (Event × Reply)} (budget units : ℕ) (of_tree : Bool) (next : Run) → units ≤ budget
+    → Stands files whole fuel mine budget (Pays of_tree units next) → MayBeUnread files whole fuel mine (told_of budget of_tree units)
+told_unread {files} {whole} {fuel} {mine} budget units true next enough s = at (nat_lt 0 units) refl
+  where
+    at : (some : Bool) → nat_lt 0 units ≡ some → MayBeUnread files whole fuel mine (if true && some then Some budget else None)
+    at true is = record { units = units; next = next; stands = s; some = ltb-true 0 units is; enough = enough }
+    at false is = tt
+told_unread budget units false next enough s = tt
+
+-- a payment that is made: the script stands behind it
+pub at_paid : {files : Option Files} {whole : Run} {fuel : ℕ} {mine : List (Event × Reply)} (old new : Purse) (units : ℕ) (of_tree : Bool) (next : Run) → units ≤ old.budget
+    → new.budget ≡ old.budget - units → new.read ≡ told_of old.budget of_tree units
+    → At files whole fuel mine old (Pays of_tree units next) → At files whole fuel mine new next
+at_paid {files = files} {whole} {fuel} {mine} old new units of_tree next enough left told a = record {
+  stands = subst (λ (b : ℕ). Stands files whole fuel mine b next) (sym left) (stands_paid enough a.stands);
+  unread = subst (λ (r : Option ℕ). MayBeUnread files whole fuel mine r) (sym told) (told_unread old.budget units of_tree next enough a.stands);
+}
+
+-- a script that stands at a payment that it cannot make is spent, and gives up what it holds
+pub short_gives_up : {files : Option Files} (t : ℕ) {whole : Run} {fuel : ℕ} {mine : List (Event × Reply)} {budget : ℕ} {of_tree : Bool} → IsShort files whole fuel mine budget of_tree → GivesUp files t whole fuel mine of_tree
+short_gives_up {files} t {whole} {fuel} {mine} {budget} {of_tree} s =
+    let spent : IsSpent files whole fuel mine budget = record { of_tree = of_tree; units = s.units; next = s.next; stands = s.stands; short = s.short } in
+    spent_gives_up t spent

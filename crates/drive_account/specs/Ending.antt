@@ -1,5 +1,5 @@
 -- How a script ended, and what stands where it was broken off.
-use Rattle.std.specs.Prelude.{◌≡◌, ◌≤◌, ℕ, ◌+◌, List, [], ◌∷◌, ◌++◌, true, Some, Option, Bool}
+use Rattle.std.specs.Prelude.{◌≡◌, ◌≤◌, ℕ, ◌+◌, List, [], ◌∷◌, ◌++◌, true, Some, Option, Bool, ◌⊎◌}
 use Rattle.tree_files.specs.Files.{Files}
 use Rattle.tree_files.specs.Count.{Rose}
 use Rattle.machine_events.specs.declared.event.Event.{Event}
@@ -8,8 +8,8 @@ use Rattle.machine_events.specs.declared.event.Reply.{Reply}
 use Rattle.machine_events.specs.declared.event.Reply.TheVariants.{Done}
 use Rattle.machine_events.specs.declared.event.Outcome.{Outcome}
 use Rattle.machine_events.specs.declared.event.Outcome.TheVariants as o
-use Rattle.machine_shown.specs.Shown.{shown, Running}
-use Rattle.meaning_runs.specs.Runs.{Run, GivesUp}
+use Rattle.machine_shown.specs.Shown.{shown, shown_first, Running}
+use Rattle.meaning_runs.specs.Runs.{Run, Makes, Reaches, spend, GivesUp}
 use Rattle.meaning_runs.specs.Follows.{IsPart}
 use Rattle.drive_port.specs.View.{View}
 use Rattle.drive_account.specs.Holds.{held_in}
@@ -62,3 +62,20 @@ pub record GaveAll (t : ℕ) (mine mine' : List (Event × Reply)) (outcome : Out
   pub gave : Gave t mine before
   pub free : (shown t before).held ≡ []
   pub whole : mine' ≡ before ++ (End outcome paid, Done) ∷ []
+
+-- while things were given up from these pairs on, the port refused an event: whatever script was giving up stands at it
+pub record RefusedGiving {S : Type 0} (v : View S) (t : ℕ) (mine : List (Event × Reply)) : Type 0 where
+  pub event : Event
+  pub refuses : v.refuses event
+  pub due : (files : Option Files) (whole : Run) (budget : ℕ) (of_tree : Bool) → GivesUp files t whole budget mine of_tree
+      → (next : Reply → Run) × Reaches files (spend budget (shown_first t) whole) 0 v.mine (Makes event next)
+
+-- all that was held is given up, and the port refused the End event
+pub record RefusedEnd {S : Type 0} (v : View S) (t : ℕ) (mine : List (Event × Reply)) (outcome : Outcome) (paid : ℕ) : Type 0 where
+  pub refuses : v.refuses (End outcome paid)
+  pub gave : Gave t mine v.mine
+  pub free : (shown t v.mine).held ≡ []
+
+-- the port refused one of the last events of a script that gives up all that it holds and ends
+abbrev pub RefusedLast : {S : Type 0} → View S → ℕ → List (Event × Reply) → Outcome → ℕ → Type 0
+RefusedLast v t mine outcome paid = RefusedGiving v t mine ⊎ RefusedEnd v t mine outcome paid

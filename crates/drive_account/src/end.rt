@@ -1,5 +1,5 @@
 //! How a script ends: what it holds is given up, and its End event is made.
-ghost use Rattle.std.specs.Prelude.{◌≡◌, ◌≤◌, ◌∷◌, ◌++◌, [], IfOk, OnOk, OnErr};
+ghost use Rattle.std.specs.Prelude.{◌≡◌, ◌≤◌, ◌∷◌, ◌++◌, [], IfOk, OnOk, OnErr, IsErrOf};
 ghost use Rattle.machine_events.specs.declared.event.Event.TheVariants as ev;
 ghost use Rattle.machine_events.specs.declared.event.Outcome.TheVariants as outcomes;
 ghost use Rattle.machine_events.specs.declared.event.Reply.TheVariants.{Done};
@@ -10,7 +10,7 @@ ghost use Rattle.meaning_runs.specs.Runs.{gives};
 ghost use Rattle.drive_port.specs.View.{View, Stays};
 ghost use Rattle.drive_account.specs.Holds.{holding_of, held_in};
 ghost use Rattle.meaning_script.specs.Meaning as meant;
-ghost use Rattle.drive_account.specs.Ending.{outcome, IsRead, Idle, Gave, GaveAll};
+ghost use Rattle.drive_account.specs.Ending.{outcome, IsRead, Idle, Gave, GaveAll, RefusedGiving, RefusedLast};
 
 use crate::{Held, Hold};
 use base_types::{Exact, NoMemory};
@@ -44,13 +44,15 @@ fn event_of(hold: Hold) -> Event
 }
 
 /// Gives up all that is held, the innermost first. Nothing is paid, and no reply is looked at.
-fn give_up<P: Port>(port: &mut P, held: &mut Held) -> Result<(), Halt>
+pub fn give_up<P: Port>(port: &mut P, held: &mut Held) -> Result<(), Halt>
     requires idle { Idle (P.view port.old) held.old }
     ensures stays { Stays (P.view port.old) (P.view port.new) }
     ensures gave { Gave (P.view port.old).number (P.view port.old).mine (P.view port.new).mine }
     ensures grows { lists_in (P.view port.old).mine ≤ lists_in (P.view port.new).mine }
     ensures idle { OnOk result (Idle (P.view port.new) held.new) }
     ensures free { OnOk result (held_in held.new ≡ []) }
+    ensures refused { IsErrOf result Halt.Refused → RefusedGiving (P.view port.new) (P.view port.old).number
+        (P.view port.old).mine }
 {
     while let Some(hold) = held.pop() {
         match port.call(event_of(hold)) {
@@ -69,6 +71,7 @@ fn end<P: Port>(port: &mut P, how: Outcome, spent: u64) -> Result<(), Halt>
     ensures ends { OnOk result ((P.view port.new).mine ≡ (P.view port.old).mine ++ (ev.End how spent, Done) ∷ []) }
     ensures grows { OnOk result (lists_in (P.view port.old).mine ≤ lists_in (P.view port.new).mine) }
     ensures err { OnErr result ((P.view port.new).mine ≡ (P.view port.old).mine) }
+    ensures refused { IsErrOf result Halt.Refused → (P.view port.new).refuses (ev.End how spent) }
 {
     let event = Event::End {
         outcome: how,
@@ -112,6 +115,7 @@ pub fn came<P: Port>(port: &mut P, flow: Flow, fuel: u64) -> Result<Ending, Halt
     ensures read { IfOk result (λ ending. IsRead ending → ⊥) }
     ensures grows { OnOk result (lists_in (P.view port.old).mine ≤ lists_in (P.view port.new).mine) }
     ensures err { OnErr result ((P.view port.new).mine ≡ (P.view port.old).mine) }
+    ensures refused { IsErrOf result Halt.Refused → (P.view port.new).refuses (ev.End (meant.outcome_of flow) fuel) }
 {
     let (ending, how) = match ending_of(flow) {
         Ok(both) => both,
@@ -134,6 +138,8 @@ fn broke<P: Port>(port: &mut P, held: &mut Held, how: Outcome, spent: u64) -> Re
         (P.view port.new).mine how spent) }
     ensures grows { OnOk result (lists_in (P.view port.old).mine ≤ lists_in (P.view port.new).mine) }
     ensures part { OnErr result (Gave (P.view port.old).number (P.view port.old).mine (P.view port.new).mine) }
+    ensures refused { IsErrOf result Halt.Refused → RefusedLast (P.view port.new) (P.view port.old).number
+        (P.view port.old).mine how spent }
 {
     match give_up(port, held) {
         Ok(()) => match end(port, how, spent) {
@@ -156,6 +162,8 @@ pub fn spent<P: Port>(port: &mut P, held: &mut Held, fuel: u64) -> Result<Ending
     ensures read { IfOk result (λ ending. IsRead ending → ⊥) }
     ensures grows { OnOk result (lists_in (P.view port.old).mine ≤ lists_in (P.view port.new).mine) }
     ensures part { OnErr result (Gave (P.view port.old).number (P.view port.old).mine (P.view port.new).mine) }
+    ensures refused { IsErrOf result Halt.Refused → RefusedLast (P.view port.new) (P.view port.old).number
+        (P.view port.old).mine outcomes.Fuel fuel }
 {
     match broke(port, held, Outcome::Fuel, fuel) {
         Ok(()) => Ok(Ending::Fuel),
@@ -172,6 +180,8 @@ pub fn unread<P: Port>(port: &mut P, held: &mut Held, paid: u64) -> Result<Endin
         × GaveAll (P.view port.old).number (P.view port.old).mine (P.view port.new).mine outcomes.Read paid) }
     ensures grows { OnOk result (lists_in (P.view port.old).mine ≤ lists_in (P.view port.new).mine) }
     ensures part { OnErr result (Gave (P.view port.old).number (P.view port.old).mine (P.view port.new).mine) }
+    ensures refused { IsErrOf result Halt.Refused → RefusedLast (P.view port.new) (P.view port.old).number
+        (P.view port.old).mine outcomes.Read paid }
 {
     match broke(port, held, Outcome::Read, paid) {
         Ok(()) => Ok(Ending::Read),

@@ -9,6 +9,6 @@ mod purse;
 
 pub use change::{Change, change_of};
 pub use costs::{reply_units, texts_size};
-pub use end::{Ending, came, spent, unread};
+pub use end::{Ending, came, give_up, spent, unread};
 pub use held::{Held, Hold};
 pub use purse::{Purse, pay_reply};

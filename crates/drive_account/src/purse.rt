@@ -1,28 +1,28 @@
 //! The budget of a script.
-ghost use Rattle.std.specs.Prelude.{◌≤◌, ◌<◌, ℕ, List, Option, Bool};
+ghost use Rattle.std.specs.Prelude.{◌≡◌, ◌≤◌, ◌-◌, ℕ, List, Option, nat_le, IsTrue};
 ghost use Rattle.tree_files.specs.Files.{Files};
 ghost use Rattle.machine_events.specs.declared.event.Event.{Event};
 ghost use Rattle.machine_events.specs.declared.event.Reply.{Reply};
-ghost use Rattle.meaning_runs.specs.Runs.{Run, Pays, Stands};
+ghost use Rattle.meaning_runs.specs.Runs.{Run, Pays};
 ghost use Rattle.meaning_runs.specs.Costs.{after_reply};
-ghost use Rattle.drive_account.specs.At.{At, AfterPay, MayBeUnread};
+ghost use Rattle.drive_account.specs.At.{At, AfterPay, told_of};
 
 use crate::costs::reply_units;
 use machine_events::Reply;
 
-/// The budget that is left, and what was left before the last payment for a call of the tree, if no
-/// event and no payment came after it.
+/// The budget that is left; what was left before the last payment for a call of the tree, if no
+/// event and no payment came after it; and whether the last payment, made or not, was one for a
+/// call of the tree.
 #[derive(Drop)]
 pub struct Purse {
     pub budget: u64,
     pub read: Option<u64>,
+    pub of_tree: bool,
 }
 
-/// What is left before a payment for a call of the tree.
-fn read_of(budget: u64, of_tree: bool, units: u64) -> Option<u64>
-    requires { units ≤ budget }
-    ensures { (files : Option Files) (whole : Run) (fuel : ℕ) (mine : List (Event × Reply)) (next : Run)
-        → Stands files whole fuel mine budget (Pays of_tree units next) → MayBeUnread files whole fuel mine result }
+/// What a read that fails right behind a payment would tell.
+fn told_of(budget: u64, of_tree: bool, units: u64) -> Option<u64>
+    ensures { result ≡ told_of budget of_tree units }
 {
     if of_tree && units > 0 {
         Some(budget)
@@ -32,17 +32,33 @@ fn read_of(budget: u64, of_tree: bool, units: u64) -> Option<u64>
 }
 
 impl Purse {
+    /// Takes units that are there, for a call of the tree or not. What a failed read would tell is of
+    /// this payment alone: no older one counts.
+    fn take(&mut self, of_tree: bool, units: u64)
+        requires { units ≤ self.old.budget }
+        ensures left { self.new.budget ≡ self.old.budget - units }
+        ensures told { self.new.read ≡ told_of self.old.budget of_tree units }
+        ensures kind { self.new.of_tree ≡ self.old.of_tree }
+    {
+        self.read = told_of(self.budget, of_tree, units);
+        self.budget -= units;
+    }
+
     /// Pays units, for a call of the tree or not, if they are there.
     pub fn pay(&mut self, of_tree: bool, units: u64) -> bool
-        ensures { (files : Option Files) (whole : Run) (fuel : ℕ) (mine : List (Event × Reply)) (next : Run)
+        ensures paid { result ≡ nat_le units self.old.budget }
+        ensures left { IsTrue result → self.new.budget ≡ self.old.budget - units }
+        ensures told { IsTrue result → self.new.read ≡ told_of self.old.budget of_tree units }
+        ensures kind { self.new.of_tree ≡ of_tree }
+        ensures moves { (files : Option Files) (whole : Run) (fuel : ℕ) (mine : List (Event × Reply)) (next : Run)
             → At files whole fuel mine self.old (Pays of_tree units next)
             → AfterPay result files whole fuel mine self.new next }
     {
+        self.of_tree = of_tree;
         if self.budget < units {
             return false;
         }
-        self.read = read_of(self.budget, of_tree, units);
-        self.budget -= units;
+        self.take(of_tree, units);
         true
     }
 }

@@ -3,7 +3,7 @@ use Rattle.std.proofs.Common.{◌≡◌, ℕ, List, ◌∷◌, Option, refl, sub
 use Rattle.tree_files.specs.Files.{Files}
 use Rattle.machine_events.specs.declared.event.Event.{Event}
 use Rattle.machine_events.specs.declared.event.Reply.{Reply}
-use Rattle.meaning_runs.specs.Runs.{Run, IsSpent}
+use Rattle.meaning_runs.specs.Runs.{Run}
 use Rattle.meaning_state.specs.declared.flow.Flow.{Flow}
 use Rattle.meaning_state.specs.declared.thread.State.{State}
 use Rattle.meaning_script.specs.Meaning.{ends}
@@ -13,7 +13,7 @@ use Rattle.py_frames.specs.declared.work.Frame.{Frame}
 use Rattle.py_frames.specs.declared.work.Item.{Item}
 use Rattle.py_frames.specs.declared.want.Want.{Want}
 use Rattle.py_frames.specs.declared.want.Want.TheVariants as want
-use Rattle.drive_account.specs.At.{At}
+use Rattle.drive_account.specs.At.{At, IsShort}
 use Rattle.drive_loop.specs.Turns.{Stepped, remains}
 use Rattle.drive_loop.specs.declared.course.Course.{Course}
 use Rattle.drive_loop.specs.declared.course.Turn.{Turn}
@@ -29,7 +29,7 @@ stepped purse after run w same is files faults faults' mine = record {
 
 -- a payment could not be made
 pub stepped_out : (purse : Purse) (after : Course) (run : Run)
-    → ((files : Option Files) (whole : Run) (fuel : ℕ) (mine : List (Event × Reply)) → At files whole fuel mine purse run → IsSpent files whole fuel mine after.purse.budget)
+    → ((files : Option Files) (whole : Run) (fuel : ℕ) (mine : List (Event × Reply)) → At files whole fuel mine purse run → IsShort files whole fuel mine after.purse.budget after.purse.of_tree)
     → Stepped purse after run turn.Out
 stepped_out purse after run spent files faults faults' mine = record {
   moves = λ whole fuel a. spent files whole fuel mine a;

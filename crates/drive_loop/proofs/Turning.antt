@@ -25,7 +25,7 @@ use Rattle.drive_loop.specs.declared.course.Turn.{Turn}
 use Rattle.drive_account.specs.declared.purse.Purse.{Purse}
 
 starts_at : (files : Option Files) (script fuel : ℕ) (text : List ℕ)
-    → At files (meaning sources script text) fuel [] (record { budget = fuel; read = None }) (want_does sources 200 (want.Then (Start script script (codes "__main__") text)) (rest sources []) (first_state script))
+    → At files (meaning sources script text) fuel [] (record { budget = fuel; read = None; of_tree = false }) (want_does sources 200 (want.Then (Start script script (codes "__main__") text)) (rest sources []) (first_state script))
 unfolding meaning
 starts_at files script fuel text = record { stands = stands_start (meaning sources script text) fuel; unread = tt }
 

@@ -1,5 +1,5 @@
 -- From the work of a script to its End, and to what stands where it is broken off.
-use Rattle.std.proofs.Common.{◌≡◌, ℕ, ◌+◌, ◌-◌, ◌≤◌, List, [], ◌∷◌, ◌++◌, true, Option, Some, refl, ◌∙◌, ap, arith}
+use Rattle.std.proofs.Common.{◌≡◌, ℕ, ◌+◌, ◌-◌, ◌≤◌, List, [], ◌∷◌, ◌++◌, Bool, true, Option, Some, refl, ◌∙◌, ap, arith}
 use Rattle.tree_files.specs.Files.{Files}
 use Rattle.tree_files.specs.Count.{Rose}
 use Rattle.machine_events.specs.declared.event.Event.{Event}
@@ -9,18 +9,20 @@ use Rattle.machine_events.specs.declared.event.Reply.TheVariants.{Done}
 use Rattle.machine_events.specs.declared.event.Outcome.TheVariants as o
 use Rattle.machine_shown.specs.Shown.{shown, shown_first}
 use Rattle.machine_shown.specs.Knowing.{IsShown}
-use Rattle.meaning_runs.specs.Runs.{Run, Ended, Stands, StandsIn, IsSpent, IsUnread, Safe}
+use Rattle.meaning_runs.specs.Runs.{Run, Ended, Stands, StandsIn, IsUnread, Safe}
 use Rattle.meaning_runs.specs.Follows.{Follows, Ends}
 use Rattle.meaning_runs.specs.Lists.{lists_in, ends_in}
 use Rattle.meaning_runs.proofs.Giving.{safe_spend}
 use Rattle.meaning_runs.proofs.Once.{no_end}
-use Rattle.meaning_runs.proofs.Stand.{whole_of, safe_stands, over_reached, part, part_given, all_given, spent_gives_up, unread_gives_up}
+use Rattle.meaning_runs.proofs.Stand.{whole_of, safe_stands, over_reached, part, part_given, all_given, unread_gives_up}
 use Rattle.meaning_state.specs.declared.flow.Leave.TheVariants.{Raised, Return, Break, Continue}
 use Rattle.meaning_state.specs.declared.flow.Flow.{Flow}
 use Rattle.meaning_state.specs.declared.flow.Flow.TheVariants.{Went, Left}
 use Rattle.meaning_script.specs.Meaning.{outcome_of}
 use Rattle.drive_port.specs.View.{View, Stays}
+use Rattle.drive_account.specs.At.{IsShort}
 use Rattle.drive_account.specs.declared.held.Held.{Held}
+use Rattle.drive_account.proofs.Paying.{short_gives_up}
 use Rattle.drive_search.specs.Asking.{AllKept}
 use Rattle.drive_loop.specs.Turns.{ended}
 use Rattle.drive_loop.specs.Overs.{Begun}
@@ -37,10 +39,10 @@ pub follows_came : (f : Files) (t : ℕ) (whole : Run) (fuel budget : ℕ) (mine
     → mine' ≡ mine ++ (End (outcome_of flow) fuel, Done) ∷ [] → Safe (shown_first t) whole → Follows f t whole fuel mine' (outcome_of flow)
 follows_came f t whole fuel budget mine mine' flow s is safe = whole_of f t fuel is refl (over_reached t s) (ends_came flow fuel) safe
 
-pub follows_out : (f : Files) (t : ℕ) (whole : Run) (fuel budget : ℕ) (mine mine' : List (Event × Reply)) → IsSpent (Some f) whole fuel mine budget → GaveAll t mine mine' o.Fuel fuel
+pub follows_out : (f : Files) (t : ℕ) (whole : Run) (fuel budget : ℕ) (of_tree : Bool) (mine mine' : List (Event × Reply)) → IsShort (Some f) whole fuel mine budget of_tree → GaveAll t mine mine' o.Fuel fuel
     → Safe (shown_first t) whole → Follows f t whole fuel mine' o.Fuel
-follows_out f t whole fuel budget mine mine' s all safe =
-    whole_of f t fuel all.whole refl (all_given t whole fuel all.before s.of_tree all.free (all.gave (Some f) whole fuel s.of_tree (spent_gives_up t s))) ((s.of_tree, refl), refl) safe
+follows_out f t whole fuel budget of_tree mine mine' s all safe =
+    whole_of f t fuel all.whole refl (all_given t whole fuel all.before of_tree all.free (all.gave (Some f) whole fuel of_tree (short_gives_up t s))) ((of_tree, refl), refl) safe
 
 -- what was paid before the payment for the failed call, and that payment, are within the fuel
 unread_paid : {files : Option Files} (run : Run) (fuel left : ℕ) (mine : List (Event × Reply)) → IsUnread files run fuel mine left → fuel - left + 1 ≤ fuel
@@ -58,8 +60,8 @@ follows_read f t whole fuel left mine mine' s all safe =
 pub broken_in : (f : Files) (t : ℕ) (whole : Run) (fuel : ℕ) (mine : List (Event × Reply)) (old new : ℕ) → StandsIn (Some f) whole fuel mine → Broken f t whole fuel mine old new
 broken_in f t whole fuel mine old new s = in_run (part f t s)
 
-pub broken_out : (f : Files) (t : ℕ) (whole : Run) (fuel budget : ℕ) (mine mine' : List (Event × Reply)) (old new : ℕ) → IsSpent (Some f) whole fuel mine budget → Gave t mine mine' → Broken f t whole fuel mine' old new
-broken_out f t whole fuel budget mine mine' old new s gave = in_run (part_given f t whole fuel (gave (Some f) whole fuel s.of_tree (spent_gives_up t s)))
+pub broken_out : (f : Files) (t : ℕ) (whole : Run) (fuel budget : ℕ) (of_tree : Bool) (mine mine' : List (Event × Reply)) (old new : ℕ) → IsShort (Some f) whole fuel mine budget of_tree → Gave t mine mine' → Broken f t whole fuel mine' old new
+broken_out f t whole fuel budget of_tree mine mine' old new s gave = in_run (part_given f t whole fuel (gave (Some f) whole fuel of_tree (short_gives_up t s)))
 
 pub broken_read : (f : Files) (t : ℕ) (whole : Run) (fuel left : ℕ) (mine mine' : List (Event × Reply)) (old new : ℕ) → IsUnread (Some f) whole fuel mine left → Gave t mine mine' → Rose old new → Broken f t whole fuel mine' old new
 broken_read f t whole fuel left mine mine' old new s gave rose =
@@ -70,9 +72,9 @@ pub came_shown : {S : Type 0} (first v : View S) (files : Option Files) (t : ℕ
     → (budget : ℕ) × Stands files whole fuel v.mine budget (ended flow) → IsShown (shown v.number v.mine) (End (outcome_of flow) fuel)
 came_shown first v files t whole fuel flow begun stays safe s = rw (stays.number ∙ begun.number) (safe_stands t s.1 safe).1
 
-pub spent_idle : {S : Type 0} (first v : View S) (files : Option Files) (t : ℕ) (whole : Run) (fuel : ℕ) (held : Held) → Begun first t → Stays first v → Safe (shown_first t) whole → Holds v held
-    → (budget : ℕ) × IsSpent files whole fuel v.mine budget → Idle v held
-spent_idle first v files t whole fuel held begun stays safe holds s = record {
+pub spent_idle : {S : Type 0} (first v : View S) (files : Option Files) (t : ℕ) (whole : Run) (fuel : ℕ) (of_tree : Bool) (held : Held) → Begun first t → Stays first v → Safe (shown_first t) whole → Holds v held
+    → (budget : ℕ) × IsShort files whole fuel v.mine budget of_tree → Idle v held
+spent_idle first v files t whole fuel of_tree held begun stays safe holds s = record {
   ready = stays.ready begun.ready;
   runs = rw (stays.number ∙ begun.number) (safe_stands t s.1.stands safe).0;
   holds = holds;
@@ -90,8 +92,8 @@ unread_idle first v files t whole fuel left held begun stays safe holds s = reco
 pub no_end_in : {files : Option Files} (t : ℕ) (whole : Run) (fuel : ℕ) (mine : List (Event × Reply)) → StandsIn files whole fuel mine → Safe (shown_first t) whole → ends_in mine ≡ 0
 no_end_in t whole fuel mine s safe = no_end t s.stands.reaches safe
 
-pub no_end_out : {files : Option Files} (t : ℕ) (whole : Run) (fuel budget : ℕ) (mine mine' : List (Event × Reply)) → IsSpent files whole fuel mine budget → Safe (shown_first t) whole → Gave t mine mine' → ends_in mine' ≡ 0
-no_end_out {files = files} t whole fuel budget mine mine' s safe gave = no_end t (gave files whole fuel s.of_tree (spent_gives_up t s)) (safe_spend whole fuel (shown_first t) safe)
+pub no_end_out : {files : Option Files} (t : ℕ) (whole : Run) (fuel budget : ℕ) (of_tree : Bool) (mine mine' : List (Event × Reply)) → IsShort files whole fuel mine budget of_tree → Safe (shown_first t) whole → Gave t mine mine' → ends_in mine' ≡ 0
+no_end_out {files = files} t whole fuel budget of_tree mine mine' s safe gave = no_end t (gave files whole fuel of_tree (short_gives_up t s)) (safe_spend whole fuel (shown_first t) safe)
 
 pub no_end_read : {files : Option Files} (t : ℕ) (whole : Run) (fuel left : ℕ) (mine mine' : List (Event × Reply)) → IsUnread files whole fuel mine left → Safe (shown_first t) whole → Gave t mine mine' → ends_in mine' ≡ 0
 no_end_read {files = files} t whole fuel left mine mine' s safe gave = no_end t (gave files whole (fuel - left) true (unread_gives_up t s)) (safe_spend whole (fuel - left) (shown_first t) safe)

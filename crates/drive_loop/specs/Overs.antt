@@ -1,11 +1,12 @@
 -- A script from its start until its work is over.
-use Rattle.std.specs.Prelude.{◌≡◌, ℕ, List, [], Option, None}
+use Rattle.std.specs.Prelude.{◌≡◌, ℕ, List, [], Option, None, false}
 use Rattle.tree_files.specs.Files.{Files}
 use Rattle.tree_files.specs.Count.{Rose}
 use Rattle.machine_events.specs.declared.event.Event.{Event}
 use Rattle.machine_events.specs.declared.event.Reply.{Reply}
-use Rattle.meaning_runs.specs.Runs.{Run, Stands, IsSpent, IsUnread}
+use Rattle.meaning_runs.specs.Runs.{Run, Stands, IsUnread}
 use Rattle.drive_port.specs.View.{View}
+use Rattle.drive_account.specs.At.{IsShort}
 use Rattle.drive_account.specs.Holds.{held_in}
 use Rattle.meaning_script.specs.Meaning.{first_state}
 use Rattle.drive_loop.specs.Turns.{ended}
@@ -21,14 +22,14 @@ pub record Begun {S : Type 0} (v : View S) (script : ℕ) : Type 0 where
 
 -- nothing was done yet
 pub record Fresh (script fuel : ℕ) (c : Course) : Type 0 where
-  pub purse : c.purse ≡ record { budget = fuel; read = None }
+  pub purse : c.purse ≡ record { budget = fuel; read = None; of_tree = false }
   pub held : held_in c.held ≡ []
   pub thread : c.thread ≡ record { left = 200; state = first_state script }
   pub work : c.work ≡ []
 
--- how a run is over: it ended, it is spent, or it could not read, with
--- this budget before the payment; then the tree's count of faults rose
+-- how a run is over: it ended; it is spent, at a payment that was one for a call of the tree or not; or it
+-- could not read, with this budget before the payment, and the tree's count of faults rose
 abbrev pub Overs : Option Files → ℕ → ℕ → Run → ℕ → List (Event × Reply) → Over → Type 0
 Overs files faults faults' whole fuel mine (over.Came flow) = (budget : ℕ) × Stands files whole fuel mine budget (ended flow)
-Overs files faults faults' whole fuel mine over.Out = (budget : ℕ) × IsSpent files whole fuel mine budget
+Overs files faults faults' whole fuel mine (over.Out of_tree) = (budget : ℕ) × IsShort files whole fuel mine budget of_tree
 Overs files faults faults' whole fuel mine (over.Unread left) = IsUnread files whole fuel mine left × Rose faults faults'

@@ -7,7 +7,7 @@ use Rattle.tree_files.specs.declared.tree.Stamp.TheVariants as stamps
 use Rattle.machine_events.specs.declared.event.Event.{Event}
 use Rattle.machine_events.specs.declared.event.Reply.{Reply}
 use Rattle.machine_shown.specs.Shown.{shown}
-use Rattle.meaning_runs.specs.Runs.{Run, Over, Ended, IsSpent, IsUnread, Safe}
+use Rattle.meaning_runs.specs.Runs.{Run, Over, Ended, IsUnread, Safe}
 use Rattle.drive_port.specs.View.{View}
 use Rattle.drive_account.specs.declared.held.Held.{Held}
 use Rattle.meaning_state.specs.declared.flow.Flow.{Flow}
@@ -18,7 +18,7 @@ use Rattle.py_frames.specs.declared.want.Want.{Want}
 use Rattle.py_frames.specs.declared.procedures.Procedure.{Procedure}
 use Rattle.find_load.specs.declared.words.In.{In}
 use Rattle.drive_account.specs.Ending.{Holds}
-use Rattle.drive_account.specs.At.{At}
+use Rattle.drive_account.specs.At.{At, IsShort}
 use Rattle.drive_loop.specs.declared.course.Course.{Course}
 use Rattle.drive_loop.specs.declared.course.Turn.{Turn}
 use Rattle.drive_loop.specs.declared.course.Turn.TheVariants as turn
@@ -40,7 +40,7 @@ ended flow = Over (Ended (outcome_of flow))
 abbrev pub After : Option Files → Run → ℕ → List (Event × Reply) → Course → Turn → Type 0
 After files whole fuel mine c (turn.On want) = At files whole fuel mine c.purse (remains c want)
 After files whole fuel mine c (turn.Came flow) = At files whole fuel mine c.purse (ended flow)
-After files whole fuel mine c turn.Out = IsSpent files whole fuel mine c.purse.budget
+After files whole fuel mine c turn.Out = IsShort files whole fuel mine c.purse.budget c.purse.of_tree
 After files whole fuel mine c (turn.Unread left) = IsUnread files whole fuel mine left
 
 -- a call of the tree fails only where its count of faults rose

@@ -25,8 +25,8 @@ use tree_files::Tree;
 pub enum Over {
     /// No work is left.
     Came(Flow),
-    /// A payment could not be made.
-    Out,
+    /// A payment could not be made: one for a call of the tree, or another.
+    Out { of_tree: bool },
     /// A call of the tree failed after a payment that left so much before it.
     Unread(u64),
 }
@@ -43,6 +43,7 @@ impl Course {
             purse: Purse {
                 budget: fuel,
                 read: None,
+                of_tree: false,
             },
             held: Held::new(alloc),
             thread: Thread {
@@ -111,7 +112,11 @@ fn go<P: Port, T: Tree>(
         match turn {
             Turn::On(next) => want = next,
             Turn::Came(flow) => return Ok(Over::Came(flow)),
-            Turn::Out => return Ok(Over::Out),
+            Turn::Out => {
+                return Ok(Over::Out {
+                    of_tree: course.purse.of_tree,
+                });
+            }
             Turn::Unread(left) => return Ok(Over::Unread(left)),
         }
     }

@@ -56,7 +56,7 @@ pub fn run_script_on<P: Port, T: Tree>(
     };
     match over {
         Over::Came(flow) => came(port, flow, fuel),
-        Over::Out => spent(port, &mut course.held, fuel),
+        Over::Out { .. } => spent(port, &mut course.held, fuel),
         Over::Unread(left) => {
             let paid = fuel - left;
             unread(port, &mut course.held, paid)

@@ -1,5 +1,5 @@
 -- A recorded list of events with their replies.
-use Rattle.std.specs.Prelude.{◌≡◌, Bool, true, false, List, map, Option, Some, None}
+use Rattle.std.specs.Prelude.{◌≡◌, ◌≤◌, ℕ, Bool, true, false, List, [], ◌∷◌, map, take, length, Option, Some, None}
 use Rattle.machine_events.specs.declared.event.Event.{Event}
 use Rattle.machine_events.specs.declared.event.Reply.{Reply}
 use Rattle.machine_events.specs.declared.event.Pair.{Pair}
@@ -16,3 +16,13 @@ IsOther false None event = Unit {0}
 IsOther false (Some p) event = p.event ≡ event → ⊥
 IsOther true None event = ⊥
 IsOther true (Some p) event = (p.event ≡ event) × (Fits event p.reply → ⊥)
+
+-- each reply is of a kind that its event can get
+abbrev pub AllFit : List (Event × Reply) → Type 0
+AllFit [] = Unit {0}
+AllFit (pair ∷ own) = Fits pair.0 pair.1 × AllFit own
+
+-- so many pairs of the list were met: they stand in it, and their replies fit
+pub record Met (own : List Pair) (at : ℕ) : Type 0 where
+  pub within : at ≤ length own
+  pub fit : AllFit (pairs_of (take at own))

@@ -1,13 +1,14 @@
 //! A port that gives the replies of a recorded list.
 ghost use Rattle.std.specs.Prelude.{◌≡◌, ℕ, ◌+◌, [], Some, take, slice_get, IfOk, OnErr, IsErrOf};
 ghost use Rattle.machine_events.specs.Fitting.{Fits};
-ghost use Rattle.drive_port.specs.Replay.{pairs_of, IsOther};
+ghost use Rattle.drive_port.specs.Replay.{pairs_of, IsOther, Met};
 
 use crate::port::{Halt, Port};
 use base_types::{Exact, Same};
 use machine_events::{Event, Pair, Reply, fits};
 
-/// A port over a recorded list. So many of its pairs were met. It refuses an event that is not the
+/// A port over a recorded list. So many of its pairs were met, and what it may still become is every
+/// port over the same list that has met pairs whose replies fit. It refuses an event that is not the
 /// next one of the list, and one whose recorded reply is of no kind that its event can get; then the
 /// flag is set.
 #[derive(Drop)]
@@ -25,6 +26,7 @@ impl<'a> ReplayPort<'a> {
         ensures own { result.own.now ≡ own.now }
         ensures at { result.at ≡ 0 }
         ensures mine { pairs_of (take result.at result.own.now) ≡ [] }
+        ensures met { Met result.own.now result.at }
     {
         ReplayPort {
             number,
@@ -73,7 +75,7 @@ impl Port for ReplayPort<'_> {
       number = d.number;
       mine = pairs_of (take d.at d.own.now);
       ready = Unit {0};
-      later = λ c. c.own.now ≡ d.own.now;
+      later = λ c. (c.own.now ≡ d.own.now) × (Met d.own.now d.at → Met c.own.now c.at);
       refuses = λ event. IsOther d.misfit (slice_get d.own.now d.at) event;
     } };
 

@@ -13,7 +13,7 @@ use Rattle.drive_account.specs.declared.purse.Purse.{Purse}
 -- after an event no call of the tree can fail before the next payment for one
 pub at_made : {files : Option Files} {whole : Run} {fuel : ℕ} (mine mine' : List (Event × Reply)) (purse : Purse) (event : Event) (reply : Reply) (next : Reply → Run)
     → mine' ≡ mine ++ (event, reply) ∷ [] → At files whole fuel mine purse (Makes event next)
-    → At files whole fuel mine' (record { budget = purse.budget; read = None }) (next reply)
+    → At files whole fuel mine' (record { budget = purse.budget; read = None; of_tree = purse.of_tree }) (next reply)
 at_made mine mine' purse event reply next is at = record { stands = stands_made is at.stands; unread = tt }
 
 -- whatever script stands here stands somewhere, also after an event

@@ -6,7 +6,7 @@ use Rattle.machine_events.specs.declared.event.Event.{Event}
 use Rattle.machine_events.specs.declared.event.Reply.{Reply}
 use Rattle.machine_shown.specs.Shown.{Shown, Running, shown}
 use Rattle.meaning_runs.specs.Lists.{lists_in}
-use Rattle.meaning_runs.specs.Runs.{Run, IsSpent, IsUnread, Safe}
+use Rattle.meaning_runs.specs.Runs.{Run, IsUnread, Safe}
 use Rattle.path_finder.specs.Looking.{Await, want_kind, input_kind, wants}
 use Rattle.path_finder.specs.Steps.{Search}
 use Rattle.path_finder.specs.declared.words.Found.{Found}
@@ -17,7 +17,7 @@ use Rattle.meaning_search.specs.Searches.{searches_in}
 use Rattle.drive_port.specs.View.{View}
 use Rattle.drive_account.specs.declared.held.Held.{Held}
 use Rattle.drive_account.specs.Ending.{Holds}
-use Rattle.drive_account.specs.At.{At}
+use Rattle.drive_account.specs.At.{At, IsShort}
 use Rattle.drive_search.specs.Asking.{Parted, Refused}
 use Rattle.drive_account.specs.declared.purse.Purse.{Purse}
 use Rattle.drive_search.specs.declared.search.Sought.{Sought}
@@ -28,7 +28,7 @@ use Rattle.drive_search.specs.declared.search.Step.TheVariants as step
 -- where a search leads, behind which the script goes on by its answer
 abbrev pub AfterSought : Option Files → Run → ℕ → List (Event × Reply) → Purse → (Option Found → Run) → Sought → Type 0
 AfterSought files whole fuel mine purse k (sought.Found answer) = At files whole fuel mine purse (k answer)
-AfterSought files whole fuel mine purse k sought.Out = IsSpent files whole fuel mine purse.budget
+AfterSought files whole fuel mine purse k sought.Out = IsShort files whole fuel mine purse.budget purse.of_tree
 AfterSought files whole fuel mine purse k (sought.Unread left) = IsUnread files whole fuel mine left
 
 -- where a step of it leads, behind which the search goes on by what it is given

@@ -28,7 +28,7 @@ abbrev pub faults_in : List Counts → ℕ
 faults_in [] = 0
 faults_in (c ∷ counts) = c.faults + faults_in counts
 
-abbrev lists_counted : List Counts → ℕ
+abbrev pub lists_counted : List Counts → ℕ
 lists_counted [] = 0
 lists_counted (c ∷ counts) = c.lists + lists_counted counts
 
@@ -62,7 +62,7 @@ lists_here (Err e) new kept ends l none one = absurd (omega (arith, none, one))
 
 module _ (tree : Option Files) (fuel : ℕ) (h : List Entry) where
   -- behind the first t scripts
-  reads_from : (t : ℕ) (runs : Runs) (counts : List Counts) (results : List Came) → AllRan tree t runs fuel h counts results → reads_of (t + length results) h ≤ reads_of t h + faults_in counts
+  pub reads_from : (t : ℕ) (runs : Runs) (counts : List Counts) (results : List Came) → AllRan tree t runs fuel h counts results → reads_of (t + length results) h ≤ reads_of t h + faults_in counts
   reads_from t [] [] [] all = let same : t + 0 ≡ t = omega arith in let is : reads_of (t + 0) h ≡ reads_of t h = ap (λ (n : ℕ). reads_of n h) same in omega (arith, is)
   reads_from t [] (c ∷ counts) results all = absurd all
   reads_from t [] [] (r ∷ results) all = absurd all
@@ -75,7 +75,7 @@ module _ (tree : Option Files) (fuel : ℕ) (h : List Entry) where
       let is : reads_of (t + suc (length results)) h ≡ reads_of (suc t + length results) h = ap (λ (n : ℕ). reads_of n h) behind in
       omega (arith, rest, here, is)
 
-  lists_from : (t : ℕ) (runs : Runs) (counts : List Counts) (results : List Came) → AllRan tree t runs fuel h counts results → HaveEnds (t + length results) h
+  pub lists_from : (t : ℕ) (runs : Runs) (counts : List Counts) (results : List Came) → AllRan tree t runs fuel h counts results → HaveEnds (t + length results) h
       → (lists_counted counts + lists_of t h ≤ lists_of (t + length results) h) × HaveEnds t h
   lists_from t [] [] [] all ended =
       let same : t + 0 ≡ t = omega arith in

@@ -46,7 +46,7 @@ record IsOne (b : Begun) (run : Run) : Type 0 where
   alone : AreAlone (first b)
   safe : Safe (shown_first 0) run
 
-abbrev begun_by : (opening : Opening) → CanOpen opening → Begun
+abbrev pub begun_by : (opening : Opening) → CanOpen opening → Begun
 begun_by opening can = record {
   scripts = opening.scripts;
   texts = opening.texts;

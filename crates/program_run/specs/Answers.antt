@@ -35,9 +35,9 @@ left_of report = record { status = report.status; history = report.history }
 
 -- how a call ends that was made with these words and runs scripts, or refuses the words, from one moment to a later one
 pub data Answers (means : Means) (words : List Word) (old new : Moment) (report : Report) : Type 0 where
-  -- the words are refused: the usage line
-  refused : built (plan_of words) ≡ None → report.plan ≡ None → report.history ≡ None
-      → Leaves (status_by refusal refusal) [] (usage_of words ++ 10 ∷ []) old new report.status
+  -- the words are refused: the usage line; no call of the tree was made, and its counts are as they were
+  refused : built (plan_of words) ≡ None → report.plan ≡ None → report.history ≡ None → new.faults ≡ old.faults
+      → new.lists ≡ old.lists → Leaves (status_by refusal refusal) [] (usage_of words ++ 10 ∷ []) old new report.status
       → Answers means words old new report
   -- a script is no file at a tree path, or too long: a line about the first
   unopened : (run : RunPlan) (line : List ℕ) → built (plan_of words) ≡ Some run

@@ -9,7 +9,7 @@ ghost use Rattle.program_run.specs.Runs.{Gives};
 ghost use Rattle.program_run.specs.Sinks.{at, moment, Passes};
 
 use crate::begin::{Begun, begin};
-use crate::finish::{Came, finish};
+use crate::finish::{Came, finish_run};
 use crate::outlet::Out;
 use crate::report::{Left, of_run, unbegun};
 use crate::scripts::Scripts;
@@ -98,6 +98,6 @@ pub fn run_alone<S: Scripts, T: Tree, O: Sink, K: Sink>(
     } = run_on_book(alloc, tree, it, plan.fuel, outlet);
     let flow = outlet.close(out);
     let results = [came];
-    let status = finish(alloc, err, plan.scripts.as_slice(), flow, &results);
+    let status = finish_run(alloc, err, plan.scripts.as_slice(), flow, &results);
     of_run(status, history)
 }

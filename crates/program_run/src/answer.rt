@@ -34,7 +34,7 @@ fn is_built(run: &RunPlan) -> bool
 }
 
 /// Writes the line about a refusal. Standard output gets nothing.
-fn tell<K: Sink>(
+pub fn tell<K: Sink>(
     err: &mut K,
     line: Result<Vec<u8>, NoMemory>,
     plan: Option<Plan>,
@@ -81,7 +81,7 @@ fn play<S: Scripts + Send, R: Threads + Wait + Sync, T: Grove, K: Sink + Send, G
 }
 
 /// A call of the tree failed before all scripts were read.
-fn unread<K: Sink>(alloc: Global, run: RunPlan, err: &mut K) -> Report
+pub fn unread<K: Sink>(alloc: Global, run: RunPlan, err: &mut K) -> Report
     ensures leaves { (old new : Moment) → new.out ≡ old.out
         → old.err ≡ at K.written K.faults err.old → new.err ≡ at K.written K.faults err.new
         → Leaves (status_by tree_fault sink_fault) [] (codes "pyimport: file fault" ++ 10 ∷ []) old new result.status }

@@ -30,7 +30,7 @@ fn one_round(alloc: Global, size: usize) -> Result<Seq<u32>, NoMemory>
 }
 
 /// The scripts of these texts.
-fn programs_of<S: Scripts>(alloc: Global, texts: &[Seq<u8>]) -> Result<Vec<S>, NoMemory>
+pub fn programs_of<S: Scripts>(alloc: Global, texts: &[Seq<u8>]) -> Result<Vec<S>, NoMemory>
     ensures { IfOk result (λ programs. Mean S.run S.means texts.now programs.items) }
 {
     let mut programs = Vec::new(alloc);

@@ -86,7 +86,7 @@ pub fn say_line<K: Sink>(sink: &mut K, line: Result<Vec<u8>, NoMemory>) -> Flow
 }
 
 /// Writes the lines about the ends of the scripts, and gives the status.
-pub fn finish<K: Sink>(
+pub fn finish_run<K: Sink>(
     alloc: Global,
     err: &mut K,
     scripts: &[Text],

@@ -17,12 +17,14 @@ mod status;
 mod together;
 
 pub use alone::run_alone;
-pub use answer::{call, plan_for};
-pub use finish::say_line;
+pub use answer::{call, plan_for, tell, unread};
+pub use begin::programs_of;
+pub use finish::{Came, finish_run, say_line};
 pub use laws::scripts_have_a_history;
-pub use open::{Opened, Unopened, open_all};
+pub use line::joined;
+pub use open::{Opened, Unopened, open_all, open_script, refused};
 pub use outlet::Out;
-pub use report::{Left, Report, with_plan, without_run};
+pub use report::{Left, Report, of_run, unbegun, with_plan, without_run};
 pub use run::run_scripts;
 pub use scripts::Scripts;
 pub use status::{

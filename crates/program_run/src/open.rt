@@ -50,7 +50,7 @@ fn open_path<T: Tree>(alloc: Global, tree: &mut T, path: &TreePath) -> Result<Op
 }
 
 /// Opens the script that a word names. Failed comes only where a call of the tree failed.
-fn open_script<T: Tree>(alloc: Global, tree: &mut T, word: &Text) -> Result<Opened, TreeFault>
+pub fn open_script<T: Tree>(alloc: Global, tree: &mut T, word: &Text) -> Result<Opened, TreeFault>
     ensures told { IfSome (T.files tree.old) (λ f. IfOk result (IsScript f word.now)) }
     ensures failed { IsErrOf result TreeFault.Failed → Rose (T.faults tree.old) (T.faults tree.new) }
     ensures files_stay { T.files tree.new ≡ T.files tree.old }
@@ -63,8 +63,8 @@ fn open_script<T: Tree>(alloc: Global, tree: &mut T, word: &Text) -> Result<Open
     }
 }
 
-/// A script is refused with the line about it.
-fn refused(line: Result<Vec<u8>, NoMemory>) -> Unopened
+/// What was to be opened is refused with the line about it.
+pub fn refused(line: Result<Vec<u8>, NoMemory>) -> Unopened
     ensures { (text : List ℕ) → IfOk line (λ it. it.items ≡ text) → IsLineOf (Some text) result }
 {
     match line {

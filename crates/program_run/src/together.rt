@@ -14,7 +14,7 @@ ghost use Rattle.program_run.specs.Statuses.{sink_fault, want_of_memory};
 ghost use Rattle.program_run.specs.Together.{RanTogether};
 
 use crate::begin::{Begun, begin};
-use crate::finish::{Came, finish};
+use crate::finish::{Came, finish_run};
 use crate::outlet::Out;
 use crate::report::{Left, of_run, unbegun};
 use crate::scripts::Scripts;
@@ -102,7 +102,7 @@ fn finish_some<K: Sink>(
     ensures faults_grow { K.faults err.old ≤ K.faults err.new }
 {
     match results {
-        Some(results) => finish(alloc, err, scripts, out, results.as_slice()),
+        Some(results) => finish_run(alloc, err, scripts, out, results.as_slice()),
         None => WANT_OF_MEMORY,
     }
 }

@@ -10,4 +10,4 @@ returns-in-Wait c = λ files whole fuel mine next a.
 
 pub returns-in_default : goal.returns-in_default
 returns-in_default c = λ files whole fuel mine next a.
-    c.pay.ensures files whole fuel mine next (owed c.args.purse.now c.args.reply.now c.reply_units.result next c.in_default.not-Wait c.reply_units.ensures a)
+    c.pay.ensures.moves files whole fuel mine next (owed c.args.purse.now c.args.reply.now c.reply_units.result next c.in_default.not-Wait c.reply_units.ensures a)

@@ -9,7 +9,7 @@ use Rattle.drive_loop.proofs.Looked.{at_looked, told_text, told_none, if_some}
 use Rattle.drive_loop.proofs.looks.load.Goals as goal
 
 pub returns-then-not-pay-clause-turned : goal.returns-then-not-pay-clause-turned
-returns-then-not-pay-clause-turned g c = λ mine. record { moves = λ whole fuel a. c.if-not-pay.ensures (g.T.Tree.files c.args.tree.now) whole fuel mine _ a; counts = tt }
+returns-then-not-pay-clause-turned g c = λ mine. record { moves = λ whole fuel a. c.if-not-pay.ensures.moves (g.T.Tree.files c.args.tree.now) whole fuel mine _ a; counts = tt }
 
 pub returns-in-Ok-clause-turned : goal.returns-in-Ok-clause-turned
 returns-in-Ok-clause-turned g c = IfOk-weaker c.feed.result _ _ (λ turn t. λ mine.
@@ -18,7 +18,7 @@ returns-in-Ok-clause-turned g c = IfOk-weaker c.feed.result _ _ (λ turn t. λ m
     let here = t files (g.T.Tree.faults c.args.tree.now) (g.T.Tree.faults c.load_text.new.tree) mine in
     record {
       moves = λ whole fuel a. here.moves whole fuel
-          (at_looked (TextOf path) (Some c.in-Ok.text) (λ text. feeds c.args.course.now c.args.procedure (given.Opened (Some text))) (told_text files path c.in-Ok.text c.in-Ok.ensures.loaded c.in-Ok.ensures.fits) (c.if-not-pay.ensures files whole fuel mine _ a));
+          (at_looked (TextOf path) (Some c.in-Ok.text) (λ text. feeds c.args.course.now c.args.procedure (given.Opened (Some text))) (told_text files path c.in-Ok.text c.in-Ok.ensures.loaded c.in-Ok.ensures.fits) (c.if-not-pay.ensures.moves files whole fuel mine _ a));
       counts = here.counts;
     }) c.feed.ensures.turned
 
@@ -30,7 +30,7 @@ returns-in-Err-TooLong-clause-turned g c = IfOk-weaker c.feed-in-Err-TooLong.res
     let here = t files (g.T.Tree.faults c.args.tree.now) (g.T.Tree.faults c.load_text.new.tree) mine in
     record {
       moves = λ whole fuel a. here.moves whole fuel
-          (at_looked (TextOf path) None (λ text. feeds c.args.course.now c.args.procedure (given.Opened (Some text))) (told_none files path longer) (c.if-not-pay.ensures files whole fuel mine _ a));
+          (at_looked (TextOf path) None (λ text. feeds c.args.course.now c.args.procedure (given.Opened (Some text))) (told_none files path longer) (c.if-not-pay.ensures.moves files whole fuel mine _ a));
       counts = here.counts;
     }) c.feed-in-Err-TooLong.ensures.turned
 
@@ -40,6 +40,6 @@ returns-in-Err-Tree-Failed-clause-turned g c = IfOk-weaker c.unread.result _ _ (
     let rose = rw (c.in-Err-Tree-Failed.field-0-is, c.in-Err-Tree-Failed.field-0-0-is) at c.in-Err-Tree-Failed.ensures.failed in
     let lost = u files (g.T.Tree.faults c.args.tree.now) (g.T.Tree.faults c.load_text.new.tree) _ (rose tt) mine in
     record {
-      moves = λ whole fuel a. lost.moves whole fuel (c.if-not-pay.ensures files whole fuel mine _ a);
+      moves = λ whole fuel a. lost.moves whole fuel (c.if-not-pay.ensures.moves files whole fuel mine _ a);
       counts = lost.counts;
     }) c.unread.ensures.looked

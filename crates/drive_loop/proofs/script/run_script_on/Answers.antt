@@ -4,9 +4,10 @@ use Rattle.machine_events.specs.declared.event.Event.TheVariants as ev
 use Rattle.machine_events.specs.declared.event.Reply.TheVariants.{Done}
 use Rattle.tree_files.specs.Files.{Files}
 use Rattle.machine_events.specs.declared.event.Outcome.TheVariants as o
-use Rattle.meaning_runs.specs.Runs.{Run, Stands, StandsIn, IsSpent, IsUnread}
+use Rattle.meaning_runs.specs.Runs.{Run, Stands, StandsIn, IsUnread}
 use Rattle.meaning_runs.proofs.Stand.{in_some}
 use Rattle.drive_port.proofs.Staying.{stays_trans}
+use Rattle.drive_account.specs.At.{IsShort}
 use Rattle.drive_account.specs.Ending.{GaveAll, Gave}
 use Rattle.drive_account.proofs.Giving.{lists_grow}
 use Rattle.meaning_script.specs.Meaning.{outcome_of}
@@ -72,9 +73,9 @@ spent-requires g c =
     let whole : Run = meaning sources c.args.script c.args.text in
     let files = g.T.Tree.files c.args.tree.now in
     let v = g.P.Port.view c.run.new.port in
-    let out : Overs files (g.T.Tree.faults c.args.tree.now) (g.T.Tree.faults c.run.new.tree) whole c.args.fuel v.mine over.Out =
+    let out : Overs files (g.T.Tree.faults c.args.tree.now) (g.T.Tree.faults c.run.new.tree) whole c.args.fuel v.mine (over.Out c.in-Out.of_tree) =
     subst (λ (o : Over). Overs files (g.T.Tree.faults c.args.tree.now) (g.T.Tree.faults c.run.new.tree) whole c.args.fuel v.mine o) c.in-Out.is c.in-Ok.ensures.over in
-    record { idle = spent_idle (g.P.Port.view c.args.port.now) v files c.args.script whole c.args.fuel c.run.new.course.held c.requires.begun c.run.ensures.stays c.requires.safe c.in-Ok.ensures.holds out }
+    record { idle = spent_idle (g.P.Port.view c.args.port.now) v files c.args.script whole c.args.fuel c.in-Out.of_tree c.run.new.course.held c.requires.begun c.run.ensures.stays c.requires.safe c.in-Ok.ensures.holds out }
 
 pub returns-in-Out-clause-stays : goal.returns-in-Out-clause-stays
 returns-in-Out-clause-stays g c = stays_trans _ _ _ c.run.ensures.stays c.spent.ensures.stays
@@ -88,12 +89,12 @@ returns-in-Out-clause-follows g c = λ told e.
     let files = g.T.Tree.files c.args.tree.now in
     let v = g.P.Port.view c.run.new.port in
     let mine' = (g.P.Port.view c.spent.new.port).mine in
-    let out : Overs files (g.T.Tree.faults c.args.tree.now) (g.T.Tree.faults c.run.new.tree) whole c.args.fuel v.mine over.Out =
+    let out : Overs files (g.T.Tree.faults c.args.tree.now) (g.T.Tree.faults c.run.new.tree) whole c.args.fuel v.mine (over.Out c.in-Out.of_tree) =
     subst (λ (o : Over). Overs files (g.T.Tree.faults c.args.tree.now) (g.T.Tree.faults c.run.new.tree) whole c.args.fuel v.mine o) c.in-Out.is c.in-Ok.ensures.over in
-    let here : IsSpent (Some told) whole c.args.fuel v.mine out.0 = subst (λ (o : Option Files). IsSpent o whole c.args.fuel v.mine out.0) e out.1 in
+    let here : IsShort (Some told) whole c.args.fuel v.mine out.0 c.in-Out.of_tree = subst (λ (o : Option Files). IsShort o whole c.args.fuel v.mine out.0 c.in-Out.of_tree) e out.1 in
     let number : v.number ≡ c.args.script = c.run.ensures.stays.number ∙ c.requires.begun.number in
     IfOk-weaker c.spent.result _ _ (λ ending ends. rw ends.0
-    (follows_out told c.args.script whole c.args.fuel out.0 v.mine mine' here (subst (λ (t : ℕ). GaveAll t v.mine mine' o.Fuel c.args.fuel) number ends.1) c.requires.safe)) c.spent.ensures.ends
+    (follows_out told c.args.script whole c.args.fuel out.0 c.in-Out.of_tree v.mine mine' here (subst (λ (t : ℕ). GaveAll t v.mine mine' o.Fuel c.args.fuel) number ends.1) c.requires.safe)) c.spent.ensures.ends
 
 pub returns-in-Out-clause-part : goal.returns-in-Out-clause-part
 returns-in-Out-clause-part g c = λ told e.
@@ -101,11 +102,11 @@ returns-in-Out-clause-part g c = λ told e.
     let files = g.T.Tree.files c.args.tree.now in
     let v = g.P.Port.view c.run.new.port in
     let mine' = (g.P.Port.view c.spent.new.port).mine in
-    let out : Overs files (g.T.Tree.faults c.args.tree.now) (g.T.Tree.faults c.run.new.tree) whole c.args.fuel v.mine over.Out =
+    let out : Overs files (g.T.Tree.faults c.args.tree.now) (g.T.Tree.faults c.run.new.tree) whole c.args.fuel v.mine (over.Out c.in-Out.of_tree) =
     subst (λ (o : Over). Overs files (g.T.Tree.faults c.args.tree.now) (g.T.Tree.faults c.run.new.tree) whole c.args.fuel v.mine o) c.in-Out.is c.in-Ok.ensures.over in
-    let here : IsSpent (Some told) whole c.args.fuel v.mine out.0 = subst (λ (o : Option Files). IsSpent o whole c.args.fuel v.mine out.0) e out.1 in
+    let here : IsShort (Some told) whole c.args.fuel v.mine out.0 c.in-Out.of_tree = subst (λ (o : Option Files). IsShort o whole c.args.fuel v.mine out.0 c.in-Out.of_tree) e out.1 in
     let number : v.number ≡ c.args.script = c.run.ensures.stays.number ∙ c.requires.begun.number in
-    on_err_then c.spent.result c.spent.ensures.part (λ gave. broken_out told c.args.script whole c.args.fuel out.0 v.mine mine' _ _ here (subst (λ (t : ℕ). Gave t v.mine mine') number gave))
+    on_err_then c.spent.result c.spent.ensures.part (λ gave. broken_out told c.args.script whole c.args.fuel out.0 c.in-Out.of_tree v.mine mine' _ _ here (subst (λ (t : ℕ). Gave t v.mine mine') number gave))
 
 pub returns-in-Out-clause-read : goal.returns-in-Out-clause-read
 returns-in-Out-clause-read g c = IfOk-weaker c.spent.result _ _ (λ ending other is. absurd (other is)) c.spent.ensures.read
@@ -192,10 +193,10 @@ returns-in-Out-clause-goes_on g c =
     let files = g.T.Tree.files c.args.tree.now in
     let v = g.P.Port.view c.run.new.port in
     let mine' = (g.P.Port.view c.spent.new.port).mine in
-    let out : Overs files (g.T.Tree.faults c.args.tree.now) (g.T.Tree.faults c.run.new.tree) whole c.args.fuel v.mine over.Out =
+    let out : Overs files (g.T.Tree.faults c.args.tree.now) (g.T.Tree.faults c.run.new.tree) whole c.args.fuel v.mine (over.Out c.in-Out.of_tree) =
     subst (λ (o : Over). Overs files (g.T.Tree.faults c.args.tree.now) (g.T.Tree.faults c.run.new.tree) whole c.args.fuel v.mine o) c.in-Out.is c.in-Ok.ensures.over in
     let number : v.number ≡ c.args.script = c.run.ensures.stays.number ∙ c.requires.begun.number in
-    on_err_then c.spent.result c.spent.ensures.part (λ gave. no_end_out c.args.script whole c.args.fuel out.0 v.mine mine' out.1 c.requires.safe (subst (λ (t : ℕ). Gave t v.mine mine') number gave))
+    on_err_then c.spent.result c.spent.ensures.part (λ gave. no_end_out c.args.script whole c.args.fuel out.0 c.in-Out.of_tree v.mine mine' out.1 c.requires.safe (subst (λ (t : ℕ). Gave t v.mine mine') number gave))
 
 pub returns-in-Out-clause-lists : goal.returns-in-Out-clause-lists
 returns-in-Out-clause-lists g c =

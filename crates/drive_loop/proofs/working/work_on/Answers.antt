@@ -36,7 +36,7 @@ pub returns-then-not-pay-clause-turned : goal.returns-then-not-pay-clause-turned
 returns-then-not-pay-clause-turned c =
     comes_to c.args.course.now.purse (remains c.args.course.now c.args.first) c.turns.course _ (wants.Pay c.in-Pay.of_tree c.in-Pay.units c.in-Pay.item) _
     (wanted _ _ c.turns.course c.turns.want _ c.in-Pay.is c.turns.invariant.moves)
-    (stepped_out c.turns.course.purse _ _ (λ files whole fuel mine a. c.if-not-pay.ensures files whole fuel mine _ a))
+    (stepped_out c.turns.course.purse _ _ (λ files whole fuel mine a. c.if-not-pay.ensures.moves files whole fuel mine _ a))
 
 pub returns-then-not-pay_reply-clause-turned : goal.returns-then-not-pay_reply-clause-turned
 returns-then-not-pay_reply-clause-turned c =
@@ -59,7 +59,7 @@ turns-preserved c =
       | in-Both+in-Err w ↦ subst (λ (r : Result Want NoMemory). Leads purse run c.match-want.course r) (sym w.next-is) tt
       | in-Pay+else-not-pay w ↦
           leads_begun purse run (record { purse = w.pay.new.self; held = course.held; thread = course.thread; work = course.work }) _ w.in-Pay.item w.begin-next-in-Pay.new.thread _ _
-          (moves_paid purse run course w.pay.new.self w.in-Pay.of_tree w.in-Pay.units w.in-Pay.item (wanted purse run course _ _ w.in-Pay.is came) w.if-not-pay.ensures) w.course-is w.next-is w.begin-next-in-Pay.ensures
+          (moves_paid purse run course w.pay.new.self w.in-Pay.of_tree w.in-Pay.units w.in-Pay.item (wanted purse run course _ _ w.in-Pay.is came) w.if-not-pay.ensures.moves) w.course-is w.next-is w.begin-next-in-Pay.ensures
       | in-Replied+else-not-pay_reply w ↦
           leads_replied purse run course _ w.pay_reply.new.purse w.in-Replied.on w.in-Replied.reply w.replied-next.new.thread _ _
           (wanted purse run course _ _ w.in-Replied.is came) w.if-not-pay_reply.ensures w.course-is w.next-is w.replied-next.ensures

@@ -11,7 +11,7 @@ call-requires-clause-knows g c = (c.requires.runs, tt)
 
 pub returns-then-not-pay-clause-given : goal.returns-then-not-pay-clause-given
 returns-then-not-pay-clause-given g c = record {
-  moves = λ files go k whole fuel a. c.if-not-pay.ensures files whole fuel _ _ a;
+  moves = λ files go k whole fuel a. c.if-not-pay.ensures.moves files whole fuel _ _ a;
   safe = λ go k h. tt;
   fits = tt;
   counts = λ old new. tt;
@@ -27,7 +27,7 @@ returns-in-Ok-clause-given g c =
     let new = g.P.Port.view c.call.new.self in
     let event = e.DirGet c.args.dir c.args.part in
     record {
-      moves = λ files go k whole fuel a. c.listed.ensures.moves files go k whole fuel new.mine (at_made old.mine new.mine c.pay.new.self event c.in-Ok.reply _ c.in-Ok.ensures.ok.mine (c.if-not-pay.ensures files whole fuel _ _ a));
+      moves = λ files go k whole fuel a. c.listed.ensures.moves files go k whole fuel new.mine (at_made old.mine new.mine c.pay.new.self event c.in-Ok.reply _ c.in-Ok.ensures.ok.mine (c.if-not-pay.ensures.moves files whole fuel _ _ a));
       safe = λ go k h. c.listed.ensures.safe _ go k (safe_made old.number old.mine new.mine event c.in-Ok.reply _ c.in-Ok.ensures.ok.mine h.1);
       fits = c.listed.ensures.fits;
       counts = c.listed.ensures.counts;
@@ -43,4 +43,4 @@ returns-in-Err-clause-part g c = λ files go k whole fuel a. in_at (g.P.Port.vie
 pub returns-in-Err-clause-refused : goal.returns-in-Err-clause-refused
 returns-in-Err-clause-refused g c = λ is files go k whole fuel a.
     let same : c.in-Err.halt ≡ Refused = cc in
-    refused_here (g.P.Port.view c.call.new.self) files whole fuel (g.P.Port.view c.args.port.now).mine c.pay.new.self (e.DirGet c.args.dir c.args.part) _ (c.in-Err.ensures.refused (ap Err same)) c.in-Err.ensures.err (c.if-not-pay.ensures files whole fuel _ _ a)
+    refused_here (g.P.Port.view c.call.new.self) files whole fuel (g.P.Port.view c.args.port.now).mine c.pay.new.self (e.DirGet c.args.dir c.args.part) _ (c.in-Err.ensures.refused (ap Err same)) c.in-Err.ensures.err (c.if-not-pay.ensures.moves files whole fuel _ _ a)

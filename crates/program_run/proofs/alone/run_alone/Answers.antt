@@ -19,13 +19,13 @@ returns-clause-run g c =
     let is = c.in-Ok.ensures in
     let tree = g.T.Tree.files c.args.tree.now in
     let old : Moment = moment g.T.Tree.files g.T.Tree.faults g.T.Tree.lists c.args.tree.now (at g.O.Sink.written g.O.Sink.faults c.args.out.now) (at g.K.Sink.written g.K.Sink.faults c.args.err.now) in
-    let new : Moment = moment g.T.Tree.files g.T.Tree.faults g.T.Tree.lists c.run_on_book-history.new.tree (at g.O.Sink.written g.O.Sink.faults c.close-flow.new.sink) (at g.K.Sink.written g.K.Sink.faults c.finish-status.new.err) in
+    let new : Moment = moment g.T.Tree.files g.T.Tree.faults g.T.Tree.lists c.run_on_book-history.new.tree (at g.O.Sink.written g.O.Sink.faults c.close-flow.new.sink) (at g.K.Sink.written g.K.Sink.faults c.finish_run-status.new.err) in
     let left = c.run_on_book-history.result in
     let ran = c.run_on_book-history.ensures in
-    let status = c.finish-status.result in
+    let status = c.finish_run-status.result in
     let ended = ended_one run means c.args.texts it.programs.items tree plan.fuel _ _ left.history left.came c.requires.text is.programs ran.ran in
     let leaves = leaves_of old new _ _ plan.trace c.as_slice.result.now plan.scripts left.history status c.close-flow.result c.open-outlet.ensures.trace c.open-outlet.ensures.gets ran.kept c.close-flow.ensures.written c.close-flow.ensures.faults
-    c.close-flow.ensures.flow c.as_slice.ensures (c.finish-status.ensures.leaves left.history ended) in
+    c.close-flow.ensures.flow c.as_slice.ensures (c.finish_run-status.ensures.leaves left.history ended) in
     subst (λ (r : Left). Gives means plan c.args.texts old new r) (sym c.of_run.ensures)
     (has_run means g.met.S.Scripts.safe plan c.args.texts old new left.history status c.requires.script c.requires.text it.opening is.can_open is.rounds is.opening ran.legal leaves run it.programs.items left.came is.programs ran.ran
-    c.finish-status.ensures.short)
+    c.finish_run-status.ensures.short)

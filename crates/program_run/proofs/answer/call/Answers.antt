@@ -14,4 +14,4 @@ returns-in-Some-clause-answers g c =
 
 pub returns-in-None-clause-answers : goal.returns-in-None-clause-answers
 returns-in-None-clause-answers g c =
-    Answers.refused (ap built (sym c.requires.plan) ∙ (sym c.built.ensures ∙ c.in-None.is)) c.refused.ensures.plan c.refused.ensures.history (c.refused.ensures.leaves _ _ refl refl refl)
+    Answers.refused (ap built (sym c.requires.plan) ∙ (sym c.built.ensures ∙ c.in-None.is)) c.refused.ensures.plan c.refused.ensures.history refl refl (c.refused.ensures.leaves _ _ refl refl refl)

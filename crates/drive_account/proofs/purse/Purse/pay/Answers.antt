@@ -1,9 +1,7 @@
 use Rattle.std.proofs.Common.{arith}
-use Rattle.meaning_runs.proofs.Stand.{stands_paid}
+use Rattle.drive_account.proofs.Paying.{at_paid}
 use Rattle.drive_account.proofs.purse.Purse.pay.Goals as goal
 
-pub returns : goal.returns
-returns c = λ files whole fuel mine next a. record {
-  stands = stands_paid (omega (arith, c.if-self-units.false)) a.stands;
-  unread = c.read_of-self.ensures files whole fuel mine next a.stands;
-}
+pub returns-clause-moves : goal.returns-clause-moves
+returns-clause-moves c = λ files whole fuel mine next a.
+    at_paid c.args.self.now c.take.new.self c.args.units c.args.of_tree next (omega (arith, c.if-self-units.false)) c.take.ensures.left c.take.ensures.told a

@@ -2,7 +2,7 @@ use Rattle.std.proofs.Common.{◌∙◌, ℕ, ap}
 use Rattle.program_run.specs.Statuses.{sink_fault}
 use Rattle.program_run.specs.Sinks.{at, status_by}
 use Rattle.program_run.proofs.Finishing.{said_of}
-use Rattle.program_run.proofs.finish.finish.Goals as goal
+use Rattle.program_run.proofs.finish.finish_run.Goals as goal
 
 pub returns-clause-leaves : goal.returns-clause-leaves
 returns-clause-leaves g c =
