@@ -1,0 +1,105 @@
+-- Where a path leads, in told files.
+use Rattle.std.proofs.Common.{◌≡◌, ◌∙◌, refl, sym, ap, subst, ℕ, ◌+◌, ◌-◌, ◌≤◌, ◌<◌, zero, suc, List, [], ◌∷◌, ◌++◌, length, take, drop, get_or, Bool, true, false, cond, Option, Some, None, IfSome, MatchOption, IsTrue, is_some, arith, if◌then◌else◌}
+use Rattle.std.proofs.lemmas.List.{take-append-drop}
+use Rattle.std.proofs.Math.Seq.{take-append_seam}
+use Rattle.std.specs.Option.{ForSome, option_and_then, option_map}
+use Rattle.base_types.specs.Path.{Path}
+use Rattle.tree_files.specs.Files.{Files, IsTree, is_dir, node_at, stamp_of, bytes_of}
+use Rattle.tree_files.specs.declared.tree.Node.{Node}
+use Rattle.tree_files.specs.declared.tree.Node.TheVariants.{File, Dir}
+use Rattle.tree_files.specs.declared.tree.Stamp.{Stamp}
+use Rattle.tree_files.specs.declared.tree.Stamp.TheVariants as stamp
+use Rattle.bundle_hook.specs.declared.bundle.Packed.{Packed}
+use Rattle.bundle_hook.specs.declared.bundle.Index.{Index}
+use Rattle.bundle_hook.specs.Bundle.{entries_of, index_of}
+use Rattle.bundle_hook.specs.Files.{files_in, index_in}
+use Rattle.tree_bundles.specs.declared.kept.Kept.{Kept}
+use Rattle.tree_bundles.specs.Expand.{is_bundle_name, names_bundle, bundle_in, bundle_at, expand}
+use Rattle.tree_bundles.specs.Indexes.{index_at, IsKeptAt, HasNoBundle}
+use Rattle.tree_bundles.proofs.Expanding.{above_is_dir, node_at-outside}
+
+-- the last of the first parts decides the name
+pub named_by_last : (path : Path) (n : ℕ) (d : List ℕ) → n < length path → names_bundle (take (n + 1) path) ≡ is_bundle_name (get_or path n d)
+named_by_last [] n d low = absurd (omega arith)
+named_by_last (x ∷ []) zero d low = refl
+named_by_last (x ∷ []) (suc n) d low = absurd (omega arith)
+named_by_last (x ∷ y ∷ path) zero d low = refl
+named_by_last (x ∷ y ∷ path) (suc n) d low = longer (take (n + 1) (y ∷ path)) (some n) ∙ named_by_last (y ∷ path) n d (omega arith)
+  where
+    longer : (rest : Path) → 0 < length rest → names_bundle (x ∷ rest) ≡ names_bundle rest
+    longer [] l = absurd (omega arith)
+    longer (z ∷ rest) l = refl
+
+    some : (m : ℕ) → 0 < length (take (m + 1) (y ∷ path))
+    some zero = omega arith
+    some (suc m) = omega arith
+
+-- what is no file is no bundle
+pub no_file_no_bundle : (q : Path) (n : Option Node) → ((size : ℕ) → stamp_of n ≡ stamp.File size → ⊥) → bundle_in q n ≡ None
+no_file_no_bundle q None h = refl
+no_file_no_bundle q (Some (Dir time)) h = refl
+no_file_no_bundle q (Some (File bytes)) h = absurd (h (length bytes) refl)
+
+pub no_name_no_bundle : (q : Path) (n : Option Node) → names_bundle q ≡ false → bundle_in q n ≡ None
+no_name_no_bundle q None h = refl
+no_name_no_bundle q (Some (Dir time)) h = refl
+no_name_no_bundle q (Some (File bytes)) h = ap (λ b. if b then files_in bytes else None) h
+
+-- a file with a bundle's name is what its bytes say
+file_bundle : (q : Path) (n : Option Node) (size : ℕ) → names_bundle q ≡ true → stamp_of n ≡ stamp.File size → bundle_in q n ≡ files_in (bytes_of n)
+file_bundle q None size named is = cc
+file_bundle q (Some (Dir time)) size named is = cc
+file_bundle q (Some (File bytes)) size named is = ap (λ b. if b then files_in bytes else None) named
+
+kept_by : (f : Files) (kept : List Kept) (at : ℕ) (q : Path) (o : Option (List Packed)) → bundle_at f q ≡ o → index_at kept at ≡ option_map (λ files. index_of (entries_of files)) o → (i : Option Index) → index_at kept at ≡ i
+    → MatchOption i (bundle_at f q ≡ None) (λ _. IsKeptAt f kept at q)
+kept_by f kept at q None b is None e = b
+kept_by f kept at q None b is (Some i) e = let bad : ◌≡◌ {A = Option Index} (Some i) None = sym e ∙ is in cc
+kept_by f kept at q (Some files) b is None e = let bad : ◌≡◌ {A = Option Index} None (Some (index_of (entries_of files))) = sym e ∙ is in cc
+kept_by f kept at q (Some files) b is (Some i) e = (files, b, is)
+
+-- what the index of a file with a bundle's name says of the place
+pub kept_is : (f : Files) (kept : List Kept) (at : ℕ) (q : Path) (size : ℕ) (i : Option Index) → names_bundle q ≡ true → stamp.File size ≡ stamp_of (node_at f q) → index_at kept at ≡ index_in (bytes_of (node_at f q)) → index_at kept at ≡ i
+    → MatchOption i (bundle_at f q ≡ None) (λ _. IsKeptAt f kept at q)
+kept_is f kept at q size i named is index e =
+    kept_by f kept at q (files_in (bytes_of (node_at f q))) (file_bundle q (node_at f q) size named (sym is)) index i e
+
+same_parts : (p q r : Path) → p ≡ q ++ r → take (length q) p ≡ q
+same_parts p q r e = ap (take (length q)) e ∙ take-append_seam q r
+
+longer_than : (p q r : Path) → p ≡ q ++ r → length q < length p + 1
+longer_than p q r e = let l : length p ≡ length (q ++ r) = ap length e in let m = length-append' q r in omega (arith, l, m)
+  where
+    length-append' : (a b : Path) → length (a ++ b) ≡ length a + length b
+    length-append' [] b = refl
+    length-append' (x ∷ a) b = ap suc (length-append' a b)
+
+-- a path none of whose first parts lead to a bundle has what stands there
+pub outside_told : (f : Files) (p : Path) → HasNoBundle f p (length p + 1) → node_at (expand f) p ≡ node_at f p
+outside_told f p none = node_at-outside f p (λ q r e. ap (bundle_at f) (sym (same_parts p q r e)) ∙ none (length q) (longer_than p q r e))
+
+-- no bundle stands above a directory, or there
+pub outside_dir : (f : Files) → IsTree f → (p : Path) (time : ℕ) → stamp.Dir time ≡ stamp_of (node_at f p) → node_at (expand f) p ≡ node_at f p
+outside_dir f t p time is = node_at-outside f p none
+  where
+    dir_stamp : (n : Option Node) → stamp.Dir time ≡ stamp_of n → is_dir n ≡ true
+    dir_stamp None e = cc
+    dir_stamp (Some (File bytes)) e = cc
+    dir_stamp (Some (Dir t)) e = refl
+
+    there : (n : Option Node) → is_dir n ≡ true → is_some n ≡ true
+    there None e = cc
+    there (Some x) e = refl
+
+    dir_alone : (q : Path) (n : Option Node) → is_dir n ≡ true → bundle_in q n ≡ None
+    dir_alone q None e = refl
+    dir_alone q (Some (Dir t)) e = refl
+    dir_alone q (Some (File bytes)) e = cc
+
+    nil : (a : Path) → a ++ [] ≡ a
+    nil [] = refl
+    nil (y ∷ a) = ap (λ l. y ∷ l) (nil a)
+
+    none : (q r : Path) → p ≡ q ++ r → bundle_at f q ≡ None
+    none q [] e = dir_alone q (node_at f q) (ap (λ x. is_dir (node_at f x)) (sym (e ∙ nil q)) ∙ dir_stamp (node_at f p) is)
+    none q (x ∷ r) e = dir_alone q (node_at f q) (above_is_dir f t q x r (ap (λ y. is_some (node_at f y)) (sym e) ∙ there (node_at f p) (dir_stamp (node_at f p) is)))
