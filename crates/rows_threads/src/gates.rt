@@ -77,3 +77,32 @@ impl Gate for Until<'_> {
         }
     }
 }
+
+// What is written before any event of a run that is traced: the first line of the trace.
+const WRITES_BEFORE_EVENTS: u64 = 1;
+
+/// Holds each thread before its first event until every thread has come to its own, and notes where an
+/// event was written before.
+#[derive(Drop)]
+pub struct First<'a> {
+    pub threads: u64,
+    pub written: &'a Flag,
+    pub came: Flag,
+    pub late: Flag,
+    pub gave_up: Flag,
+}
+
+impl Gate for First<'_> {
+    fn before(&self, _script: u32, event: u64) {
+        if event > 0 {
+            return;
+        }
+        if self.written.raised() > WRITES_BEFORE_EVENTS {
+            self.late.raise();
+        }
+        self.came.raise();
+        if !self.came.comes_to(self.threads) {
+            self.gave_up.raise();
+        }
+    }
+}

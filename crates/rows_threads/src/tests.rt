@@ -1,5 +1,5 @@
 //! Whole calls whose threads pass a gate.
-use crate::gates::{Flag, Pace, Until};
+use crate::gates::{First, Flag, Pace, Until};
 use crate::sinks::Flagged;
 use crate::stopped::stops;
 use base_types::{Text, TreePath};
@@ -18,9 +18,9 @@ fn put(alloc: Global, tree: &mut MemTree, path: &str, bytes: &[u8]) -> Result<()
     Ok(())
 }
 
-fn words(alloc: Global) -> Result<Vec<String>, Fail> {
+fn words(alloc: Global, line: &str) -> Result<Vec<String>, Fail> {
     let mut all = Vec::new(alloc);
-    for word in "run s0.py s1.py".split(' ') {
+    for word in line.split(' ') {
         all.push(String::from_str(alloc, word)?)?;
     }
     Ok(all)
@@ -47,7 +47,7 @@ fn printing(alloc: Global) -> Result<MemTree, Fail> {
 // Whether both scripts end well where each is held before this event until the other has come to it.
 fn keep_pace<R: Threads + Wait + Sync>(rt: &R, alloc: Global, at: u64) -> Result<bool, Fail> {
     let mut tree = importing(alloc)?;
-    let words = words(alloc)?;
+    let words = words(alloc, "run s0.py s1.py")?;
     let gate = Pace {
         at,
         threads: 2,
@@ -76,7 +76,7 @@ fn goes_out_to<'x, R: Threads + Wait + Sync>(
     quiet: &'x Flag,
 ) -> Result<bool, Fail> {
     let mut tree = printing(alloc)?;
-    let words = words(alloc)?;
+    let words = words(alloc, "run s0.py s1.py")?;
     let gate = Until {
         at: 2,
         flag,
@@ -103,6 +103,48 @@ fn goes_out<R: Threads + Wait + Sync>(rt: &R, alloc: Global) -> Result<bool, Fai
     goes_out_to(rt, alloc, &flag, &quiet)
 }
 
+// Whether each script passes the gate before its first event: both are held there until the other one
+// has come to it, and by then the trace has its first line alone.
+fn comes_first_to<'x, R: Threads + Wait + Sync>(
+    rt: &R,
+    alloc: Global,
+    written: &'x Flag,
+    quiet: &'x Flag,
+) -> Result<bool, Fail> {
+    let mut tree = printing(alloc)?;
+    let words = words(alloc, "run --trace s0.py s1.py")?;
+    let gate = First {
+        threads: 2,
+        written,
+        came: Flag::new(),
+        late: Flag::new(),
+        gave_up: Flag::new(),
+    };
+    let mut out = Flagged { flag: written };
+    let mut err = Flagged { flag: quiet };
+    let report = pyimport(
+        rt,
+        alloc,
+        words.as_slice(),
+        &mut tree,
+        &mut out,
+        &mut err,
+        &gate,
+    );
+    Ok(
+        report.status == 0
+            && gate.came.raised() == 2
+            && gate.late.raised() == 0
+            && gate.gave_up.raised() == 0,
+    )
+}
+
+fn comes_first<R: Threads + Wait + Sync>(rt: &R, alloc: Global) -> Result<bool, Fail> {
+    let written = Flag::new();
+    let quiet = Flag::new();
+    comes_first_to(rt, alloc, &written, &quiet)
+}
+
 // No script goes from one event to the next alone: a body that runs one to its end first, or keeps the
 // turn between two events, holds the other back until the gate gives up.
 #[test]
@@ -116,6 +158,13 @@ fn two_scripts_keep_pace(rt: HostRuntime) -> Result<(), Fail> {
 #[test]
 fn what_is_printed_goes_out_at_once(rt: HostRuntime) -> Result<(), Fail> {
     assert!(rt; goes_out(&rt, rt.alloc())?);
+    Ok(())
+}
+
+// A body that calls the gate behind an event has written that event by then.
+#[test]
+fn the_gate_is_passed_before_an_event(rt: HostRuntime) -> Result<(), Fail> {
+    assert!(rt; comes_first(&rt, rt.alloc())?);
     Ok(())
 }
 
