@@ -2,4 +2,6 @@ pub mod Lookups
 pub mod Expanding
 pub mod Inner
 pub mod Fronts
-pub mod Kinds
+pub mod Leading
+pub mod Trees
+pub mod Told

@@ -1,5 +1,5 @@
 -- The indexes that are kept of a tree's bundles.
-use Rattle.std.specs.Prelude.{◌≡◌, ◌≤◌, ◌<◌, ℕ, List, length, take, drop, slice_get, Option, Some, None, MatchOption}
+use Rattle.std.specs.Prelude.{◌≡◌, ◌≤◌, ◌<◌, ◌^◌, ℕ, List, length, take, drop, slice_get, Option, Some, None, MatchOption}
 use Rattle.std.specs.Option.{ForSome, option_and_then}
 use Rattle.std.specs.List.{All}
 use Rattle.base_types.specs.Path.{Path}
@@ -24,9 +24,9 @@ AreRight told kept = ForSome told (λ f. All (IsRight f) kept)
 abbrev pub index_at : List Kept → ℕ → Option Index
 index_at kept at = option_and_then (λ (k : Kept). k.index) (slice_get kept at)
 
--- a bundle stands at the path, whose index is at this place
+-- a bundle stands at the path, whose index is at this place; its size was told, so that it is a u64
 abbrev pub IsKeptAt : Files → List Kept → ℕ → Path → Type 0
-IsKeptAt f kept at path = (files : List Packed) × (bundle_at f path ≡ Some files) × (index_at kept at ≡ Some (index_of (entries_of files)))
+IsKeptAt f kept at path = (files : List Packed) × (bundle_at f path ≡ Some files) × (index_at kept at ≡ Some (index_of (entries_of files))) × (length (bytes_of (node_at f path)) < 2 ^ 64)
 
 -- no bundle stands at one of the first parts of the path
 abbrev pub HasNoBundle : Files → Path → ℕ → Type 0

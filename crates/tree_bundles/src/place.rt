@@ -5,7 +5,7 @@ ghost use Rattle.tree_files.specs.Count.{Rose};
 ghost use Rattle.tree_files.specs.Files.{IsTree, node_at};
 ghost use Rattle.tree_bundles.specs.Expand.{is_bundle_name, names_bundle, bundle_at};
 ghost use Rattle.tree_bundles.specs.Indexes.{AreRight, IsKeptAt, HasNoBundle};
-ghost use Rattle.tree_bundles.specs.Places.{Leads};
+ghost use Rattle.tree_bundles.specs.Places.{Leads, IsAlong};
 
 use crate::indexes::{index_at, kept_at};
 use crate::kept::Kept;
@@ -101,6 +101,7 @@ fn bundle_on<T: Tree>(
 ) -> Result<Option<Found>, TreeFault>
     requires right { AreRight (T.files tree.old) kept.old }
     ensures right { AreRight (T.files tree.old) kept.new }
+    ensures along { IfOk result (λ o. IfSome o (λ found. found.parts ≤ length path.now)) }
     ensures told { IfOk result (λ o. IfSome (T.files tree.old) (λ f. MatchOption o
         (HasNoBundle f path.now (length path.now + 1))
         (λ found. (found.parts ≤ length path.now) × IsKeptAt f kept.new found.at (take found.parts path.now)))) }
@@ -128,6 +129,7 @@ pub fn place_of<T: Tree>(
 ) -> Result<Place, TreeFault>
     requires right { AreRight (T.files tree.old) kept.old }
     ensures right { AreRight (T.files tree.old) kept.new }
+    ensures along { IfOk result (IsAlong path.now) }
     ensures told { IfOk result (λ place. IfSome (T.files tree.old) (λ f. Leads f kept.new path.now place)) }
     ensures is_tree { IfSome (T.files tree.old) IsTree }
     ensures failed { IsErrOf result TreeFault.Failed → Rose (T.faults tree.old) (T.faults tree.new) }

@@ -1,6 +1,6 @@
 -- Where a path leads, in told files.
-use Rattle.std.proofs.Common.{◌≡◌, ◌∙◌, refl, sym, ap, subst, ℕ, ◌+◌, ◌-◌, ◌≤◌, ◌<◌, zero, suc, List, [], ◌∷◌, ◌++◌, length, take, drop, get_or, Bool, true, false, cond, Option, Some, None, IfSome, MatchOption, IsTrue, is_some, arith, if◌then◌else◌}
-use Rattle.std.proofs.lemmas.List.{take-append-drop}
+use Rattle.std.proofs.Common.{◌≡◌, ◌∙◌, refl, sym, ap, subst, ℕ, ◌+◌, ◌-◌, ◌≤◌, ◌<◌, zero, suc, List, [], ◌∷◌, ◌++◌, length, take, drop, get_or, Bool, true, false, cond, Option, Some, None, IfSome, MatchOption, IsTrue, is_some, arith, ltb, if◌then◌else◌, length-take, length-append}
+use Rattle.std.proofs.lemmas.Bool.{ltb-true, ltb-false}
 use Rattle.std.proofs.Math.Seq.{take-append_seam}
 use Rattle.std.specs.Option.{ForSome, option_and_then, option_map}
 use Rattle.base_types.specs.Path.{Path}
@@ -15,6 +15,8 @@ use Rattle.bundle_hook.specs.Bundle.{entries_of, index_of}
 use Rattle.bundle_hook.specs.Files.{files_in, index_in}
 use Rattle.tree_bundles.specs.declared.kept.Kept.{Kept}
 use Rattle.tree_bundles.specs.Expand.{is_bundle_name, names_bundle, bundle_in, bundle_at, expand}
+use Rattle.tree_bundles.specs.declared.place.Place.TheVariants.{Outside, Inside}
+use Rattle.tree_bundles.specs.Places.{Leads}
 use Rattle.tree_bundles.specs.Indexes.{index_at, IsKeptAt, HasNoBundle}
 use Rattle.tree_bundles.proofs.Expanding.{above_is_dir, node_at-outside}
 
@@ -31,8 +33,7 @@ named_by_last (x ∷ y ∷ path) (suc n) d low = longer (take (n + 1) (y ∷ pat
     longer (z ∷ rest) l = refl
 
     some : (m : ℕ) → 0 < length (take (m + 1) (y ∷ path))
-    some zero = omega arith
-    some (suc m) = omega arith
+    some m = let l = length-take (m + 1) (y ∷ path) in omega (arith, l)
 
 -- what is no file is no bundle
 pub no_file_no_bundle : (q : Path) (n : Option Node) → ((size : ℕ) → stamp_of n ≡ stamp.File size → ⊥) → bundle_in q n ≡ None
@@ -68,11 +69,7 @@ same_parts : (p q r : Path) → p ≡ q ++ r → take (length q) p ≡ q
 same_parts p q r e = ap (take (length q)) e ∙ take-append_seam q r
 
 longer_than : (p q r : Path) → p ≡ q ++ r → length q < length p + 1
-longer_than p q r e = let l : length p ≡ length (q ++ r) = ap length e in let m = length-append' q r in omega (arith, l, m)
-  where
-    length-append' : (a b : Path) → length (a ++ b) ≡ length a + length b
-    length-append' [] b = refl
-    length-append' (x ∷ a) b = ap suc (length-append' a b)
+longer_than p q r e = let l : length p ≡ length (q ++ r) = ap length e in let m = length-append q r in omega (arith, l, m)
 
 -- a path none of whose first parts lead to a bundle has what stands there
 pub outside_told : (f : Files) (p : Path) → HasNoBundle f p (length p + 1) → node_at (expand f) p ≡ node_at f p
@@ -103,3 +100,45 @@ outside_dir f t p time is = node_at-outside f p none
     none : (q r : Path) → p ≡ q ++ r → bundle_at f q ≡ None
     none q [] e = dir_alone q (node_at f q) (ap (λ x. is_dir (node_at f x)) (sym (e ∙ nil q)) ∙ dir_stamp (node_at f p) is)
     none q (x ∷ r) e = dir_alone q (node_at f q) (above_is_dir f t q x r (ap (λ y. is_some (node_at f y)) (sym e) ∙ there (node_at f p) (dir_stamp (node_at f p) is)))
+
+-- the part before the place decides
+pub named_by_part : (path : Path) (parts : ℕ) (d : List ℕ) → 0 < parts → parts ≤ length path → names_bundle (take parts path) ≡ is_bundle_name (get_or path (parts - 1) d)
+named_by_part path zero d low high = absurd (omega arith)
+named_by_part path (suc n) d low high =
+    let one : suc n ≡ n + 1 = omega arith in
+    let back : n ≡ suc n - 1 = omega arith in
+    ap (λ k. names_bundle (take k path)) one ∙ named_by_last path n d (omega arith) ∙ ap (λ k. is_bundle_name (get_or path k d)) back
+
+pub no_name_told : (told : Option Files) (path : Path) (parts : ℕ) → names_bundle (take parts path) ≡ false → IfSome told (λ f. bundle_at f (take parts path) ≡ None)
+no_name_told None path parts no_name = tt
+no_name_told (Some f) path parts no_name = no_name_no_bundle (take parts path) (node_at f (take parts path)) no_name
+
+-- the root has no name, so it is no bundle
+pub root_none : (told : Option Files) (path : Path) → IfSome told (λ f. HasNoBundle f path 1)
+root_none None path = tt
+root_none (Some f) path = λ m low. at_root m low
+  where
+    at_root : (m : ℕ) → m < 1 → bundle_at f (take m path) ≡ None
+    at_root zero low = no_name_no_bundle [] (node_at f []) refl
+    at_root (suc m) low = absurd (omega arith)
+
+-- one more of the first parts
+pub one_more : (told : Option Files) (path : Path) (n : ℕ) → IfSome told (λ f. HasNoBundle f path (n + 1)) → IfSome told (λ f. bundle_at f (take (n + 1) path) ≡ None) → IfSome told (λ f. HasNoBundle f path (n + 1 + 1))
+one_more None path n before here = tt
+one_more (Some f) path n before here = λ m low. by m low (ltb m (n + 1)) refl
+  where
+    by : (m : ℕ) → m < n + 1 + 1 → (b : Bool) → ltb m (n + 1) ≡ b → bundle_at f (take m path) ≡ None
+    by m low true is = before m (ltb-true m (n + 1) is)
+    by m low false is =
+        let high = ltb-false m (n + 1) is in
+        let same : n + 1 ≡ m = omega (arith, low, high) in
+        ap (λ k. bundle_at f (take k path)) (sym same) ∙ here
+
+-- what is asked of the path itself leads past all bundles where it is a directory
+pub dir_leads : (told : Option Files) (kept : List Kept) (p : Path) (time : ℕ) (s : Stamp) → IfSome told IsTree → IfSome told (λ f. s ≡ stamp_of (node_at f p)) → s ≡ stamp.Dir time → IfSome told (λ f. Leads f kept p (Outside s))
+dir_leads None kept p time s tree is dir = tt
+dir_leads (Some f) kept p time s tree is dir = (outside_dir f tree p time (sym dir ∙ is), is)
+
+pub none_leads : (told : Option Files) (kept : List Kept) (p : Path) (s : Stamp) → IfSome told (λ f. HasNoBundle f p (length p + 1)) → IfSome told (λ f. s ≡ stamp_of (node_at f p)) → IfSome told (λ f. Leads f kept p (Outside s))
+none_leads None kept p s none is = tt
+none_leads (Some f) kept p s none is = (outside_told f p none, is)
