@@ -15,6 +15,7 @@ use Rattle.bundle_hook.specs.Bundle.{entries_of, index_of}
 use Rattle.bundle_hook.specs.Files.{files_in, index_in}
 use Rattle.tree_bundles.specs.declared.kept.Kept.{Kept}
 use Rattle.tree_bundles.specs.Expand.{is_bundle_name, names_bundle, bundle_in, bundle_at, expand}
+use Rattle.tree_bundles.specs.declared.place.Found.{Found}
 use Rattle.tree_bundles.specs.declared.place.Place.TheVariants.{Outside, Inside}
 use Rattle.tree_bundles.specs.Places.{Leads}
 use Rattle.tree_bundles.specs.Indexes.{index_at, IsKeptAt, HasNoBundle}
@@ -26,7 +27,9 @@ named_by_last [] n d low = absurd (omega arith)
 named_by_last (x ∷ []) zero d low = refl
 named_by_last (x ∷ []) (suc n) d low = absurd (omega arith)
 named_by_last (x ∷ y ∷ path) zero d low = refl
-named_by_last (x ∷ y ∷ path) (suc n) d low = longer (take (n + 1) (y ∷ path)) (some n) ∙ named_by_last (y ∷ path) n d (omega arith)
+named_by_last (x ∷ y ∷ path) (suc n) d low =
+    let one : suc n + 1 ≡ suc (n + 1) = omega arith in
+    ap (λ k. names_bundle (take k (x ∷ y ∷ path))) one ∙ longer (take (n + 1) (y ∷ path)) (some n) ∙ named_by_last (y ∷ path) n d (omega arith)
   where
     longer : (rest : Path) → 0 < length rest → names_bundle (x ∷ rest) ≡ names_bundle rest
     longer [] l = absurd (omega arith)
@@ -45,25 +48,6 @@ pub no_name_no_bundle : (q : Path) (n : Option Node) → names_bundle q ≡ fals
 no_name_no_bundle q None h = refl
 no_name_no_bundle q (Some (Dir time)) h = refl
 no_name_no_bundle q (Some (File bytes)) h = ap (λ b. if b then files_in bytes else None) h
-
--- a file with a bundle's name is what its bytes say
-file_bundle : (q : Path) (n : Option Node) (size : ℕ) → names_bundle q ≡ true → stamp_of n ≡ stamp.File size → bundle_in q n ≡ files_in (bytes_of n)
-file_bundle q None size named is = cc
-file_bundle q (Some (Dir time)) size named is = cc
-file_bundle q (Some (File bytes)) size named is = ap (λ b. if b then files_in bytes else None) named
-
-kept_by : (f : Files) (kept : List Kept) (at : ℕ) (q : Path) (o : Option (List Packed)) → bundle_at f q ≡ o → index_at kept at ≡ option_map (λ files. index_of (entries_of files)) o → (i : Option Index) → index_at kept at ≡ i
-    → MatchOption i (bundle_at f q ≡ None) (λ _. IsKeptAt f kept at q)
-kept_by f kept at q None b is None e = b
-kept_by f kept at q None b is (Some i) e = let bad : ◌≡◌ {A = Option Index} (Some i) None = sym e ∙ is in cc
-kept_by f kept at q (Some files) b is None e = let bad : ◌≡◌ {A = Option Index} None (Some (index_of (entries_of files))) = sym e ∙ is in cc
-kept_by f kept at q (Some files) b is (Some i) e = (files, b, is)
-
--- what the index of a file with a bundle's name says of the place
-pub kept_is : (f : Files) (kept : List Kept) (at : ℕ) (q : Path) (size : ℕ) (i : Option Index) → names_bundle q ≡ true → stamp.File size ≡ stamp_of (node_at f q) → index_at kept at ≡ index_in (bytes_of (node_at f q)) → index_at kept at ≡ i
-    → MatchOption i (bundle_at f q ≡ None) (λ _. IsKeptAt f kept at q)
-kept_is f kept at q size i named is index e =
-    kept_by f kept at q (files_in (bytes_of (node_at f q))) (file_bundle q (node_at f q) size named (sym is)) index i e
 
 same_parts : (p q r : Path) → p ≡ q ++ r → take (length q) p ≡ q
 same_parts p q r e = ap (take (length q)) e ∙ take-append_seam q r
@@ -139,6 +123,11 @@ pub dir_leads : (told : Option Files) (kept : List Kept) (p : Path) (time : ℕ)
 dir_leads None kept p time s tree is dir = tt
 dir_leads (Some f) kept p time s tree is dir = (outside_dir f tree p time (sym dir ∙ is), is)
 
-pub none_leads : (told : Option Files) (kept : List Kept) (p : Path) (s : Stamp) → IfSome told (λ f. HasNoBundle f p (length p + 1)) → IfSome told (λ f. s ≡ stamp_of (node_at f p)) → IfSome told (λ f. Leads f kept p (Outside s))
-none_leads None kept p s none is = tt
-none_leads (Some f) kept p s none is = (outside_told f p none, is)
+pub none_leads : (told after : Option Files) (kept : List Kept) (p : Path) (s : Stamp) (o : Option Found) → after ≡ told → o ≡ None
+    → IfSome after (λ f. MatchOption o (HasNoBundle f p (length p + 1)) (λ found. (found.parts ≤ length p) × IsKeptAt f kept found.at (take found.parts p)))
+    → IfSome told (λ f. s ≡ stamp_of (node_at f p)) → IfSome told (λ f. Leads f kept p (Outside s))
+none_leads None after kept p s o same is none was = tt
+none_leads (Some f) after kept p s (Some found) same is none was = cc
+none_leads (Some f) after kept p s None same is none was =
+    let here : HasNoBundle f p (length p + 1) = subst (λ t. IfSome t (λ f. HasNoBundle f p (length p + 1))) same none in
+    (outside_told f p here, was)
