@@ -10,7 +10,6 @@ use Rattle.tree_files.specs.declared.tree.Node.{Node}
 use Rattle.tree_files.specs.declared.tree.Node.TheVariants.{File, Dir}
 use Rattle.tree_overlay.specs.Fates.{is_same}
 use Rattle.tree_overlay.proofs.FateLemmas.{same_is}
-use Rattle.bundle_hook.specs.declared.entry.Entry.{Entry}
 use Rattle.bundle_hook.specs.declared.bundle.Packed.{Packed}
 use Rattle.bundle_hook.specs.Spelling.{Before, Ascend}
 use Rattle.bundle_hook.specs.Bundle.{IsBundle, entries_of}

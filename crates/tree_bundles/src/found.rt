@@ -44,8 +44,9 @@ pub fn stamp_of(inner: Inner<'_>) -> Stamp
 
 /// The names in a folder of a bundle, and none where no folder stands there.
 fn names_of(alloc: Global, items: &[Item], folder: &[Text]) -> Result<Texts, NoMemory>
-    ensures folder { things.thing_at items.now folder.now ≡ things.Folder → IfOk result (AreNames items.now folder.now) }
-    ensures wrong_kind { ¬ (things.thing_at items.now folder.now ≡ things.Folder) → IfOk result (λ names. names ≡ []) }
+    ensures folder { IfOk result (λ names. things.thing_at items.now folder.now ≡ things.Folder
+        → AreNames items.now folder.now names) }
+    ensures wrong_kind { IfOk result (λ names. ¬ (things.thing_at items.now folder.now ≡ things.Folder) → names ≡ []) }
 {
     match thing_at(items, folder) {
         Inner::Folder => names_in(alloc, items, folder),
@@ -56,11 +57,11 @@ fn names_of(alloc: Global, items: &[Item], folder: &[Text]) -> Result<Texts, NoM
 /// The names in a folder of a bundle that a path leads to, and none where no folder stands there.
 pub fn names_at(kept: &Seq<Kept>, found: &Found, path: &TreePath) -> Result<Texts, NoMemory>
     requires { found.now.parts ≤ length path.now }
-    ensures folder { IfSome (index_at kept.now found.now.at) (λ index.
+    ensures folder { IfOk result (λ names. IfSome (index_at kept.now found.now.at) (λ index.
         things.thing_at index.items (drop found.now.parts path.now) ≡ things.Folder
-        → IfOk result (AreNames index.items (drop found.now.parts path.now))) }
-    ensures wrong_kind { ¬ (thing_by (index_at kept.now found.now.at) (drop found.now.parts path.now) ≡ things.Folder)
-        → IfOk result (λ names. names ≡ []) }
+        → AreNames index.items (drop found.now.parts path.now) names)) }
+    ensures wrong_kind { IfOk result (λ names. ¬ (thing_by (index_at kept.now found.now.at)
+        (drop found.now.parts path.now) ≡ things.Folder) → names ≡ []) }
 {
     let alloc = path.parts().alloc();
     match index_at(kept, found.at) {
@@ -73,7 +74,7 @@ pub fn names_at(kept: &Seq<Kept>, found: &Found, path: &TreePath) -> Result<Text
     }
 }
 
-/// Reads bytes of a file of a bundle: those from `at` on of the `size` bytes that begin at `start` of the bundle.
+/// Reads bytes of a file of a bundle, from the place `at` of the file on.
 pub fn read_stored<T: Tree>(
     tree: &mut T,
     bundle: &TreePath,

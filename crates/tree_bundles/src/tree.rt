@@ -69,7 +69,10 @@ impl<T: Tree> Tree for BundleTree<T> {
 
     fn list(&mut self, dir: &TreePath) -> Result<Texts, TreeFault> {
         match place_of(&mut self.tree, &mut self.kept, dir)? {
-            Place::Outside(_) => self.tree.list(dir),
+            Place::Outside(_) => {
+                let names = self.tree.list(dir)?;
+                Ok(names)
+            }
             Place::Inside(found) => {
                 let names = names_at(&self.kept, &found, dir)?;
                 self.more = self.more.saturating_add(1);
@@ -80,8 +83,14 @@ impl<T: Tree> Tree for BundleTree<T> {
 
     fn read(&mut self, file: &TreePath, at: u64, into: &mut [u8]) -> Result<usize, TreeFault> {
         match place_of(&mut self.tree, &mut self.kept, file)? {
-            Place::Outside(_) => self.tree.read(file, at, into),
-            Place::Inside(found) => read_at(&mut self.tree, &self.kept, &found, file, at, into),
+            Place::Outside(_) => {
+                let count = self.tree.read(file, at, into)?;
+                Ok(count)
+            }
+            Place::Inside(found) => {
+                let count = read_at(&mut self.tree, &self.kept, &found, file, at, into)?;
+                Ok(count)
+            }
         }
     }
 }
