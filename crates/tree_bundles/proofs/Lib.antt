@@ -5,3 +5,4 @@ pub mod Fronts
 pub mod Leading
 pub mod Trees
 pub mod Told
+pub mod Slices
