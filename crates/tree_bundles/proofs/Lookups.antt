@@ -80,8 +80,8 @@ find-file : (q r : Path) (file : Packed) (o : Option Node) → or_else (find pat
 find-file q r file o =
     ap (λ n. or_else n o)
     (find-both (q ++ r) (map (λ between. folder (q ++ between)) (prefixes file.path)) ((q ++ file.path, File file.bytes) ∷ [])
-        ∙ ap (λ n. or_else n (find path_cmp (q ++ r) ((q ++ file.path, File file.bytes) ∷ []))) (find-folders q r (prefixes file.path) ∙ ap (λ b. cond b (Some (Dir 0)) None) (proper_prefixes r file.path))
-        ∙ ap (or_else (cond (is_proper r file.path) (Some (Dir 0)) None)) (find-one (q ++ r) (q ++ file.path) (File file.bytes) ∙ ap (λ b. cond b (Some (File file.bytes)) None) (same_below q file.path r)))
+    ∙ ap (λ n. or_else n (find path_cmp (q ++ r) ((q ++ file.path, File file.bytes) ∷ []))) (find-folders q r (prefixes file.path) ∙ ap (λ b. cond b (Some (Dir 0)) None) (proper_prefixes r file.path))
+    ∙ ap (or_else (cond (is_proper r file.path) (Some (Dir 0)) None)) (find-one (q ++ r) (q ++ file.path) (File file.bytes) ∙ ap (λ b. cond b (Some (File file.bytes)) None) (same_below q file.path r)))
     ∙ by_file (is_same file.path r) (is_within r file.path) (File file.bytes) o
 
 find-files : (q r : Path) (files : List Packed) → find path_cmp (q ++ r) (flat_map (file_below q) files) ≡ node_among files r

@@ -143,9 +143,9 @@ test_outside test told after kept p s same leads asked = subst (λ o. ForSome o 
 
 pub list_outside_told : (told after : Option Files) (kept : List Kept) (p : Path) (s : Stamp) (names : List (List ℕ)) → IfSome told IsTree → after ≡ told → IfSome told (λ f. Leads f kept p (Outside s)) → ForSome (expand_told told) (λ g. IsDirAt g p)
     → IfSome after (λ f. IsListing f p names) → IfSome (expand_told told) (λ g. IsListing g p names)
-list_outside_told None after kept p s names t same leads asked listed = tt
-list_outside_told (Some f) after kept p s names t same leads asked listed =
-    let here : IsListing f p names = subst (λ o. IfSome o (λ f. IsListing f p names)) same listed in
+list_outside_told None after kept p s names t same leads asked there = tt
+list_outside_told (Some f) after kept p s names t same leads asked there =
+    let here : IsListing f p names = subst (λ o. IfSome o (λ f. IsListing f p names)) same there in
     let dir : IsDirAt f p = subst (λ n. IsTrue (is_dir n)) leads.0 (asked (expand f) refl) in
     record {
       ordered = here.ordered;
