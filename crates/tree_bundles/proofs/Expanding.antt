@@ -1,11 +1,10 @@
 -- What stands at a path of the expanded tree.
-use Rattle.std.proofs.Common.{◌≡◌, ◌∙◌, refl, sym, ap, subst, ℕ, ◌≤◌, List, [], ◌∷◌, ◌++◌, length, take, drop, Bool, true, false, cond, not, ◌&&◌, nat_eq, Option, Some, None, IsTrue, is_some, inl, inr, arith, if◌then◌else◌, append_assoc}
+use Rattle.std.proofs.Common.{◌≡◌, ◌∙◌, refl, sym, ap, subst, ℕ, List, [], ◌∷◌, ◌++◌, Bool, true, false, cond, ◌&&◌, nat_eq, Option, Some, None, IsTrue, is_some, inl, inr, append_assoc}
 use Rattle.std.specs.Prelude.{◌⊎◌}
-use Rattle.std.proofs.Math.Seq.{take-append_seam}
 use Rattle.std.specs.List.{AllByRecursion, flat_map}
 use Rattle.std.specs.Ordering.{eq_by_cmp}
 use Rattle.std.specs.Cmp.Lexicographic.{pointwise, bytes_decides}
-use Rattle.std.specs.FinMap.{find, entries, entries_sorted, from_entries, get-entries, get-from_entries}
+use Rattle.std.specs.FinMap.{find, entries, entries_sorted, get-entries, get-from_entries}
 use Rattle.base_types.specs.Path.{Path, path_cmp}
 use Rattle.tree_files.specs.Edits.{is_within}
 use Rattle.tree_files.specs.Files.{Files, IsTree, IsDirAt, node_at, is_dir}
@@ -15,7 +14,7 @@ use Rattle.tree_files.specs.declared.tree.Node.TheVariants.{File, Dir}
 use Rattle.tree_overlay.specs.Fates.{is_same}
 use Rattle.tree_overlay.proofs.FateLemmas.{same_by, same_is, same_refl}
 use Rattle.bundle_hook.specs.declared.bundle.Packed.{Packed}
-use Rattle.tree_bundles.specs.Expand.{bundle_in, bundle_at, holding, replaced, expanded, expand, names_bundle}
+use Rattle.tree_bundles.specs.Expand.{bundle_in, bundle_at, replaced, expanded, expand}
 use Rattle.tree_bundles.specs.Inside.{node_inside}
 use Rattle.tree_bundles.proofs.Lookups.{or_else, Found, all_found, find-both, find-one, find-holding, no_holding, no_thing, same_front}
 

@@ -1,5 +1,5 @@
 -- Reading the front of a file in pieces.
-use Rattle.std.proofs.Common.{◌≡◌, ◌∙◌, refl, sym, ap, subst, ℕ, ◌+◌, ◌-◌, ◌≤◌, ◌<◌, List, [], ◌∷◌, ◌++◌, length, take, drop, min, Option, Some, None, IfSome, MatchOption, IsTrue, arith, length-take, length-drop, length-append}
+use Rattle.std.proofs.Common.{◌≡◌, ◌∙◌, refl, sym, ap, ℕ, ◌+◌, ◌-◌, ◌≤◌, ◌<◌, List, ◌++◌, length, take, drop, min, Option, Some, None, IfSome, IsTrue, arith, length-take, length-drop, length-append}
 use Rattle.std.proofs.lemmas.List.{take_all, take_min, take-append-le}
 use Rattle.std.proofs.Math.Seq.{take-add, take-append_seam, drop-append_seam}
 use Rattle.std.specs.Option.{ForSome}

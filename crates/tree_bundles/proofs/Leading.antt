@@ -1,24 +1,20 @@
 -- Where a path leads, in told files.
-use Rattle.std.proofs.Common.{◌≡◌, ◌∙◌, refl, sym, ap, subst, ℕ, ◌+◌, ◌-◌, ◌≤◌, ◌<◌, zero, suc, List, [], ◌∷◌, ◌++◌, length, take, drop, get_or, Bool, true, false, cond, Option, Some, None, IfSome, MatchOption, IsTrue, is_some, arith, ltb, if◌then◌else◌, length-take, length-append}
+use Rattle.std.proofs.Common.{◌≡◌, ◌∙◌, refl, sym, ap, subst, ℕ, ◌+◌, ◌-◌, ◌≤◌, ◌<◌, zero, suc, List, [], ◌∷◌, ◌++◌, length, take, get_or, Bool, true, false, Option, Some, None, IfSome, MatchOption, is_some, arith, ltb, if◌then◌else◌, length-take, length-append}
 use Rattle.std.proofs.lemmas.Bool.{ltb-true, ltb-false}
 use Rattle.std.proofs.Math.Seq.{take-append_seam}
-use Rattle.std.specs.Option.{ForSome, option_and_then, option_map}
 use Rattle.base_types.specs.Path.{Path}
-use Rattle.tree_files.specs.Files.{Files, IsTree, is_dir, node_at, stamp_of, bytes_of}
+use Rattle.tree_files.specs.Files.{Files, IsTree, is_dir, node_at, stamp_of}
 use Rattle.tree_files.specs.declared.tree.Node.{Node}
 use Rattle.tree_files.specs.declared.tree.Node.TheVariants.{File, Dir}
 use Rattle.tree_files.specs.declared.tree.Stamp.{Stamp}
 use Rattle.tree_files.specs.declared.tree.Stamp.TheVariants as stamp
-use Rattle.bundle_hook.specs.declared.bundle.Packed.{Packed}
-use Rattle.bundle_hook.specs.declared.bundle.Index.{Index}
-use Rattle.bundle_hook.specs.Bundle.{entries_of, index_of}
-use Rattle.bundle_hook.specs.Files.{files_in, index_in}
+use Rattle.bundle_hook.specs.Files.{files_in}
 use Rattle.tree_bundles.specs.declared.kept.Kept.{Kept}
 use Rattle.tree_bundles.specs.Expand.{is_bundle_name, names_bundle, bundle_in, bundle_at, expand}
 use Rattle.tree_bundles.specs.declared.place.Found.{Found}
-use Rattle.tree_bundles.specs.declared.place.Place.TheVariants.{Outside, Inside}
+use Rattle.tree_bundles.specs.declared.place.Place.TheVariants.{Outside}
 use Rattle.tree_bundles.specs.Places.{Leads}
-use Rattle.tree_bundles.specs.Indexes.{index_at, IsKeptAt, HasNoBundle}
+use Rattle.tree_bundles.specs.Indexes.{IsKeptAt, HasNoBundle}
 use Rattle.tree_bundles.proofs.Expanding.{above_is_dir, node_at-outside}
 
 -- the last of the first parts decides the name

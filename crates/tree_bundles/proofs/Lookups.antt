@@ -1,12 +1,12 @@
 -- What is found at a path among things and what replaces them.
-use Rattle.std.proofs.Common.{◌≡◌, ◌∙◌, refl, sym, ap, subst, ℕ, List, [], ◌∷◌, ◌++◌, Bool, true, false, cond, not, ◌&&◌, ◌||◌, map, nat_eq, Option, Some, None, if◌then◌else◌, append-nil}
+use Rattle.std.proofs.Common.{◌≡◌, ◌∙◌, refl, sym, ap, List, [], ◌∷◌, ◌++◌, Bool, true, false, cond, not, ◌&&◌, ◌||◌, map, nat_eq, Option, Some, None, if◌then◌else◌, append-nil}
 use Rattle.std.specs.Prelude.{T}
 use Rattle.std.specs.List.{AllByRecursion, flat_map}
 use Rattle.std.specs.Ordering.{is_lt, is_eq, eq_by_cmp, ordering_reverse}
 use Rattle.std.specs.declared.cmp.Ordering.{Ordering}
 use Rattle.std.specs.declared.cmp.Ordering.TheVariants.{Less, Equal, Greater}
 use Rattle.std.specs.Cmp.{tied_itself}
-use Rattle.std.specs.Cmp.Lexicographic.{pointwise, nat_list_eq_equiv, bytes_decides}
+use Rattle.std.specs.Cmp.Lexicographic.{pointwise, nat_list_eq_equiv}
 use Rattle.std.specs.FinMap.{find, is_sorted}
 use Rattle.std.specs.FinMap.Entries.{below_all}
 use Rattle.base_types.specs.Path.{Path, path_cmp}
@@ -15,7 +15,7 @@ use Rattle.tree_files.proofs.MemFilesLemmas.{path_total}
 use Rattle.tree_files.specs.declared.tree.Node.{Node}
 use Rattle.tree_files.specs.declared.tree.Node.TheVariants.{File, Dir}
 use Rattle.tree_overlay.specs.Fates.{is_same}
-use Rattle.tree_overlay.proofs.FateLemmas.{same_by, same_refl, among, is_proper, proper_prefixes}
+use Rattle.tree_overlay.proofs.FateLemmas.{same_by, among, is_proper, proper_prefixes}
 use Rattle.bundle_hook.specs.declared.bundle.Packed.{Packed}
 use Rattle.tree_bundles.specs.Expand.{folder, file_below, holding}
 use Rattle.tree_bundles.specs.Inside.{node_among, node_inside}

@@ -1,5 +1,5 @@
 -- Bytes of a file of a bundle, read at their place in the bundle.
-use Rattle.std.proofs.Common.{◌≡◌, ◌∙◌, refl, sym, ap, subst, ℕ, ◌+◌, ◌-◌, ◌≤◌, ◌<◌, ◌^◌, List, ◌++◌, length, take, drop, min, Option, Some, None, IfSome, arith, append_assoc, length-take, length-drop}
+use Rattle.std.proofs.Common.{◌≡◌, ◌∙◌, sym, ap, subst, ℕ, ◌+◌, ◌-◌, ◌≤◌, ◌<◌, ◌^◌, List, ◌++◌, length, take, drop, min, Option, Some, None, IfSome, arith, append_assoc, length-take, length-drop}
 use Rattle.std.proofs.lemmas.List.{take-append-drop, drop-append-le, drop-drop, drop-take, take-take}
 use Rattle.base_types.specs.Path.{Path}
 use Rattle.tree_files.specs.Files.{Files, IsRead, node_at, bytes_of}

@@ -1,11 +1,11 @@
 -- What is known of the tree inside and of its indexes, said of the expanded files.
-use Rattle.std.proofs.Common.{◌≡◌, ◌∙◌, refl, sym, ap, subst, ℕ, ◌+◌, ◌≤◌, ◌<◌, ◌^◌, List, [], ◌∷◌, ◌++◌, length, take, drop, Bool, true, false, ◌||◌, Option, Some, None, IfSome, IsTrue, is_some, arith, if◌then◌else◌, append_assoc, length-append}
+use Rattle.std.proofs.Common.{◌≡◌, ◌∙◌, refl, sym, ap, subst, ℕ, ◌+◌, ◌≤◌, List, [], ◌∷◌, ◌++◌, length, take, drop, Bool, true, false, ◌||◌, Option, Some, None, IfSome, IsTrue, is_some, arith, if◌then◌else◌, append_assoc, length-append}
 use Rattle.std.proofs.lemmas.List.{take-append-drop}
 use Rattle.std.specs.Option.{ForSome}
 use Rattle.std.specs.List.{list_any}
 use Rattle.base_types.specs.Path.{Path}
 use Rattle.tree_files.specs.Edits.{is_within}
-use Rattle.tree_files.specs.Files.{Files, IsTree, IsDirAt, IsFileAt, IsListing, IsRead, has_name, node_at, is_dir, is_file, stamp_of, bytes_of}
+use Rattle.tree_files.specs.Files.{Files, IsTree, IsDirAt, IsFileAt, IsListing, IsRead, node_at, is_dir, is_file, stamp_of, bytes_of}
 use Rattle.tree_files.specs.declared.tree.Node.{Node}
 use Rattle.tree_files.specs.declared.tree.Node.TheVariants.{File, Dir}
 use Rattle.tree_files.specs.declared.tree.Stamp.{Stamp}
@@ -16,14 +16,14 @@ use Rattle.bundle_hook.specs.declared.bundle.Item.{Item}
 use Rattle.bundle_hook.specs.declared.bundle.Index.{Index}
 use Rattle.bundle_hook.specs.declared.bundle.Packed.{Packed}
 use Rattle.bundle_hook.specs.Spelling.{front_of}
-use Rattle.bundle_hook.specs.Bundle.{IsBundle, StandIn, entries_of, data_of, items_from, index_of}
+use Rattle.bundle_hook.specs.Bundle.{StandIn, entries_of, data_of, items_from, index_of}
 use Rattle.bundle_hook.proofs.Listed.{stand_in}
 use Rattle.tree_bundles.specs.declared.kept.Kept.{Kept}
 use Rattle.tree_bundles.specs.declared.place.Found.{Found}
 use Rattle.tree_bundles.specs.declared.place.Place.TheVariants.{Outside, Inside}
-use Rattle.tree_bundles.specs.Expand.{bundle_at, expand, expand_told}
+use Rattle.tree_bundles.specs.Expand.{expand, expand_told}
 use Rattle.tree_bundles.specs.Inside.{node_among, node_inside}
-use Rattle.tree_bundles.specs.Indexes.{IsKeptAt, index_at}
+use Rattle.tree_bundles.specs.Indexes.{index_at}
 use Rattle.tree_bundles.specs.Places.{Leads}
 use Rattle.tree_bundles.specs.Things.{Thing, Nothing, Folder, AFile, AreNames, ReadsThing, thing_among, thing_at, thing_by, stamp_of_thing}
 use Rattle.tree_bundles.proofs.Expanding.{node_at-inside}

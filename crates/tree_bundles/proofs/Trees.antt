@@ -1,7 +1,7 @@
 -- The expanded files are a tree.
-use Rattle.std.proofs.Common.{◌≡◌, ◌∙◌, refl, sym, ap, subst, ℕ, List, [], ◌∷◌, ◌++◌, length, Bool, true, false, ◌&&◌, ◌||◌, nat_eq, Option, Some, None, IfSome, IsTrue, is_some, inl, inr, if◌then◌else◌, append-nil, append_assoc}
+use Rattle.std.proofs.Common.{◌≡◌, ◌∙◌, refl, sym, ap, ℕ, List, [], ◌∷◌, ◌++◌, Bool, true, false, ◌&&◌, nat_eq, Option, Some, None, IfSome, is_some, inl, inr, if◌then◌else◌, append-nil, append_assoc}
 use Rattle.std.specs.Prelude.{◌⊎◌}
-use Rattle.std.specs.List.{AllByRecursion, list_any}
+use Rattle.std.specs.List.{AllByRecursion}
 use Rattle.std.specs.Cmp.Lexicographic.{pointwise, nat_list_eq_equiv}
 use Rattle.base_types.specs.Path.{Path}
 use Rattle.tree_files.specs.Edits.{is_within}
@@ -18,7 +18,6 @@ use Rattle.bundle_hook.proofs.Filled.{filled_back}
 use Rattle.tree_bundles.specs.Expand.{bundle_in, bundle_at, expand, expand_told, names_bundle}
 use Rattle.tree_bundles.specs.Inside.{node_among, node_inside}
 use Rattle.tree_bundles.proofs.Expanding.{above_is_dir, node_at-inside, node_at-outside}
-use Rattle.tree_bundles.proofs.Lookups.{same_front}
 use Rattle.tree_bundles.proofs.Leading.{no_name_no_bundle}
 
 -- ---- what is known of a bundle

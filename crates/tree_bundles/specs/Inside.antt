@@ -1,6 +1,5 @@
 -- What stands in a bundle, looked up by the path below it.
-use Rattle.std.specs.Prelude.{ℕ, List, [], ◌∷◌, Option, Some, None, if◌then◌else◌}
-use Rattle.std.specs.List.{filter_map}
+use Rattle.std.specs.Prelude.{List, [], ◌∷◌, Option, Some, None, if◌then◌else◌}
 use Rattle.base_types.specs.Path.{Path}
 use Rattle.tree_files.specs.Edits.{is_within}
 use Rattle.tree_files.specs.declared.tree.Node.{Node}

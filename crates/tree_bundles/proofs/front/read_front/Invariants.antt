@@ -1,7 +1,6 @@
-use Rattle.std.proofs.Common.{◌≡◌, ◌≤◌, ◌-◌, min, length, take, vec_len}
+use Rattle.std.proofs.Common.{◌≡◌, ◌≤◌, ◌-◌, take, vec_len}
 use Rattle.std.specs.Option.{IfSome}
 use Rattle.tree_files.specs.Files.{node_at, bytes_of}
-use Rattle.bundle_hook.specs.Spelling.{most_front}
 use Rattle.tree_bundles.proofs.front.read_front.Given as goal
 
 abbrev pub invariant-loop-done : goal.invariant-loop-done

@@ -1,4 +1,4 @@
-use Rattle.std.proofs.Common.{◌≡◌, ◌∙◌, sym, ap, ℕ, List, ◌∷◌, [], ◌++◌, ◌||◌, Bool, true, false, refl, Some, None, nat_eq}
+use Rattle.std.proofs.Common.{◌≡◌, ◌∙◌, sym, ap, ◌||◌, Bool, true, false, refl, Some, None}
 use Rattle.std.specs.Option.{option_copied}
 use Rattle.tree_overlay.specs.Gathered.{holds}
 use Rattle.tree_overlay.specs.Names.{part_after}

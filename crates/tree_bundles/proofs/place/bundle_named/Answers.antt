@@ -1,4 +1,4 @@
-use Rattle.std.proofs.Common.{◌≡◌, ◌∙◌, ◌-◌, sym, ap, take, get_or, true, false}
+use Rattle.std.proofs.Common.{◌≡◌, ◌∙◌, ◌-◌, sym, ap, take, get_or, false}
 use Rattle.tree_bundles.specs.Expand.{is_bundle_name, names_bundle}
 use Rattle.tree_bundles.proofs.Leading.{named_by_part, no_name_told}
 use Rattle.tree_bundles.proofs.place.bundle_named.Goals as goal
