@@ -84,7 +84,8 @@ pub fn read_stored<T: Tree>(
 ) -> Result<usize, TreeFault>
     requires { ForSome (T.files tree.old) (λ f. IsFileAt f bundle.now) }
     ensures told { IfOk result (λ n. IfSome (T.files tree.old) (λ f.
-        item.now.at + item.now.size ≤ length (bytes_of (node_at f bundle.now)) → length (bytes_of (node_at f bundle.now)) < 2 ^ 64
+        item.now.at + item.now.size ≤ length (bytes_of (node_at f bundle.now))
+        → length (bytes_of (node_at f bundle.now)) < 2 ^ 64
         → IsRead (take item.now.size (drop item.now.at (bytes_of (node_at f bundle.now)))) at into.old into.new n)) }
     ensures count { IfOk result (λ n. n ≤ length into.old) }
     ensures failed { IsErrOf result TreeFault.Failed → Rose (T.faults tree.old) (T.faults tree.new) }

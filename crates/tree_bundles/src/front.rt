@@ -22,9 +22,11 @@ fn read_piece<T: Tree>(
 ) -> Result<usize, TreeFault>
     requires file { ForSome (T.files tree.old) (λ f. IsFileAt f file.now) }
     requires within { done < length front.old }
-    ensures told { IfOk result (λ n. IfSome (T.files tree.old) (λ f. take done front.old ≡ take done (bytes_of (node_at f file.now))
+    ensures told { IfOk result (λ n. IfSome (T.files tree.old) (λ f.
+        take done front.old ≡ take done (bytes_of (node_at f file.now))
         → take (done + n) front.new ≡ take (done + n) (bytes_of (node_at f file.now)))) }
-    ensures some { IfOk result (λ n. IfSome (T.files tree.old) (λ f. done < length (bytes_of (node_at f file.now)) → 0 < n)) }
+    ensures some { IfOk result (λ n. IfSome (T.files tree.old) (λ f.
+        done < length (bytes_of (node_at f file.now)) → 0 < n)) }
     ensures count { IfOk result (λ n. done + n ≤ length front.old) }
     ensures length { length front.new ≡ length front.old }
     ensures failed { IsErrOf result TreeFault.Failed → Rose (T.faults tree.old) (T.faults tree.new) }
@@ -37,8 +39,8 @@ fn read_piece<T: Tree>(
     Ok(count)
 }
 
-/// The first bytes of a file of this size, as many as the front of a bundle may have, or all of a shorter one. None where
-/// the file has fewer bytes now.
+/// The first bytes of a file of this size, as many as the front of a bundle may have, or all of a shorter one.
+/// None where the file has fewer bytes now.
 fn read_front<T: Tree>(
     alloc: Global,
     tree: &mut T,
@@ -99,7 +101,8 @@ pub fn read_kept<T: Tree>(
     size: u64,
 ) -> Result<Kept, TreeFault>
     requires { ForSome (T.files tree.old) (λ f. stamp_of (node_at f file.now) ≡ stamp.File size) }
-    ensures index { IfOk result (λ it. IfSome (T.files tree.old) (λ f. it.index ≡ index_in (bytes_of (node_at f file.now)))) }
+    ensures index { IfOk result (λ it. IfSome (T.files tree.old) (λ f.
+        it.index ≡ index_in (bytes_of (node_at f file.now)))) }
     ensures path { IfOk result (λ it. it.path ≡ file.now) }
     ensures failed { IsErrOf result TreeFault.Failed → Rose (T.faults tree.old) (T.faults tree.new) }
     ensures faults_stay { OnOk result (T.faults tree.new ≡ T.faults tree.old) }
