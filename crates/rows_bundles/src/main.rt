@@ -88,9 +88,7 @@ fn cut(alloc: Global, bytes: &[u8]) -> Result<Text, NoMemory> {
         }
     }
     let fronts = bytes.len();
-    Ok(Text::from_string(
-        format!(in alloc; "{bundles} of {fronts} fronts")?,
-    ))
+    Ok(Text::from_string(format!(in alloc; "{bundles} of {fronts} fronts")?))
 }
 
 /// The bundle, as a trace spells bytes.
@@ -118,9 +116,7 @@ fn counted(alloc: Global, files: &[Packed]) -> Result<Text, RowError> {
         Some(index) => index.items.len(),
         None => 0,
     };
-    Ok(Text::from_string(
-        format!(in alloc; "{size} bytes, {found} files read")?,
-    ))
+    Ok(Text::from_string(format!(in alloc; "{size} bytes, {found} files read")?))
 }
 
 /// The file of a row.
