@@ -5,5 +5,5 @@ mod Orders
 mod Fronts
 mod Written
 mod Indexed
-mod Listed
-mod Filled
+pub mod Listed
+pub mod Filled

@@ -15,4 +15,4 @@ pub use laws::{
     at_most_one_list, bytes_stand_there, files_are_found, index_is_of_the_file,
     what_is_written_is_read,
 };
-pub use write::write_bundle;
+pub use write::{MOST_FRONT, write_bundle};

@@ -10,8 +10,8 @@ use crate::read::front_in;
 use base_types::{Exact, NoMemory, Same, Seq};
 use std::alloc::Global;
 
-/// The most bytes up to and with `end` and its line feed.
-const MOST_FRONT: usize = 1_048_576;
+/// The most bytes up to and with `end` and its line feed: no more of a file need be looked at.
+pub const MOST_FRONT: usize = 1_048_576;
 
 /// The bytes with others behind them.
 fn put(out: Vec<u8>, bytes: &[u8]) -> Result<Vec<u8>, NoMemory>

@@ -1,5 +1,5 @@
 -- From where a script stands to where it stands after a turn.
-use Rattle.std.proofs.Common.{◌≡◌, ℕ, List, [], codes, Option, None, Result, IfOk, sym, ◌∙◌, subst}
+use Rattle.std.proofs.Common.{◌≡◌, ℕ, List, [], codes, Option, None, Result, IfOk, sym, ◌∙◌, subst, false}
 use Rattle.std.proofs.lemmas.Result.{IfOk-weaker}
 use Rattle.tree_files.specs.Files.{Files}
 use Rattle.machine_events.specs.declared.event.Event.{Event}

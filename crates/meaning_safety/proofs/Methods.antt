@@ -57,10 +57,12 @@ adds_entry_safe s index v known = at (is_special v) refl
   where
     added : Piece
     added = λ st k. calls (e.PathAdd index v) (λ reply. path_added reply st k)
+
     added_safe : is_special v ≡ false → SafeAt s added
     added_safe is = λ run.
         steady s (e.PathAdd index v) (λ reply. path_added reply) (run, (searched v is, known.0)) (λ reply. refl) (λ reply. run)
         (λ reply. path_added_safe reply (shown_more s (e.PathAdd index v, reply))) run
+
     at : (b : Bool) → is_special v ≡ b
         → SafeAt s (if b then fails fault.NotInProfile else if nests_too_deep v then fails fault.PathTooDeep else added)
     at true is = fails_safe fault.NotInProfile s

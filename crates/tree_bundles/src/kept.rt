@@ -1,0 +1,13 @@
+//! What is kept of a file that may be a bundle.
+use base_types::TreePath;
+use bundle_hook::Index;
+
+/// What was read of a file whose name is that of a bundle.
+#[derive(Drop)]
+pub struct Kept {
+    pub path: TreePath,
+    /// How many bytes it had.
+    pub size: u64,
+    /// Its index; None where it was no bundle.
+    pub index: Option<Index>,
+}
