@@ -11,6 +11,8 @@ runs the scripts one after another, each in a `__main__` of its own. Compared ar
 the status. Without seeds, N of them are taken from SEED on: 200 from 0. Prints each seed whose runs differ, with the first
 line that does, and how many were run. Exit status 1 where a seed differs.
 
+The program does not run rounds yet, so every seed differs: this waits for it.
+
 Left out is what `random_in_cpython.py` leaves out; and CPython keeps no finder for an entry that was no folder when it was
 first searched, until the caches are invalidated, where here each search looks anew: so that process forgets such entries
 between rounds.
@@ -19,6 +21,7 @@ import json
 import os
 import pathlib
 import random
+import re
 import sys
 import tempfile
 
@@ -174,6 +177,8 @@ def in_cpython(folder, files, path, rounds):
         plan.flush()
         words = [sys.executable, *"-I -S -B -X utf8 -W ignore -c".split(), RUNNER, plan.name]
         out, err, status = trees.answer(words, folder, str.strip)
+    # (the path of a namespace is written as a list here)
+    out = re.sub(r"_NamespacePath\((\[[^\]]*\])\)", r"\1", out)
     return out.replace(f"{folder}/", ""), err.replace(f"{folder}/", ""), status
 
 
