@@ -1,8 +1,7 @@
 -- What is to be done for a plan.
-use Rattle.std.specs.Prelude.{Option, Some, None}
+use Rattle.std.specs.Prelude.{Option, Some}
 use Rattle.import_words.specs.declared.plan.Plan.{Plan}
 use Rattle.import_words.specs.declared.plan.Plan.TheVariants as plans
-use Rattle.pyimport.specs.declared.task.Numbers.{Numbers}
 use Rattle.pyimport.specs.declared.task.Task.{Task}
 use Rattle.pyimport.specs.declared.task.Task.TheVariants as tasks
 

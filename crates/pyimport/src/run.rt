@@ -105,7 +105,9 @@ pub fn pyimport<R: Threads + Wait + Sync, T: Grove, K: Sink + Send, G: Gate + Sy
         Ok(plan) => match task_of(plan) {
             Task::Make(it) => run_made(rt, alloc, it, out, err, gate),
             Task::Convert(file) => convert(alloc, file, tree, out, err),
-            Task::Run(plan) => call::<Script, R, T, K, G>(rt, alloc, words, plan, tree, out, err, gate),
+            Task::Run(plan) => call::<Script, R, T, K, G>(
+                rt, alloc, words, plan, tree, out, err, gate,
+            ),
         },
         Err(_) => without_run(WANT_OF_MEMORY, None),
     }

@@ -29,11 +29,13 @@ pub fn task_of(plan: Option<Plan>) -> Task
     ensures { result ≡ task_of plan }
 {
     match plan {
-        Some(Plan::Gen {
-            seed,
-            modules,
-            scripts,
-        }) => Task::Make(Numbers {
+        Some(
+            Plan::Gen {
+                seed,
+                modules,
+                scripts,
+            },
+        ) => Task::Make(Numbers {
             seed,
             modules,
             scripts,

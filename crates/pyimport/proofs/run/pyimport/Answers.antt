@@ -1,6 +1,5 @@
-use Rattle.std.proofs.Common.{◌≡◌, ◌∙◌, Some, None, refl, sym, ap, map}
+use Rattle.std.proofs.Common.{◌∙◌, refl, sym, ap, map}
 use Rattle.std.specs.String.{string_bytes}
-use Rattle.import_words.specs.Plans.{plan_of}
 use Rattle.pyimport.specs.Answers.{Answers}
 use Rattle.pyimport.specs.Tasks.{task_of}
 use Rattle.pyimport.proofs.Answering.{wordless_by}
