@@ -12,9 +12,15 @@ use Rattle.program_run.specs.Answers as call
 use Rattle.program_run.specs.declared.report.Report.{Report}
 use Rattle.program_gen.specs.MadeRuns.{MadeGives, sinks, workload_of}
 use Rattle.program_convert.specs.Converting.{Converts}
+use Rattle.program_bundle.specs.Bundling.{Bundles}
 use Rattle.pyimport.specs.declared.task.Numbers.{Numbers}
 use Rattle.pyimport.specs.declared.task.Task.TheVariants as tasks
 use Rattle.pyimport.specs.Tasks.{task_of}
+
+-- the plan is not that of a call that lists folders to read what is in them
+abbrev pub ReadsNoFolder : Option Plan → Type 0
+ReadsNoFolder (Some (plans.Bundle dir)) = ⊥
+ReadsNoFolder plan = Unit {0}
 
 -- how a call ends that was made with these words, from one moment to a later one
 pub data Answers (words : List Word) (old new : Moment) (report : Report) : Type 0 where
@@ -27,6 +33,9 @@ pub data Answers (words : List Word) (old new : Moment) (report : Report) : Type
   -- a stored trace was written anew, or the line about it: no folder of the tree was listed
   converted : (file : Word) → task_of (plan_of words) ≡ tasks.Convert file → report.plan ≡ Some (plans.Convert file)
       → report.history ≡ None → new.lists ≡ old.lists → Converts file old new report.status → Answers words old new report
+  -- the files below a folder were written as a bundle, or a line about them
+  bundled : (dir : Word) → task_of (plan_of words) ≡ tasks.Bundle dir → report.plan ≡ Some (plans.Bundle dir)
+      → report.history ≡ None → Bundles dir old new report.status → Answers words old new report
   -- scripts of the tree were run, or the words were refused
   runs : (plan : Option Plan) → task_of (plan_of words) ≡ tasks.Run plan → call.Answers (meaning sources) words old new report
       → Answers words old new report

@@ -6,7 +6,7 @@ ghost use Rattle.program_run.specs.Runs.{Gives};
 ghost use Rattle.program_run.specs.Sinks.{at, moment, Passes};
 ghost use Rattle.meaning_script.specs.Meaning.{meaning};
 ghost use Rattle.step_calls.specs.Sources.{sources};
-ghost use Rattle.pyimport.specs.Answers.{Answers};
+ghost use Rattle.pyimport.specs.Answers.{Answers, ReadsNoFolder};
 
 use crate::made::run_made;
 use crate::script::Script;
@@ -14,6 +14,7 @@ use crate::task::{Task, task_of};
 use base_types::Seq;
 use drive_round::Gate;
 use import_words::RunPlan;
+use program_bundle::bundle;
 use program_convert::convert;
 use program_run::{
     Report, WANT_OF_MEMORY, call, plan_for, run_alone, run_together, with_plan, without_run,
@@ -81,8 +82,8 @@ pub fn run_all<R: Threads + Wait + Sync, T: Grove, K: Sink + Send, G: Gate + Syn
 /// the two sinks.
 ///
 /// What is built so far is `run` for 1 to 16 scripts, with a search path, a budget and a trace as the
-/// words tell, `gen` and `convert`; all other words are refused with the usage line. One script runs as
-/// in `solo`, several as in `run_all`. A made workload leaves the tree alone.
+/// words tell, `gen`, `convert` and `bundle`; all other words are refused with the usage line. One script
+/// runs as in `solo`, several as in `run_all`. A made workload leaves the tree alone.
 pub fn pyimport<R: Threads + Wait + Sync, T: Grove, K: Sink + Send, G: Gate + Sync>(
     rt: &R,
     alloc: Global,
@@ -99,12 +100,13 @@ pub fn pyimport<R: Threads + Wait + Sync, T: Grove, K: Sink + Send, G: Gate + Sy
     ensures passes { Passes
         (moment T.files T.faults T.lists tree.old (at K.written K.faults out.old) (at K.written K.faults err.old))
         (moment T.files T.faults T.lists tree.new (at K.written K.faults out.new) (at K.written K.faults err.new)) }
-    ensures lists { result.history ≡ None → T.lists tree.new ≡ T.lists tree.old }
+    ensures lists { result.history ≡ None → ReadsNoFolder result.plan → T.lists tree.new ≡ T.lists tree.old }
 {
     match plan_for(alloc, words) {
         Ok(plan) => match task_of(plan) {
             Task::Make(it) => run_made(rt, alloc, it, out, err, gate),
             Task::Convert(file) => convert(alloc, file, tree, out, err),
+            Task::Bundle(dir) => bundle(alloc, dir, tree, out, err),
             Task::Run(plan) => call::<Script, R, T, K, G>(
                 rt, alloc, words, plan, tree, out, err, gate,
             ),

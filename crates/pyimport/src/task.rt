@@ -20,6 +20,8 @@ pub enum Task {
     Make(Numbers),
     /// The trace in this file is written anew.
     Convert(Text),
+    /// The files below this folder are written as a bundle.
+    Bundle(Text),
     /// Scripts run over the tree, or the words are refused.
     Run(Option<Plan>),
 }
@@ -41,6 +43,7 @@ pub fn task_of(plan: Option<Plan>) -> Task
             scripts,
         }),
         Some(Plan::Convert { trace_file }) => Task::Convert(trace_file),
+        Some(Plan::Bundle { dir }) => Task::Bundle(dir),
         other => Task::Run(other),
     }
 }

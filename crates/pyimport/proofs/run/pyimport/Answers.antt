@@ -1,6 +1,6 @@
-use Rattle.std.proofs.Common.{◌∙◌, refl, sym, ap, map}
+use Rattle.std.proofs.Common.{◌∙◌, refl, sym, ap, subst, map}
 use Rattle.std.specs.String.{string_bytes}
-use Rattle.pyimport.specs.Answers.{Answers}
+use Rattle.pyimport.specs.Answers.{Answers, ReadsNoFolder}
 use Rattle.pyimport.specs.Tasks.{task_of}
 use Rattle.pyimport.proofs.Answering.{wordless_by}
 use Rattle.pyimport.proofs.Numbered.{fits_of, run_is}
@@ -26,6 +26,14 @@ pub returns-in-Convert-clause-answers : goal.returns-in-Convert-clause-answers
 returns-in-Convert-clause-answers g c =
     let asked = ap task_of (sym c.in-Ok.ensures) ∙ (sym c.task_of.ensures ∙ c.in-Convert.is) in
     Answers.converted c.in-Convert.file asked c.convert.ensures.plan c.convert.ensures.history c.convert.ensures.lists c.convert.ensures.answers
+
+pub returns-in-Bundle-clause-answers : goal.returns-in-Bundle-clause-answers
+returns-in-Bundle-clause-answers g c =
+    let asked = ap task_of (sym c.in-Ok.ensures) ∙ (sym c.task_of.ensures ∙ c.in-Bundle.is) in
+    Answers.bundled c.in-Bundle.dir asked c.bundle.ensures.plan c.bundle.ensures.history c.bundle.ensures.answers
+
+pub returns-in-Bundle-clause-lists : goal.returns-in-Bundle-clause-lists
+returns-in-Bundle-clause-lists g c = λ none reads. absurd (subst ReadsNoFolder c.bundle.ensures.plan reads)
 
 pub returns-in-Run-clause-answers : goal.returns-in-Run-clause-answers
 returns-in-Run-clause-answers g c =
