@@ -1,0 +1,4 @@
+pub mod Splitting
+pub mod Walking
+mod Spelling
+mod Folders
