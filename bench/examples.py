@@ -5,7 +5,8 @@
     python3 bench/examples.py --run    runs each example again first, and compares its trace
 
 An example is run with the words of its file words.txt behind `run --trace`, without such a file with `main.py`. Where it has
-neither, its trace stands as it is: several scripts, whose order is the system's, or a folder that changed meanwhile.
+neither, its trace stands as it is: several scripts, whose order is the system's, or a folder that changed meanwhile. Where a
+rounds.txt is there, the picture has its rounds.
 
 Prints each file that differs, and ends with status 1 where there is one. A stored trace has no times of folders, which are
 those of a clone, and lists of a folder what the example itself is. Needs Python 3 alone.
@@ -58,7 +59,8 @@ def differing(folder, is_run):
     trace, picture, words = folder / "trace.txt", folder / "trace.svg", words_of(folder)
     if is_run and words and stored(made([ROOT / "pyimport", "run", "--trace", *words], folder).decode()) != trace.read_text():
         yield trace
-    if made([sys.executable, ROOT / "tools" / "draw_trace.py", trace], folder) != picture.read_bytes():
+    rounds = ["--rounds", "rounds.txt"] if (folder / "rounds.txt").exists() else []
+    if made([sys.executable, ROOT / "tools" / "draw_trace.py", *rounds, trace], folder) != picture.read_bytes():
         yield picture
     yield from quotes(folder)
 

@@ -1,11 +1,12 @@
 #!/usr/bin/env python3
-"""Draws a trace as a picture: tools/draw_trace.py TRACE > PICTURE.svg
+"""Draws a trace as a picture: tools/draw_trace.py [--rounds FILE] TRACE > PICTURE.svg
 
 A trace is what `pyimport run --trace` writes (docs/trace.md). Time goes down, a row for each event that is drawn, and each
 script has a column. The body of a script or a module is a bar, from its first event to its last. An import is an arrow
 from the body that imports: to the bar of the body that it begins, back to the bar of a body that is not done yet, or to
 the name of a module that the cache has. A wait is a hatched bar, with an arrow to the body that has to end first. What is
-printed stands beside the body that prints it. Needs Python 3 alone.
+printed stands beside the body that prints it. With the rounds file of the run a line across the picture stands before each
+round, with what was edited there. Needs Python 3 alone.
 """
 import html
 import re
@@ -25,6 +26,9 @@ line { stroke: #333; stroke-width: 1.4 } .back { stroke-dasharray: 5 3 } .alarm 
 .lane { stroke: #ddd } .ring { fill: none; stroke: #c0392b; stroke-width: 2 }
 """
 
+CUT_STYLE = """.cut { stroke: #7a8794; stroke-dasharray: 2 4 } text.cut { stroke: #fff; stroke-dasharray: none }
+"""
+
 
 class Bar:
     """The body of a script or a module, or a wait, in the column of a thread, from one row to another."""
@@ -42,7 +46,7 @@ class Thread:
 
 
 class Refused(Exception):
-    """A line that is none of a trace."""
+    """A line that is none of a trace, or none of a rounds file."""
 
 
 def fields(text):
@@ -69,11 +73,29 @@ def module_of(field):
     return int(found[1]), text_of(found[2])
 
 
-class Picture:
-    """What is drawn: bars, and marks in the rows. It is told one entry after another."""
+def rounds_in(text):
+    """The rounds of a rounds file: how many scripts each has, and what is edited before it."""
+    rounds = []
+    for line in text.split("\n")[1:-1]:
+        word, _, rest = line.partition(" ")
+        if word == "round":
+            rounds.append((0, []))
+        elif word == "script":
+            count, edits = rounds.pop()
+            rounds.append((count + 1, edits))
+        else:
+            # (the text of a file is too long for a picture)
+            rounds[-1][1].append(f"{word} {rest.split(' ')[0] if word == 'file' else rest}")
+    return rounds
 
-    def __init__(self):
+
+class Picture:
+    """What is drawn: bars, marks in the rows, and the cuts between rounds. It is told one entry after another."""
+
+    def __init__(self, rounds=()):
         self.row, self.bars, self.marks, self.threads = 0, [], [], {}
+        self.round_of = [at for at, (count, _) in enumerate(rounds) for _ in range(count)]
+        self.rounds, self.begun, self.cuts = rounds, 0, []
         self.names, self.owners, self.of_load = {}, {}, {}
 
     def mark(self, thread, kind, text, target=None):
@@ -122,8 +144,17 @@ class Picture:
             self.marks.append((self.row, bar, "waits", "", target))
         self.row += 1
 
+    def cut(self, number):
+        """Puts a line before the first entry of a round, with what was edited."""
+        while number < len(self.round_of) and self.begun <= self.round_of[number]:
+            edits = ", ".join(self.rounds[self.begun][1]) or "nothing is edited"
+            self.cuts.append((self.row, f"round {self.begun + 1}: {edits}"))
+            self.begun += 1
+            self.row += 2
+
     def entry(self, number, words, reply):
         """One entry: the words of its event, and those of its reply."""
+        self.cut(number)
         thread = self.threads.setdefault(number, Thread(number))
         if not thread.open:
             self.begin(thread, f"script {number}", "script")
@@ -233,12 +264,12 @@ class Picture:
         script.last, script.kind = self.row, script.kind if words[0] == "normal" else "bad"
 
 
-def read(text):
-    """The picture of a trace."""
+def read(text, rounds=()):
+    """The picture of a trace, with the rounds of its run."""
     lines = text.split("\n")
     if lines[0] not in ("pyimport-trace 1", "pyimport-trace 2"):
         raise Refused("line 1: this is no trace")
-    picture = Picture()
+    picture = Picture(rounds)
     for at, line in enumerate(lines[1:-1], 2):
         try:
             words = fields(line)
@@ -264,7 +295,8 @@ class Drawing:
         for number in sorted(picture.threads):
             self.at[number] = x
             x += self.width_of(number)
-        self.width, self.height = int(x + LEFT), TOP + self.rows * ROW + BOTTOM
+        widest = [LEFT + LETTER * len(shown(text)) for _, text in picture.cuts]
+        self.width, self.height = int(max([x, *widest]) + LEFT), TOP + self.rows * ROW + BOTTOM
 
     def width_of(self, number):
         """How wide the column of a thread is: as its widest row."""
@@ -319,16 +351,23 @@ class Drawing:
         if text:
             self.write(beside, row, text, kind)
 
+    def draw_cut(self, row, text):
+        y = self.y(row + 1) - ROW // 2
+        self.put(f'<line class="cut" x1="4" y1="{y}" x2="{self.width - 4}" y2="{y}"/>')
+        self.put(f'<text class="cut" x="{LEFT}" y="{y - 6}">{html.escape(shown(text))}</text>')
+
     def svg(self):
         for number, x in self.at.items():
             self.put(f'<line class="lane" x1="{x - 12}" y1="16" x2="{x - 12}" y2="{self.height - 12}"/>')
+        for cut in self.picture.cuts:
+            self.draw_cut(*cut)
         for bar in self.picture.bars:
             self.draw_bar(bar)
         for mark in self.picture.marks:
             self.draw_mark(*mark)
         for bar in self.picture.bars:
-            # (the name of a script heads its column)
-            x, row = (self.left(bar), -1.3) if bar.depth == 0 else (self.left(bar) + BAR + 6, bar.row)
+            # (the name of a script heads its column, or its own bar where there are rounds)
+            x, row = (self.left(bar), bar.row - 0.9 if self.picture.cuts else -1.3) if bar.depth == 0 else (self.left(bar) + BAR + 6, bar.row)
             self.write(x, row + 0.6 * (bar.kind == "wait"), bar.name, "note" if bar.kind == "wait" else "head")
         return "\n".join([*self.opening(), *self.pieces, "</svg>", ""])
 
@@ -337,18 +376,22 @@ class Drawing:
         head = '<marker id="head" markerWidth="8" markerHeight="8" refX="7" refY="4" orient="auto"><path d="M0 0 L8 4 L0 8 z" fill="#333"/></marker>'
         yield f'<svg xmlns="http://www.w3.org/2000/svg" width="{self.width}" height="{self.height}" viewBox="0 0 {self.width} {self.height}" role="img">'
         yield "<title>The imports of a run</title>"
-        yield f"<style>{STYLE}</style><defs>{hatch}{head}</defs>"
+        yield f"<style>{STYLE}{CUT_STYLE if self.picture.cuts else ''}</style><defs>{hatch}{head}</defs>"
         yield f'<rect width="{self.width}" height="{self.height}" fill="#fff"/>'
 
 
 def main(words):
-    if len(words) != 1:
-        sys.exit("usage: tools/draw_trace.py TRACE > PICTURE.svg")
+    has_rounds = len(words) == 3 and words[0] == "--rounds"
+    if not has_rounds and len(words) != 1:
+        sys.exit("usage: tools/draw_trace.py [--rounds FILE] TRACE > PICTURE.svg")
     try:
-        with open(words[0], encoding="utf-8", newline="\n") as file:
-            picture = read(file.read())
-    except (OSError, UnicodeDecodeError, Refused) as why:
-        sys.exit(f"draw_trace: {words[0]}: {why}")
+        texts = []
+        for name in words[has_rounds:]:
+            with open(name, encoding="utf-8", newline="\n") as file:
+                texts.append(file.read())
+        picture = read(texts[-1], rounds_in(texts[0]) if has_rounds else ())
+    except (OSError, UnicodeDecodeError, IndexError, Refused) as why:
+        sys.exit(f"draw_trace: {words[-1]}: {why}")
     sys.stdout.write(Drawing(picture).svg())
 
 

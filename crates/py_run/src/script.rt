@@ -17,7 +17,7 @@ use std::alloc::Global;
 use tree_files::Tree;
 
 /// A copy of a text's bytes.
-fn copy_of(alloc: Global, text: &[u8]) -> Result<Seq<u8>, NoMemory>
+pub(crate) fn copy_of(alloc: Global, text: &[u8]) -> Result<Seq<u8>, NoMemory>
     ensures { IfOk result (λ copy. copy ≡ text.now) }
 {
     let mut bytes = Vec::new(alloc);

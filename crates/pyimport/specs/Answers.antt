@@ -4,21 +4,26 @@ use Rattle.import_words.specs.Words.{Word}
 use Rattle.import_words.specs.Plans.{plan_of}
 use Rattle.import_words.specs.declared.plan.Plan.{Plan}
 use Rattle.import_words.specs.declared.plan.Plan.TheVariants as plans
+use Rattle.import_words.specs.declared.plan.RunPlan.{RunPlan}
 use Rattle.meaning_script.specs.Meaning.{meaning}
 use Rattle.step_calls.specs.Sources.{sources}
 use Rattle.program_run.specs.Sinks.{Moment}
 use Rattle.program_run.specs.Statuses.{want_of_memory}
-use Rattle.program_run.specs.Answers as call
+use Rattle.program_run.specs.Answers.{left_of}
 use Rattle.program_run.specs.declared.report.Report.{Report}
+use Rattle.program_rounds.specs.Answers as call
 use Rattle.program_gen.specs.MadeRuns.{MadeGives, sinks, workload_of}
 use Rattle.program_convert.specs.Converting.{Converts}
 use Rattle.program_bundle.specs.Bundling.{Bundles}
+use Rattle.program_check.specs.Checking.{Checks}
 use Rattle.pyimport.specs.declared.task.Numbers.{Numbers}
 use Rattle.pyimport.specs.declared.task.Task.TheVariants as tasks
 use Rattle.pyimport.specs.Tasks.{task_of}
 
--- the plan is not that of a call that lists folders to read what is in them
+-- the plan is not that of a call that lists folders and has no history to tell of it: one that judges a stored trace, or
+-- writes a bundle
 abbrev pub ReadsNoFolder : Option Plan → Type 0
+ReadsNoFolder (Some (plans.Check run file)) = ⊥
 ReadsNoFolder (Some (plans.Bundle dir)) = ⊥
 ReadsNoFolder plan = Unit {0}
 
@@ -28,15 +33,19 @@ pub data Answers (words : List Word) (old new : Moment) (report : Report) : Type
   made : (it : Numbers) → task_of (plan_of words) ≡ tasks.Make it
       → report.plan ≡ Some (plans.Gen it.seed it.modules it.scripts) → new.faults ≡ old.faults → new.lists ≡ old.lists
       → MadeGives (meaning sources) (workload_of it.seed it.modules it.scripts) (sinks old.out old.err)
-      (sinks new.out new.err) (call.left_of report)
+      (sinks new.out new.err) (left_of report)
       → Answers words old new report
   -- a stored trace was written anew, or the line about it: no folder of the tree was listed
   converted : (file : Word) → task_of (plan_of words) ≡ tasks.Convert file → report.plan ≡ Some (plans.Convert file)
       → report.history ≡ None → new.lists ≡ old.lists → Converts file old new report.status → Answers words old new report
+  -- a stored trace was judged, or the line about what cannot be opened
+  checked : (run : RunPlan) (file : Word) → task_of (plan_of words) ≡ tasks.Check (record { run = run; trace_file = file })
+      → report.plan ≡ Some (plans.Check run file) → report.history ≡ None
+      → Checks (meaning sources) file run old new report.status → Answers words old new report
   -- the files below a folder were written as a bundle, or a line about them
   bundled : (dir : Word) → task_of (plan_of words) ≡ tasks.Bundle dir → report.plan ≡ Some (plans.Bundle dir)
       → report.history ≡ None → Bundles dir old new report.status → Answers words old new report
-  -- scripts of the tree were run, or the words were refused
+  -- scripts of the tree were run, at once or round after round, or the words were refused
   runs : (plan : Option Plan) → task_of (plan_of words) ≡ tasks.Run plan → call.Answers (meaning sources) words old new report
       → Answers words old new report
   -- memory was wanted before the words were read: nothing is written, and no call of the tree was made

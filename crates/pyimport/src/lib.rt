@@ -12,5 +12,5 @@ pub use drive_round::{Gate, OpenGate};
 pub use entry::run_program;
 pub use laws::each_script_has_a_history;
 pub use program_run::{Out, Report};
-pub use run::{pyimport, run_all, solo};
+pub use run::{pyimport, run_all, solo, solo_rounds};
 pub use script::Script;

@@ -1,23 +1,29 @@
 //! The calls of the program.
 ghost use Rattle.std.specs.Prelude.{◌≡◌, ◌≤◌, None, length, map};
 ghost use Rattle.std.specs.String.{string_bytes};
+ghost use Rattle.import_words.specs.Plans.{plan_of};
 ghost use Rattle.program_run.specs.Answers.{left_of};
 ghost use Rattle.program_run.specs.Runs.{Gives};
 ghost use Rattle.program_run.specs.Sinks.{at, moment, Passes};
+ghost use Rattle.program_rounds.specs.Answers.{rounds_plan};
+ghost use Rattle.program_rounds.specs.Rounds.{AreBelowRoot, AreFew, AreSingle};
+ghost use Rattle.program_rounds.specs.Runs as in_rounds;
 ghost use Rattle.meaning_script.specs.Meaning.{meaning};
 ghost use Rattle.step_calls.specs.Sources.{sources};
 ghost use Rattle.pyimport.specs.Answers.{Answers, ReadsNoFolder};
 
 use crate::made::run_made;
 use crate::script::Script;
-use crate::task::{Task, task_of};
+use crate::task::{Stored, Task, task_of};
 use base_types::Seq;
 use drive_round::Gate;
-use import_words::RunPlan;
+use import_words::{Round, RunPlan};
 use program_bundle::bundle;
+use program_check::check;
 use program_convert::convert;
+use program_rounds::{call, run_rounds_alone};
 use program_run::{
-    Report, WANT_OF_MEMORY, call, plan_for, run_alone, run_together, with_plan, without_run,
+    Report, WANT_OF_MEMORY, plan_for, run_alone, run_together, with_plan, without_run,
 };
 use std::alloc::Global;
 use std::sync::Wait;
@@ -46,6 +52,36 @@ pub fn solo<T: Tree, K: Sink>(
         (moment T.files T.faults T.lists tree.new (at K.written K.faults out.new) (at K.written K.faults err.new)) }
 {
     let ran = run_alone::<Script, T, K, K>(alloc, plan, texts, tree, out, err);
+    with_plan(ran, None)
+}
+
+/// Runs rounds of one script each, one after another on one machine, over a tree that is edited before
+/// each: every script runs over a fork of it with all edits so far. What they print goes to `out` as it
+/// is printed, and a line for each end that is not normal to `err`. It always returns. The report has
+/// no plan.
+pub fn solo_rounds<T: Grove, K: Sink>(
+    alloc: Global,
+    plan: &RunPlan,
+    rounds: &[Round],
+    texts: Seq<Seq<u8>>,
+    tree: &mut T,
+    out: &mut K,
+    err: &mut K,
+) -> Report
+    requires few { AreFew rounds.now }
+    requires single { AreSingle rounds.now }
+    requires below { AreBelowRoot rounds.now }
+    requires texts { length texts ≡ length rounds.now }
+    ensures run { in_rounds.Gives (meaning sources) plan.now rounds.now texts
+        (moment T.files T.faults T.lists tree.old (at K.written K.faults out.old) (at K.written K.faults err.old))
+        (moment T.files T.faults T.lists tree.new (at K.written K.faults out.new) (at K.written K.faults err.new))
+        (left_of result) }
+    ensures plan { result.plan ≡ None }
+    ensures passes { Passes
+        (moment T.files T.faults T.lists tree.old (at K.written K.faults out.old) (at K.written K.faults err.old))
+        (moment T.files T.faults T.lists tree.new (at K.written K.faults out.new) (at K.written K.faults err.new)) }
+{
+    let ran = run_rounds_alone::<Script, T, K, K>(alloc, plan, rounds, texts, tree, out, err);
     with_plan(ran, None)
 }
 
@@ -81,9 +117,10 @@ pub fn run_all<R: Threads + Wait + Sync, T: Grove, K: Sink + Send, G: Gate + Syn
 /// Runs what the words of the command line ask for, over a tree, and writes what is to be written to
 /// the two sinks.
 ///
-/// What is built so far is `run` for 1 to 16 scripts, with a search path, a budget and a trace as the
-/// words tell, `gen`, `convert` and `bundle`; all other words are refused with the usage line. One script
-/// runs as in `solo`, several as in `run_all`. A made workload leaves the tree alone.
+/// What is built so far is `run` for 1 to 16 scripts, or for a rounds file whose rounds have one script
+/// each, with a search path, a budget and a trace as the words tell, `gen`, `convert`, `bundle`, and
+/// `check` without a rounds file; all other words are refused with the usage line. One script runs as in
+/// `solo`, several as in `run_all`, and rounds as in `solo_rounds`. A made workload leaves the tree alone.
 pub fn pyimport<R: Threads + Wait + Sync, T: Grove, K: Sink + Send, G: Gate + Sync>(
     rt: &R,
     alloc: Global,
@@ -100,13 +137,18 @@ pub fn pyimport<R: Threads + Wait + Sync, T: Grove, K: Sink + Send, G: Gate + Sy
     ensures passes { Passes
         (moment T.files T.faults T.lists tree.old (at K.written K.faults out.old) (at K.written K.faults err.old))
         (moment T.files T.faults T.lists tree.new (at K.written K.faults out.new) (at K.written K.faults err.new)) }
-    ensures lists { result.history ≡ None → ReadsNoFolder result.plan → T.lists tree.new ≡ T.lists tree.old }
+    ensures lists { result.history ≡ None → ReadsNoFolder result.plan → T.lists tree.new ≤ T.lists tree.old }
+    ensures lists_stay { rounds_plan (plan_of (map string_bytes words.now)) ≡ None → result.history ≡ None
+        → ReadsNoFolder result.plan → T.lists tree.new ≡ T.lists tree.old }
 {
     match plan_for(alloc, words) {
         Ok(plan) => match task_of(plan) {
             Task::Make(it) => run_made(rt, alloc, it, out, err, gate),
             Task::Convert(file) => convert(alloc, file, tree, out, err),
             Task::Bundle(dir) => bundle(alloc, dir, tree, out, err),
+            Task::Check(Stored { run, trace_file }) => {
+                check::<Script, T, K, K>(alloc, run, trace_file, tree, out, err)
+            }
             Task::Run(plan) => call::<Script, R, T, K, G>(
                 rt, alloc, words, plan, tree, out, err, gate,
             ),

@@ -7,10 +7,12 @@ use base_types::{NoMemory, Seq};
 use drive_account::Ending;
 use drive_round::Program;
 use machine_desk::Desk;
+use machine_events::{Follow, Pair};
+use program_check::Followed;
 use program_run::Scripts;
-use py_run::run_script;
+use py_run::{follow, run_script};
 use std::alloc::Global;
-use tree_files::Tree;
+use tree_files::{Tree, TreeFault};
 
 /// A script of this text.
 #[derive(Drop)]
@@ -41,4 +43,19 @@ impl Scripts for Script {
     }
 
     ghost safe = { meaning_safe sources };
+}
+
+impl Followed for Script {
+    ghost means = { meaning sources };
+
+    fn follow<T: Tree>(
+        alloc: Global,
+        tree: &mut T,
+        script: u32,
+        text: &[u8],
+        fuel: u64,
+        own: &[Pair],
+    ) -> Result<Follow, TreeFault> {
+        follow(alloc, tree, script, text, fuel, own)
+    }
 }

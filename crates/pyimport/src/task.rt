@@ -1,9 +1,9 @@
 //! Which call does what the words ask for.
 ghost use Rattle.std.specs.Prelude.{◌≡◌};
-ghost use Rattle.pyimport.specs.Tasks.{task_of};
+ghost use Rattle.pyimport.specs.Tasks.{check_of, task_of};
 
 use base_types::Text;
-use import_words::Plan;
+use import_words::{Plan, RunPlan};
 
 /// The numbers of a made workload.
 #[derive(Clone, Copy, Drop)]
@@ -11,6 +11,13 @@ pub struct Numbers {
     pub seed: u64,
     pub modules: u32,
     pub scripts: u32,
+}
+
+/// The file of a stored trace, and the run against which it is judged.
+#[derive(Drop)]
+pub struct Stored {
+    pub run: RunPlan,
+    pub trace_file: Text,
 }
 
 /// What is to be done for a plan.
@@ -22,8 +29,20 @@ pub enum Task {
     Convert(Text),
     /// The files below this folder are written as a bundle.
     Bundle(Text),
+    /// A stored trace is judged.
+    Check(Stored),
     /// Scripts run over the tree, or the words are refused.
     Run(Option<Plan>),
+}
+
+/// A stored trace is judged against scripts of one round; with a rounds file the words are refused.
+fn check_of(run: RunPlan, trace_file: Text) -> Task
+    ensures { result ≡ check_of run trace_file }
+{
+    if run.rounds.is_some() {
+        return Task::Run(Some(Plan::Check { run, trace_file }));
+    }
+    Task::Check(Stored { run, trace_file })
 }
 
 /// What is to be done for a plan; there is none where the words are refused.
@@ -44,6 +63,7 @@ pub fn task_of(plan: Option<Plan>) -> Task
         }),
         Some(Plan::Convert { trace_file }) => Task::Convert(trace_file),
         Some(Plan::Bundle { dir }) => Task::Bundle(dir),
+        Some(Plan::Check { run, trace_file }) => check_of(run, trace_file),
         other => Task::Run(other),
     }
 }

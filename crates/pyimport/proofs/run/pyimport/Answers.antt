@@ -1,9 +1,10 @@
 use Rattle.std.proofs.Common.{◌∙◌, refl, sym, ap, subst, map}
 use Rattle.std.specs.String.{string_bytes}
 use Rattle.pyimport.specs.Answers.{Answers, ReadsNoFolder}
+use Rattle.program_rounds.specs.Answers.{rounds_plan}
 use Rattle.pyimport.specs.Tasks.{task_of}
 use Rattle.pyimport.proofs.Answering.{wordless_by}
-use Rattle.pyimport.proofs.Numbered.{fits_of, run_is}
+use Rattle.pyimport.proofs.Numbered.{few_of, fits_of, run_is}
 use Rattle.pyimport.proofs.run.pyimport.Goals as goal
 
 pub run_made-requires-clause-modules : goal.run_made-requires-clause-modules
@@ -13,6 +14,10 @@ run_made-requires-clause-modules g c κs within =
 pub run_made-requires-clause-scripts : goal.run_made-requires-clause-scripts
 run_made-requires-clause-scripts g c κs within =
     (fits_of (map string_bytes c.args.words.now) c.in-Ok.plan c.in-Ok.ensures c.in-Make.it (sym c.task_of.ensures ∙ c.in-Make.is)).1
+
+pub check-requires-clause-few : goal.check-requires-clause-few
+check-requires-clause-few g c κs within =
+    few_of (map string_bytes c.args.words.now) c.in-Ok.plan c.in-Ok.ensures c.in-Check.run c.in-Check.trace_file (sym c.task_of.ensures ∙ c.in-Check.is)
 
 pub call-requires-clause-plan : goal.call-requires-clause-plan
 call-requires-clause-plan g c κs within = run_is c.in-Ok.plan c.in-Run.plan (sym c.task_of.ensures ∙ c.in-Run.is) ∙ c.in-Ok.ensures
@@ -34,6 +39,28 @@ returns-in-Bundle-clause-answers g c =
 
 pub returns-in-Bundle-clause-lists : goal.returns-in-Bundle-clause-lists
 returns-in-Bundle-clause-lists g c = λ none reads. absurd (subst ReadsNoFolder c.bundle.ensures.plan reads)
+
+pub returns-in-Bundle-clause-lists_stay : goal.returns-in-Bundle-clause-lists_stay
+returns-in-Bundle-clause-lists_stay g c = λ alone none reads. absurd (subst ReadsNoFolder c.bundle.ensures.plan reads)
+
+pub returns-in-Run-clause-lists : goal.returns-in-Run-clause-lists
+returns-in-Run-clause-lists g c = λ none reads. c.call.ensures.lists none
+
+pub returns-in-Run-clause-lists_stay : goal.returns-in-Run-clause-lists_stay
+returns-in-Run-clause-lists_stay g c = λ alone none reads.
+    let same = run_is c.in-Ok.plan c.in-Run.plan (sym c.task_of.ensures ∙ c.in-Run.is) ∙ c.in-Ok.ensures in
+    c.call.ensures.lists_stay (ap rounds_plan same ∙ alone) none
+
+pub returns-in-Check-clause-answers : goal.returns-in-Check-clause-answers
+returns-in-Check-clause-answers g c =
+    let asked = ap task_of (sym c.in-Ok.ensures) ∙ (sym c.task_of.ensures ∙ c.in-Check.is) in
+    Answers.checked c.in-Check.run c.in-Check.trace_file asked c.check.ensures.plan c.check.ensures.history c.check.ensures.answers
+
+pub returns-in-Check-clause-lists : goal.returns-in-Check-clause-lists
+returns-in-Check-clause-lists g c = λ none reads. absurd (subst ReadsNoFolder c.check.ensures.plan reads)
+
+pub returns-in-Check-clause-lists_stay : goal.returns-in-Check-clause-lists_stay
+returns-in-Check-clause-lists_stay g c = λ alone none reads. absurd (subst ReadsNoFolder c.check.ensures.plan reads)
 
 pub returns-in-Run-clause-answers : goal.returns-in-Run-clause-answers
 returns-in-Run-clause-answers g c =

@@ -1,0 +1,94 @@
+//! The verdict on the text of a trace.
+ghost use Rattle.std.specs.Prelude.{◌≡◌, ◌≤◌, ℕ, List, Ok, length, IfOk, IsErrOf};
+ghost use Rattle.tree_files.specs.Count.{Rose};
+ghost use Rattle.trace_read.specs.Reading.{trace_in, format_and_entries};
+ghost use Rattle.program_run.specs.Scripts.{AreFew};
+ghost use Rattle.program_check.specs.Judge.{Judge};
+
+use crate::entries::judge_entries;
+use crate::followed::Followed;
+use base_types::Seq;
+use import_words::RunPlan;
+use std::alloc::Global;
+use trace_check::{Verdict, Why};
+use trace_read::{Trace, TraceError, read_trace};
+use tree_files::{Grove, TreeFault};
+
+/// The format that is judged. The older one has no listings.
+const JUDGED_FORMAT: u32 = 2;
+
+/// The line that tells the format.
+const FORMAT_LINE: u32 = 1;
+
+/// What is said of a text: the number of its entries, where they were judged, and the verdict.
+#[derive(Drop)]
+pub struct Said {
+    pub entries: usize,
+    pub verdict: Verdict,
+}
+
+/// A text is no trace of the judged format, by this line.
+fn no_trace(line: u32) -> Said
+    ensures { result ≡ record { entries = 0; verdict = Verdict.No line Why.Text } }
+{
+    Said {
+        entries: 0,
+        verdict: Verdict::No {
+            line,
+            why: Why::Text,
+        },
+    }
+}
+
+/// Judges a trace that was read.
+fn judge_trace<F: Followed, T: Grove>(
+    alloc: Global,
+    run: &RunPlan,
+    texts: &Seq<Seq<u8>>,
+    tree: &mut T,
+    trace: &Trace,
+) -> Result<Said, TreeFault>
+    requires few { AreFew run.now.scripts }
+    requires texts { length texts.now ≡ length run.now.scripts }
+    ensures judges { (bytes : List ℕ) → trace_in bytes ≡ Ok (format_and_entries trace.now)
+        → IfOk result (λ it. Judge F.means (T.files tree.old) run.now texts.now bytes it.entries it.verdict) }
+    ensures failed { IsErrOf result TreeFault.Failed → Rose (T.faults tree.old) (T.faults tree.new) }
+    ensures files_stay { T.files tree.new ≡ T.files tree.old }
+    ensures faults_grow { T.faults tree.old ≤ T.faults tree.new }
+{
+    if trace.format != JUDGED_FORMAT {
+        return Ok(no_trace(FORMAT_LINE));
+    }
+    let entries = trace.entries.as_slice();
+    let verdict = judge_entries::<F, T>(alloc, run, texts, tree, entries)?;
+    Ok(Said {
+        entries: entries.len(),
+        verdict,
+    })
+}
+
+/// Judges a text: it is read, its entries are replayed, and each script is compared with its own.
+pub fn judge<F: Followed, T: Grove>(
+    alloc: Global,
+    run: &RunPlan,
+    texts: &Seq<Seq<u8>>,
+    tree: &mut T,
+    bytes: &[u8],
+) -> Result<Said, TreeFault>
+    requires few { AreFew run.now.scripts }
+    requires texts { length texts.now ≡ length run.now.scripts }
+    ensures judges { IfOk result (λ it. Judge F.means (T.files tree.old) run.now texts.now bytes.now
+        it.entries it.verdict) }
+    ensures failed { IsErrOf result TreeFault.Failed → Rose (T.faults tree.old) (T.faults tree.new) }
+    ensures files_stay { T.files tree.new ≡ T.files tree.old }
+    ensures faults_grow { T.faults tree.old ≤ T.faults tree.new }
+{
+    match read_trace(alloc, bytes) {
+        Ok(trace) => judge_trace::<F, T>(alloc, run, texts, tree, &trace),
+        Err(TraceError::At { line, cause }) => {
+            drop(cause);
+            Ok(no_trace(line))
+        }
+        Err(TraceError::NoMemory) => Err(TreeFault::NoMemory),
+    }
+}

@@ -1,0 +1,4 @@
+pub mod Rounds
+pub mod Runs
+pub mod Opened
+pub mod Answers

@@ -1,0 +1,57 @@
+-- What a run of rounds leaves: its history, and what both sinks have got.
+use Rattle.std.specs.Prelude.{◌≡◌, ℕ, List, [], ◌∷◌, ◌++◌, map, IfSome, MatchOption, length}
+use Rattle.tree_files.specs.Files.{Files}
+use Rattle.words_rounds.specs.declared.rounds.Round.{Round}
+use Rattle.machine_events.specs.declared.event.Entry.{Entry}
+use Rattle.machine_spec.specs.declared.state.State.{State}
+use Rattle.machine_spec.specs.Legal.{IsLegal}
+use Rattle.meaning_runs.specs.Runs.{Run}
+use Rattle.meaning_solo.specs.Made.{Turn}
+use Rattle.meaning_solo.specs.Solo.{IsSolo}
+use Rattle.import_words.specs.declared.plan.RunPlan.{RunPlan}
+use Rattle.program_run.specs.Statuses.{sink_fault, want_of_memory}
+use Rattle.program_run.specs.Prints.{out_text}
+use Rattle.program_run.specs.Ends.{err_text, status_of}
+use Rattle.program_run.specs.Sinks.{Moment, Leaves, status_by}
+use Rattle.program_run.specs.Counts.{ReadsBy, ListsBy}
+use Rattle.program_run.specs.Alone.{Means, Setting, setting}
+use Rattle.program_run.specs.Runs.{Finished, finished}
+use Rattle.program_run.specs.declared.report.Left.{Left}
+use Rattle.drive_rounds.specs.Solo.{AreTurns, HaveCauses}
+use Rattle.program_rounds.specs.Rounds.{scripts_of, trees_of, opening_in}
+
+-- what scripts of these texts mean, whatever their numbers
+abbrev pub meanings : Means → List (List ℕ) → List (ℕ → Run)
+meanings means texts = map (λ text t. means t text) texts
+
+-- the one history of rounds of one script each, each over the files of its own round, with stops only where a call of
+-- the tree failed; at want of memory a beginning of such a one
+pub data IsRun (means : Means) (under : Setting) (opened : State) (rounds : List Round) (texts : List (List ℕ)) (history : List Entry)
+    : Type 0 where
+  whole : (turns : List Turn) → AreTurns (trees_of under.files rounds) 0 (meanings means texts) turns
+      → HaveCauses turns under.old_faults under.new_faults → IsSolo opened turns under.fuel history
+      → IsRun means under opened rounds texts history
+  part : (turns : List Turn) (rest : List Entry) → under.status ≡ want_of_memory
+      → AreTurns (trees_of under.files rounds) 0 (meanings means texts) turns
+      → HaveCauses turns under.old_faults under.new_faults → IsSolo opened turns under.fuel (history ++ rest)
+      → IsRun means under opened rounds texts history
+
+-- the scripts of these rounds, one in each, were run with these texts, from one moment to a later one
+pub record HasRun (means : Means) (plan : RunPlan) (rounds : List Round) (texts : List (List ℕ)) (old new : Moment)
+    (ran : Finished) : Type 0 where
+  -- the machine allows the history
+  pub legal : IsLegal (opening_in plan rounds texts) ran.history
+  -- where the tree tells its files, the history is the only one that these scripts have
+  pub runs : IfSome old.files (λ files. IsRun means (setting files plan.fuel old.faults new.faults ran.status)
+      (opening_in plan rounds texts) rounds texts ran.history)
+  -- no more scripts ended by a failed call of the tree than there were such calls
+  pub reads : ReadsBy (length (scripts_of rounds)) ran.history old.faults new.faults
+  pub lists : ListsBy (length (scripts_of rounds)) ran.history old.lists new.lists
+  -- what was written, and the status
+  pub leaves : Leaves (status_by (status_of (length (scripts_of rounds)) ran.history) sink_fault)
+      (out_text plan.trace ran.history) (err_text (scripts_of rounds) ran.history) old new ran.status
+
+-- memory was wanted before a history was begun, and nothing has changed; or the scripts were run
+abbrev pub Gives : Means → RunPlan → List Round → List (List ℕ) → Moment → Moment → Left → Type 0
+Gives means plan rounds texts old new left = MatchOption left.history ((left.status ≡ want_of_memory) × (new ≡ old))
+    (λ history. HasRun means plan rounds texts old new (finished history left.status))

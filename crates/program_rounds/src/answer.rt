@@ -1,0 +1,215 @@
+//! A call of the program that may name a rounds file.
+ghost use Rattle.std.specs.Prelude.{◌≡◌, ◌≤◌, ◌∷◌, ◌++◌, [], List, None, Some, true, IfOk, IfErr, map};
+ghost use Rattle.std.specs.List.{list_all};
+ghost use Rattle.std.specs.String.{string_bytes};
+ghost use Rattle.import_words.specs.Plans.{plan_of};
+ghost use Rattle.import_words.specs.declared.plan.Plan.TheVariants as plans;
+ghost use Rattle.import_words.specs.Usage.{usage_of};
+ghost use Rattle.import_words.specs.Words.{Word};
+ghost use Rattle.program_run.specs.Sinks.{at, moment, Leaves, Moment, Passes, status_by};
+ghost use Rattle.program_run.specs.Statuses.{refusal};
+ghost use Rattle.program_rounds.specs.Answers.{Answers, IsLater, Tells, in_rounds, rounds_plan};
+ghost use Rattle.program_rounds.specs.Opened.{HasRounds, EachRoundOpens};
+ghost use Rattle.program_rounds.specs.Rounds.{AreBelowRoot, AreFew, AreSingle, is_single};
+
+use crate::open::{open_rounds, rounds_of};
+use crate::solo::run_rounds_alone;
+use base_types::Seq;
+use drive_round::Gate;
+use import_words::{Plan, Round, RunPlan, usage_line};
+use program_run::{
+    REFUSAL, Report, Scripts, Unopened, WANT_OF_MEMORY, call as call_plain, joined, tell, unread,
+    with_plan, without_run,
+};
+use std::alloc::Global;
+use std::sync::Wait;
+use std::thread::Threads;
+use tree_files::{Grove, Sink};
+
+/// Whether the plan names a rounds file, and is done here.
+fn in_rounds(run: &RunPlan) -> bool
+    ensures { result ≡ in_rounds run.now }
+{
+    !run.bundles && run.rounds.is_some()
+}
+
+/// The run of rounds that a plan is, or else the plan.
+fn rounds_plan(plan: Option<Plan>) -> Result<RunPlan, Option<Plan>>
+    ensures ok { IfOk result (λ run. rounds_plan plan ≡ Some run) }
+    ensures err { IfErr result (λ other. (other ≡ plan) × (rounds_plan plan ≡ None)) }
+{
+    match plan {
+        Some(Plan::Run(run)) => {
+            if in_rounds(&run) {
+                return Ok(run);
+            }
+            Err(Some(Plan::Run(run)))
+        }
+        other => Err(other),
+    }
+}
+
+fn is_single(round: &Round) -> bool
+    ensures { result ≡ is_single round.now }
+{
+    round.scripts.len() == 1
+}
+
+/// Whether each round has one script.
+fn are_single(rounds: &[Round]) -> bool
+    ensures { result ≡ list_all is_single rounds.now }
+{
+    rounds.iter().all(|round| is_single(round))
+}
+
+/// Says why there are no rounds, or no texts.
+fn tell_why<K: Sink>(alloc: Global, run: RunPlan, why: Unopened, err: &mut K) -> Report
+    ensures leaves { (old new : Moment) → new.out ≡ old.out
+        → old.err ≡ at K.written K.faults err.old → new.err ≡ at K.written K.faults err.new
+        → Tells why old new result.status }
+    ensures plan { result.plan ≡ Some (plans.Run run) }
+    ensures history { result.history ≡ None }
+    ensures faults_grow { K.faults err.old ≤ K.faults err.new }
+{
+    match why {
+        Unopened::Refused(line) => tell(err, Ok(line), Some(Plan::Run(run)), REFUSAL, REFUSAL),
+        Unopened::Unread => unread(alloc, run, err),
+        Unopened::NoMemory => without_run(WANT_OF_MEMORY, Some(Plan::Run(run))),
+    }
+}
+
+/// Says that a round has several scripts, which is not done yet: the usage line.
+fn tell_several<K: Sink>(alloc: Global, words: &[String], run: RunPlan, err: &mut K) -> Report
+    ensures leaves { (old new : Moment) → new.out ≡ old.out
+        → old.err ≡ at K.written K.faults err.old → new.err ≡ at K.written K.faults err.new
+        → Leaves (status_by refusal refusal) [] (usage_of (map string_bytes words.now) ++ 10 ∷ [])
+        old new result.status }
+    ensures plan { result.plan ≡ Some (plans.Run run) }
+    ensures history { result.history ≡ None }
+    ensures faults_grow { K.faults err.old ≤ K.faults err.new }
+{
+    let line = joined(alloc, usage_line(words), "", "");
+    tell(err, line, Some(Plan::Run(run)), REFUSAL, REFUSAL)
+}
+
+/// Runs the scripts of rounds that were opened.
+fn play<S: Scripts, T: Grove, K: Sink>(
+    alloc: Global,
+    run: RunPlan,
+    rounds: &[Round],
+    texts: Seq<Seq<u8>>,
+    tree: &mut T,
+    out: &mut K,
+    err: &mut K,
+) -> Report
+    requires few { AreFew rounds.now }
+    requires single { AreSingle rounds.now }
+    requires below { AreBelowRoot rounds.now }
+    requires texts { EachRoundOpens (T.files tree.old) rounds.now texts }
+    ensures answers { (words : List Word) (file : Word) (first : Moment) → rounds_plan (plan_of words) ≡ Some run
+        → run.rounds ≡ Some file → HasRounds first.files file rounds.now
+        → IsLater first
+        (moment T.files T.faults T.lists tree.old (at K.written K.faults out.old) (at K.written K.faults err.old))
+        → Answers S.means words first
+        (moment T.files T.faults T.lists tree.new (at K.written K.faults out.new) (at K.written K.faults err.new))
+        result }
+    ensures passes { Passes
+        (moment T.files T.faults T.lists tree.old (at K.written K.faults out.old) (at K.written K.faults err.old))
+        (moment T.files T.faults T.lists tree.new (at K.written K.faults out.new) (at K.written K.faults err.new)) }
+    ensures lists { result.history ≡ None → T.lists tree.new ≡ T.lists tree.old }
+{
+    let ran = run_rounds_alone::<S, T, K, K>(alloc, &run, rounds, texts, tree, out, err);
+    with_plan(ran, Some(Plan::Run(run)))
+}
+
+/// Opens the scripts of rounds, and runs them.
+fn run_list<S: Scripts, T: Grove, K: Sink>(
+    alloc: Global,
+    run: RunPlan,
+    rounds: &[Round],
+    tree: &mut T,
+    out: &mut K,
+    err: &mut K,
+) -> Report
+    requires few { AreFew rounds.now }
+    requires single { AreSingle rounds.now }
+    requires below { AreBelowRoot rounds.now }
+    ensures answers { (words : List Word) (file : Word) (first : Moment) → rounds_plan (plan_of words) ≡ Some run
+        → run.rounds ≡ Some file → HasRounds first.files file rounds.now
+        → IsLater first
+        (moment T.files T.faults T.lists tree.old (at K.written K.faults out.old) (at K.written K.faults err.old))
+        → Answers S.means words first
+        (moment T.files T.faults T.lists tree.new (at K.written K.faults out.new) (at K.written K.faults err.new))
+        result }
+    ensures passes { Passes
+        (moment T.files T.faults T.lists tree.old (at K.written K.faults out.old) (at K.written K.faults err.old))
+        (moment T.files T.faults T.lists tree.new (at K.written K.faults out.new) (at K.written K.faults err.new)) }
+    ensures lists { result.history ≡ None → T.lists tree.new ≤ T.lists tree.old }
+{
+    match open_rounds(alloc, tree, rounds) {
+        Ok(texts) => play::<S, T, K>(alloc, run, rounds, texts, tree, out, err),
+        Err(why) => tell_why(alloc, run, why, err),
+    }
+}
+
+/// Reads a rounds file, and runs its rounds.
+fn run_file<S: Scripts, T: Grove, K: Sink>(
+    alloc: Global,
+    words: &[String],
+    run: RunPlan,
+    tree: &mut T,
+    out: &mut K,
+    err: &mut K,
+) -> Report
+    requires rounds { in_rounds run ≡ true }
+    ensures answers { rounds_plan (plan_of (map string_bytes words.now)) ≡ Some run
+        → Answers S.means (map string_bytes words.now)
+        (moment T.files T.faults T.lists tree.old (at K.written K.faults out.old) (at K.written K.faults err.old))
+        (moment T.files T.faults T.lists tree.new (at K.written K.faults out.new) (at K.written K.faults err.new))
+        result }
+    ensures passes { Passes
+        (moment T.files T.faults T.lists tree.old (at K.written K.faults out.old) (at K.written K.faults err.old))
+        (moment T.files T.faults T.lists tree.new (at K.written K.faults out.new) (at K.written K.faults err.new)) }
+    ensures lists { result.history ≡ None → T.lists tree.new ≤ T.lists tree.old }
+{
+    let Some(file) = &run.rounds else {
+        unreachable!()
+    };
+    let rounds = match rounds_of(alloc, tree, file) {
+        Ok(rounds) => rounds.list,
+        Err(why) => return tell_why(alloc, run, why, err),
+    };
+    if !are_single(rounds.as_slice()) {
+        return tell_several(alloc, words, run, err);
+    }
+    run_list::<S, T, K>(alloc, run, rounds.as_slice(), tree, out, err)
+}
+
+/// Does what words of the command line ask for whose plan was read, over a tree, and writes what is to
+/// be written to the two sinks. A plan without a rounds file is done as ever.
+pub fn call<S: Scripts + Send, R: Threads + Wait + Sync, T: Grove, K: Sink + Send, G: Gate + Sync>(
+    rt: &R,
+    alloc: Global,
+    words: &[String],
+    plan: Option<Plan>,
+    tree: &mut T,
+    out: &mut K,
+    err: &mut K,
+    gate: &G,
+) -> Report
+    requires plan { plan ≡ plan_of (map string_bytes words.now) }
+    ensures answers { Answers S.means (map string_bytes words.now)
+        (moment T.files T.faults T.lists tree.old (at K.written K.faults out.old) (at K.written K.faults err.old))
+        (moment T.files T.faults T.lists tree.new (at K.written K.faults out.new) (at K.written K.faults err.new))
+        result }
+    ensures passes { Passes
+        (moment T.files T.faults T.lists tree.old (at K.written K.faults out.old) (at K.written K.faults err.old))
+        (moment T.files T.faults T.lists tree.new (at K.written K.faults out.new) (at K.written K.faults err.new)) }
+    ensures lists { result.history ≡ None → T.lists tree.new ≤ T.lists tree.old }
+    ensures lists_stay { rounds_plan plan ≡ None → result.history ≡ None → T.lists tree.new ≡ T.lists tree.old }
+{
+    match rounds_plan(plan) {
+        Ok(run) => run_file::<S, T, K>(alloc, words, run, tree, out, err),
+        Err(plan) => call_plain::<S, R, T, K, G>(rt, alloc, words, plan, tree, out, err, gate),
+    }
+}

@@ -1,0 +1,3 @@
+import importlib
+import a
+importlib.reload(a)
