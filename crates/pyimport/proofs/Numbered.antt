@@ -1,6 +1,6 @@
 -- A plan of a made workload has at least one module, and 1 to 16 scripts; one that judges a stored trace has 1 to 16 scripts,
 -- where it has no rounds file.
-use Rattle.std.proofs.Common.{◌≡◌, ◌≤◌, ℕ, Bool, true, false, not, ◌&&◌, List, [], ◌∷◌, length, Option, Some, None, refl, sym, subst}
+use Rattle.std.proofs.Common.{◌≡◌, ◌≤◌, ℕ, Bool, true, false, not, ◌&&◌, List, [], ◌∷◌, length, Option, Some, None, refl, sym, ap, subst}
 use Rattle.std.specs.Prelude.{nat_le, is_some, if◌then◌else◌}
 use Rattle.std.specs.List.{list_any}
 use Rattle.std.specs.Option.{option_map, option_and_then}
@@ -17,6 +17,7 @@ use Rattle.program_run.specs.Scripts.{AreFew}
 use Rattle.import_words.specs.declared.plan.RunPlan.{RunPlan}
 use Rattle.pyimport.specs.Tasks.{check_by, task_of}
 use Rattle.pyimport.specs.declared.task.Numbers.{Numbers}
+use Rattle.pyimport.specs.declared.task.Stored.{Stored}
 use Rattle.pyimport.specs.declared.task.Task.{Task}
 use Rattle.pyimport.specs.declared.task.Task.TheVariants as tasks
 
@@ -137,7 +138,9 @@ same_run false run file other is = absurd (cc is)
 
 judged_by : (b : Bool) (run : RunPlan) (file : Word) (run' : RunPlan) (file' : Word) → check_by b run file ≡ tasks.Check (record { run = run'; trace_file = file' }) → (b ≡ false) × (run ≡ run')
 judged_by true run file run' file' is = absurd (cc is)
-judged_by false run file run' file' is = (refl, cc is)
+judged_by false run file run' file' is =
+    let same : ◌≡◌ {A = Stored} (record { run = run; trace_file = file }) (record { run = run'; trace_file = file' }) = cc is in
+    (refl, ap (λ (x : Stored). x.run) same)
 
 -- of what was read
 fits_by : (plan : Option Plan) → Fits plan → (it : Numbers) → task_of plan ≡ tasks.Make it → (1 ≤ it.modules) × ((1 ≤ it.scripts) × (it.scripts ≤ 16))
