@@ -136,10 +136,10 @@ same_run : (b : Bool) (run : RunPlan) (file : Word) (other : Option Plan) → ch
 same_run true run file other is = sym (cc is)
 same_run false run file other is = absurd (cc is)
 
-judged_by : (b : Bool) (run : RunPlan) (file : Word) (run' : RunPlan) (file' : Word) → check_by b run file ≡ tasks.Check (record { run = run'; trace_file = file' }) → (b ≡ false) × (run ≡ run')
-judged_by true run file run' file' is = absurd (cc is)
-judged_by false run file run' file' is =
-    let same : ◌≡◌ {A = Stored} (record { run = run; trace_file = file }) (record { run = run'; trace_file = file' }) = cc is in
+judged_by : (b : Bool) (run : RunPlan) (file : Word) (it : Stored) → check_by b run file ≡ tasks.Check it → (b ≡ false) × (run ≡ it.run)
+judged_by true run file it is = absurd (cc is)
+judged_by false run file it is =
+    let same : ◌≡◌ {A = Stored} (record { run = run; trace_file = file }) it = cc is in
     (refl, ap (λ (x : Stored). x.run) same)
 
 -- of what was read
@@ -170,18 +170,18 @@ run_is (Some (plans.Module run)) other is = sym (cc is)
 run_is (Some (plans.Report path dir)) other is = sym (cc is)
 run_is (Some (plans.Bundle dir)) other is = absurd (cc is)
 
-few_by_plan : (plan : Option Plan) → Fits plan → (run : RunPlan) (file : Word) → task_of plan ≡ tasks.Check (record { run = run; trace_file = file }) → AreFew run.scripts
-few_by_plan None fits run file is = absurd (cc is)
-few_by_plan (Some (plans.Run r)) fits run file is = absurd (cc is)
-few_by_plan (Some (plans.Gen seed modules scripts)) fits run file is = absurd (cc is)
-few_by_plan (Some (plans.Check r f)) fits run file is =
-    let judged = judged_by (is_some r.rounds) r f run file is in
+few_by_plan : (plan : Option Plan) → Fits plan → (it : Stored) → task_of plan ≡ tasks.Check it → AreFew it.run.scripts
+few_by_plan None fits it is = absurd (cc is)
+few_by_plan (Some (plans.Run r)) fits it is = absurd (cc is)
+few_by_plan (Some (plans.Gen seed modules scripts)) fits it is = absurd (cc is)
+few_by_plan (Some (plans.Check r f)) fits it is =
+    let judged = judged_by (is_some r.rounds) r f it is in
     subst (λ (x : RunPlan). AreFew x.scripts) judged.1 (fits judged.0)
-few_by_plan (Some (plans.Convert f)) fits run file is = absurd (cc is)
-few_by_plan (Some (plans.Module r)) fits run file is = absurd (cc is)
-few_by_plan (Some (plans.Report path dir)) fits run file is = absurd (cc is)
-few_by_plan (Some (plans.Bundle dir)) fits run file is = absurd (cc is)
+few_by_plan (Some (plans.Convert f)) fits it is = absurd (cc is)
+few_by_plan (Some (plans.Module r)) fits it is = absurd (cc is)
+few_by_plan (Some (plans.Report path dir)) fits it is = absurd (cc is)
+few_by_plan (Some (plans.Bundle dir)) fits it is = absurd (cc is)
 
 -- scripts against which a trace is judged
-pub few_of : (words : List Word) (plan : Option Plan) → plan ≡ plan_of words → (run : RunPlan) (file : Word) → task_of plan ≡ tasks.Check (record { run = run; trace_file = file }) → AreFew run.scripts
-few_of words plan is run file found = few_by_plan plan (subst Fits (sym is) (plan_fits words)) run file found
+pub few_of : (words : List Word) (plan : Option Plan) → plan ≡ plan_of words → (it : Stored) → task_of plan ≡ tasks.Check it → AreFew it.run.scripts
+few_of words plan is it found = few_by_plan plan (subst Fits (sym is) (plan_fits words)) it found

@@ -4,7 +4,6 @@ use Rattle.import_words.specs.Words.{Word}
 use Rattle.import_words.specs.Plans.{plan_of}
 use Rattle.import_words.specs.declared.plan.Plan.{Plan}
 use Rattle.import_words.specs.declared.plan.Plan.TheVariants as plans
-use Rattle.import_words.specs.declared.plan.RunPlan.{RunPlan}
 use Rattle.meaning_script.specs.Meaning.{meaning}
 use Rattle.step_calls.specs.Sources.{sources}
 use Rattle.program_run.specs.Sinks.{Moment}
@@ -17,6 +16,7 @@ use Rattle.program_convert.specs.Converting.{Converts}
 use Rattle.program_bundle.specs.Bundling.{Bundles}
 use Rattle.program_check.specs.Checking.{Checks}
 use Rattle.pyimport.specs.declared.task.Numbers.{Numbers}
+use Rattle.pyimport.specs.declared.task.Stored.{Stored}
 use Rattle.pyimport.specs.declared.task.Task.TheVariants as tasks
 use Rattle.pyimport.specs.Tasks.{task_of}
 
@@ -39,9 +39,9 @@ pub data Answers (words : List Word) (old new : Moment) (report : Report) : Type
   converted : (file : Word) → task_of (plan_of words) ≡ tasks.Convert file → report.plan ≡ Some (plans.Convert file)
       → report.history ≡ None → new.lists ≡ old.lists → Converts file old new report.status → Answers words old new report
   -- a stored trace was judged, or the line about what cannot be opened
-  checked : (run : RunPlan) (file : Word) → task_of (plan_of words) ≡ tasks.Check (record { run = run; trace_file = file })
-      → report.plan ≡ Some (plans.Check run file) → report.history ≡ None
-      → Checks (meaning sources) file run old new report.status → Answers words old new report
+  checked : (it : Stored) → task_of (plan_of words) ≡ tasks.Check it → report.plan ≡ Some (plans.Check it.run it.trace_file)
+      → report.history ≡ None → Checks (meaning sources) it.trace_file it.run old new report.status
+      → Answers words old new report
   -- the files below a folder were written as a bundle, or a line about them
   bundled : (dir : Word) → task_of (plan_of words) ≡ tasks.Bundle dir → report.plan ≡ Some (plans.Bundle dir)
       → report.history ≡ None → Bundles dir old new report.status → Answers words old new report

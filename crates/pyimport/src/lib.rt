@@ -2,6 +2,7 @@
 #![tactic(auto)]
 
 mod entry;
+mod judged;
 mod laws;
 mod made;
 mod run;

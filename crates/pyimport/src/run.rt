@@ -12,14 +12,14 @@ ghost use Rattle.meaning_script.specs.Meaning.{meaning};
 ghost use Rattle.step_calls.specs.Sources.{sources};
 ghost use Rattle.pyimport.specs.Answers.{Answers, ReadsNoFolder};
 
+use crate::judged::judge;
 use crate::made::run_made;
 use crate::script::Script;
-use crate::task::{Stored, Task, task_of};
+use crate::task::{Task, task_of};
 use base_types::Seq;
 use drive_round::Gate;
 use import_words::{Round, RunPlan};
 use program_bundle::bundle;
-use program_check::check;
 use program_convert::convert;
 use program_rounds::{call, run_rounds_alone};
 use program_run::{
@@ -146,9 +146,7 @@ pub fn pyimport<R: Threads + Wait + Sync, T: Grove, K: Sink + Send, G: Gate + Sy
             Task::Make(it) => run_made(rt, alloc, it, out, err, gate),
             Task::Convert(file) => convert(alloc, file, tree, out, err),
             Task::Bundle(dir) => bundle(alloc, dir, tree, out, err),
-            Task::Check(Stored { run, trace_file }) => {
-                check::<Script, T, K, K>(alloc, run, trace_file, tree, out, err)
-            }
+            Task::Check(it) => judge(alloc, it, tree, out, err),
             Task::Run(plan) => call::<Script, R, T, K, G>(
                 rt, alloc, words, plan, tree, out, err, gate,
             ),

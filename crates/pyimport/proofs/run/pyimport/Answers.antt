@@ -15,9 +15,9 @@ pub run_made-requires-clause-scripts : goal.run_made-requires-clause-scripts
 run_made-requires-clause-scripts g c κs within =
     (fits_of (map string_bytes c.args.words.now) c.in-Ok.plan c.in-Ok.ensures c.in-Make.it (sym c.task_of.ensures ∙ c.in-Make.is)).1
 
-pub check-requires-clause-few : goal.check-requires-clause-few
-check-requires-clause-few g c κs within =
-    few_of (map string_bytes c.args.words.now) c.in-Ok.plan c.in-Ok.ensures c.in-Check.run' c.in-Check.trace_file (sym c.task_of.ensures ∙ c.in-Check.is)
+pub judge-requires-clause-few : goal.judge-requires-clause-few
+judge-requires-clause-few g c κs within =
+    few_of (map string_bytes c.args.words.now) c.in-Ok.plan c.in-Ok.ensures c.in-Check.it (sym c.task_of.ensures ∙ c.in-Check.is)
 
 pub call-requires-clause-plan : goal.call-requires-clause-plan
 call-requires-clause-plan g c κs within = run_is c.in-Ok.plan c.in-Run.plan (sym c.task_of.ensures ∙ c.in-Run.is) ∙ c.in-Ok.ensures
@@ -54,13 +54,13 @@ returns-in-Run-clause-lists_stay g c = λ alone none reads.
 pub returns-in-Check-clause-answers : goal.returns-in-Check-clause-answers
 returns-in-Check-clause-answers g c =
     let asked = ap task_of (sym c.in-Ok.ensures) ∙ (sym c.task_of.ensures ∙ c.in-Check.is) in
-    Answers.checked c.in-Check.run' c.in-Check.trace_file asked c.check.ensures.plan c.check.ensures.history c.check.ensures.answers
+    Answers.checked c.in-Check.it asked c.judge.ensures.plan c.judge.ensures.history c.judge.ensures.answers
 
 pub returns-in-Check-clause-lists : goal.returns-in-Check-clause-lists
-returns-in-Check-clause-lists g c = λ none reads. absurd (subst ReadsNoFolder c.check.ensures.plan reads)
+returns-in-Check-clause-lists g c = λ none reads. absurd (subst ReadsNoFolder c.judge.ensures.plan reads)
 
 pub returns-in-Check-clause-lists_stay : goal.returns-in-Check-clause-lists_stay
-returns-in-Check-clause-lists_stay g c = λ alone none reads. absurd (subst ReadsNoFolder c.check.ensures.plan reads)
+returns-in-Check-clause-lists_stay g c = λ alone none reads. absurd (subst ReadsNoFolder c.judge.ensures.plan reads)
 
 pub returns-in-Run-clause-answers : goal.returns-in-Run-clause-answers
 returns-in-Run-clause-answers g c =
