@@ -6,15 +6,20 @@
 
 An example is run with the words of its file words.txt behind `run --trace`, without such a file with `main.py`. Where it has
 neither, its trace stands as it is: several scripts, whose order is the system's, or a folder that changed meanwhile. Where a
-rounds.txt is there, the picture has its rounds.
+rounds.txt is there, the picture has its rounds. Where a checks.txt is there, each of its lines has a trace and what `check` says
+of it, in a copy whose folders have the time 0; here the plain judge is asked, and with --run the program too. The picture of a
+trace that is refused has its line marked.
 
 Prints each file that differs, and ends with status 1 where there is one. A stored trace has no times of folders, which are
 those of a clone, and lists of a folder what the example itself is. Needs Python 3 alone.
 """
+import os
 import pathlib
 import re
+import shutil
 import subprocess
 import sys
+import tempfile
 
 ROOT = pathlib.Path(__file__).resolve().parent.parent
 BESIDE = ('"trace.svg"', '"trace.txt"', '"words.txt"', '"__pycache__"')
@@ -54,6 +59,30 @@ def stored(trace):
     return re.sub(r"^(\d+ dirset \S+) \d+ \[(.*)\] -> done$", listed, trace, flags=re.M)
 
 
+def judges(is_run):
+    """The judges that are asked about a trace."""
+    return [[sys.executable, ROOT / "bench" / "plain_judge.py"], *([[ROOT / "pyimport", "check"]] if is_run else [])]
+
+
+def checked(folder, is_run):
+    """Where a judge says of a trace of an example another thing than its checks.txt, and pictures that are others."""
+    if not (folder / "checks.txt").exists():
+        return
+    with tempfile.TemporaryDirectory() as place:
+        copy = shutil.copytree(folder, pathlib.Path(place) / "copy")
+        for path, _, _ in os.walk(copy):
+            os.utime(path, (0, 0))
+        for line in (folder / "checks.txt").read_text().splitlines():
+            trace, answer = line.split(" -> ")
+            said = {made([*judge, trace, *words_of(folder)], copy).decode().strip() for judge in judges(is_run)}
+            if said != {answer}:
+                yield folder / "checks.txt"
+            if found := re.match(r"no: line (\d+):", answer):
+                picture = made([sys.executable, ROOT / "tools" / "draw_trace.py", "--at", found[1], trace], folder)
+                if picture != (folder / trace).with_suffix(".svg").read_bytes():
+                    yield (folder / trace).with_suffix(".svg")
+
+
 def differing(folder, is_run):
     """The stored files of an example that are not what is made now."""
     trace, picture, words = folder / "trace.txt", folder / "trace.svg", words_of(folder)
@@ -63,6 +92,7 @@ def differing(folder, is_run):
     if made([sys.executable, ROOT / "tools" / "draw_trace.py", *rounds, trace], folder) != picture.read_bytes():
         yield picture
     yield from quotes(folder)
+    yield from checked(folder, is_run)
 
 
 def main():

@@ -9,14 +9,15 @@ script. Their bodies import each other in every form, in rings too, and change `
 `__path__`, load modules again, and fail. Compared are what is printed, in its order, the line of the error that ends the
 script, and the status. Without seeds, N of them are taken from SEED on: 200 from 0. Prints each seed whose runs differ,
 with the first line that does, and how many were run; with `--show`, the files of each named seed and both answers.
-Exit status 1 where a seed differs.
+Exit status 1 where a seed differs, but by the rule below.
 
 What this language has by rules of its own is left out, or taken out of the texts: modules are told by their names, since
 a module that is loaded again keeps the file that it is told with; whether a module is initialising, which a reload within
 its first load changes in CPython; hints at similar names; and the text that CPython has for a submodule that is loading.
 Only a module that imports nothing gets `None` as its entry. What is not left out is a package whose body fails while what
-it imported stays: CPython looks it up once more behind a submodule of that, and runs its body again. Of two thousand seeds
-about one tells this, such as 3498, 9333 and 10165; `rows_runs` has a row for each way in which it does.
+it imported stays: CPython looks it up once more behind a submodule of that, and runs its body again (`docs/differences.md`
+has this rule). A seed that differs is run once more by a CPython that imports such a submodule alone; where that agrees, the
+seed differs by this rule alone. Of two thousand seeds about one does, such as 3498, 9333 and 10165.
 """
 import argparse
 import pathlib
@@ -344,37 +345,38 @@ def without_own(text):
     return re.sub(r"\. Did you (mean|forget)\b.*", "", text)
 
 
-def answer(words, folder, error_of):
-    """What a run prints, its error, and its status."""
+def answer(words, folder):
+    """What a run of the program prints, its lines of errors, and its status."""
     try:
         done = subprocess.run(words, cwd=folder, capture_output=True, encoding="utf-8", timeout=SECONDS)
     except subprocess.TimeoutExpired:
-        return "", f"no answer in {SECONDS} seconds", -1
-    err = error_of(done.stderr) if done.returncode else done.stderr
-    return without_own(done.stdout), without_own(err), done.returncode
+        return "", f"no answer in {SECONDS} seconds", "-1"
+    return without_own(done.stdout), without_own(done.stderr), str(done.returncode)
 
 
-def in_cpython(folder, path):
-    words = [sys.executable, *"-I -S -B -X utf8 -W ignore -c".split(), rows_in_cpython.RUNNER, path, "main.py"]
-    out, err, status = answer(words, folder, rows_in_cpython.last_error)
-    return out.replace(f"{folder}/", ""), err.replace(f"{folder}/", ""), status
+def in_cpython(folder, path, rounds, times, is_alone):
+    out, err, status = rows_in_cpython.run_in_cpython(folder, path.split(":"), rounds, times, is_alone)
+    return without_own(out), without_own(err), status
 
 
-def in_program(program, folder, path):
-    words = [program, "run", *([f"--path={path}"] if path else []), "main.py"]
-    return answer(words, folder, lambda told: told.removesuffix("\n").removeprefix("main.py: "))
+def in_program(program, folder, path, last):
+    return answer([program, "run", *([f"--path={path}"] if path else []), *last], folder)
+
+
+def in_folder(files, run):
+    """What a run in a folder with these files gives."""
+    with tempfile.TemporaryDirectory() as name:
+        folder = pathlib.Path(name).resolve()
+        plant(folder, files)
+        return run(folder)
 
 
 def both(program, seed):
-    """The files of a seed, and what both make of them."""
+    """The files and the path of a seed, what CPython makes of them, alone or not, and what the program does."""
     files, path = made_of(random.Random(seed))
-    answers = []
-    for run in (in_cpython, lambda folder, path: in_program(program, folder, path)):
-        with tempfile.TemporaryDirectory() as name:
-            folder = pathlib.Path(name).resolve()
-            plant(folder, files)
-            answers.append(run(folder, path))
-    return files, path, *answers
+    rounds = [([], ["main.py"])]
+    theirs = lambda is_alone: in_folder(files, lambda folder: in_cpython(folder, path, rounds, None, is_alone))
+    return files, path, theirs, in_folder(files, lambda folder: in_program(program, folder, path, ["main.py"]))
 
 
 def first_difference(wanted, came):
@@ -404,15 +406,18 @@ def main(both, description):
     words.add_argument("--show", action="store_true")
     given = words.parse_args()
     seeds = given.seeds or range(given.first, given.first + given.count)
-    others = []
+    others, by_rule = [], []
     for seed in seeds:
-        files, path, wanted, came = both(given.program.resolve(), seed)
+        files, path, theirs, came = both(given.program.resolve(), seed)
+        wanted = theirs(False)
         if given.show and given.seeds:
             show(files, path, wanted, came)
-        if wanted != came:
-            others.append(seed)
-            print(f"seed {seed}: {first_difference(wanted, came)}", flush=True)
-    print(f"{len(seeds)} seeds, {len(others)} that differ")
+        if wanted == came:
+            continue
+        is_rule = theirs(True) == came
+        (by_rule if is_rule else others).append(seed)
+        print(f"seed {seed}{', by the rule' if is_rule else ''}: {first_difference(wanted, came)}", flush=True)
+    print(f"{len(seeds)} seeds, {len(others)} that differ, {len(by_rule)} that differ by the rule alone")
     sys.exit(1 if others else 0)
 
 

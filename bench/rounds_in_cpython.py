@@ -7,23 +7,13 @@ PROGRAM is the path of the program: `pyimport` at the top, once it is built, or 
 each seed a tree is made as `random_in_cpython.py` makes it, with two to four rounds of one script each. Before a round
 files are put, removed and changed, files become folders and the other way round, and folders get another time or keep
 theirs. The program gets a rounds file. One process of CPython makes the same edits, sets the times of the folders, and
-runs the scripts one after another, each in a `__main__` of its own. Compared are what is printed, the lines of errors, and
-the status. Without seeds, N of them are taken from SEED on: 200 from 0. Prints each seed whose runs differ, with the first
-line that does, and how many were run. Exit status 1 where a seed differs.
-
-The program does not run rounds yet, so every seed differs: this waits for it.
-
-Left out is what `random_in_cpython.py` leaves out; and CPython keeps no finder for an entry that was no folder when it was
-first searched, until the caches are invalidated, where here each search looks anew: so that process forgets such entries
-between rounds.
+runs the scripts one after another, each in a `__main__` of its own (`cpython_runner.py`). Compared are what is printed, the
+lines of errors, and the status. Without seeds, N of them are taken from SEED on: 200 from 0. Prints each seed whose runs
+differ, with the first line that does, and how many were run. Exit status 1 where a seed differs, but by the rule that
+`random_in_cpython.py` tells of. Left out is what that script leaves out.
 """
-import json
 import os
-import pathlib
 import random
-import re
-import sys
-import tempfile
 
 import random_in_cpython as trees
 import rows_in_cpython
@@ -31,71 +21,6 @@ import rows_in_cpython
 FIRST_TIME = 1000
 # Never edited: the count of bodies, by which each run ends, and what may get the entry `None` and so imports nothing.
 KEPT = ["st", *trees.LEAVES]
-
-RUNNER = """import sys, importlib, unicodedata, json, os, shutil
-with open(sys.argv[1]) as plan:
-    entries, times, rounds = json.load(plan)
-sys.argv[1:] = []
-
-def clear(path):
-    if os.path.isdir(path):
-        shutil.rmtree(path)
-        for name in [name for name in times if name == path or name.startswith(path + "/")]:
-            del times[name]
-    elif os.path.exists(path):
-        os.remove(path)
-
-def make_folder(path):
-    if path and not os.path.isdir(path):
-        make_folder(os.path.dirname(path))
-        clear(path)
-        os.mkdir(path)
-        times[path] = 0
-
-def edit(kind, path, given):
-    if kind == "remove":
-        clear(path)
-        return
-    make_folder(os.path.dirname(path))
-    if kind == "dir":
-        make_folder(path)
-        times[path] = given
-    else:
-        clear(path)
-        with open(path, "w") as file:
-            file.write(given)
-
-def set_times():
-    for path, time in times.items():
-        os.utime(path or ".", (time, time))
-
-def forget_absent():
-    for name, finder in list(sys.path_importer_cache.items()):
-        if finder is None:
-            del sys.path_importer_cache[name]
-
-def run(script):
-    with open(script) as source:
-        code = compile(source.read(), script, "exec")
-    names = {"__name__": "__main__", "__file__": script, "__package__": None, "__spec__": None, "__builtins__": __builtins__}
-    try:
-        exec(code, names)
-    except Exception as error:
-        print(f"{script}: {type(error).__name__}" + (f": {error}" if str(error) else ""), file=sys.stderr)
-        return 1
-    return 0
-
-sys.path[:] = entries
-sys.path_importer_cache.clear()
-worst = 0
-for edits, script in rounds:
-    for it in edits:
-        edit(*it)
-    set_times()
-    forget_absent()
-    worst = max(worst, run(script))
-sys.exit(worst)
-"""
 
 
 def folders_of(files):
@@ -163,43 +88,32 @@ def spelled(rounds):
     return "".join(line + "\n" for line in lines)
 
 
-def plant(folder, files):
-    trees.plant(folder, files)
-    # (the time of the root can't be edited, and the rounds file stands in it)
-    for name in sorted(folders_of(files), reverse=True):
-        os.utime(folder / name, (FIRST_TIME, FIRST_TIME))
+def in_cpython(folder, path, rounds, times, is_alone):
+    rounds = [([(kind, at, as_bytes(given)) for kind, at, given in edits], [script]) for edits, script in rounds]
+    return trees.in_cpython(folder, path, rounds, times, is_alone)
 
 
-def in_cpython(folder, files, path, rounds):
-    times = {name: FIRST_TIME for name in folders_of(files)}
-    with tempfile.NamedTemporaryFile("w", suffix=".json") as plan:
-        json.dump([path.split(":"), times, rounds], plan)
-        plan.flush()
-        words = [sys.executable, *"-I -S -B -X utf8 -W ignore -c".split(), RUNNER, plan.name]
-        out, err, status = trees.answer(words, folder, str.strip)
-    # (the path of a namespace is written as a list here)
-    out = re.sub(r"_NamespacePath\((\[[^\]]*\])\)", r"\1", out)
-    return out.replace(f"{folder}/", ""), err.replace(f"{folder}/", ""), status
-
-
-def in_program(program, folder, path):
-    words = [program, "run", *([f"--path={path}"] if path else []), "--rounds", "r.txt"]
-    return trees.answer(words, folder, str.strip)
+def as_bytes(given):
+    return given.encode() if isinstance(given, str) else given
 
 
 def both(program, seed):
-    """The files, path and rounds of a seed, and what both make of them."""
+    """The files and the path of a seed, what CPython makes of them, alone or not, and what the program does."""
     files, path, rounds = made_of(random.Random(seed))
-    answers = []
-    for run in (
-        lambda folder: in_cpython(folder, files, path, rounds),
-        lambda folder: in_program(program, folder, path),
-    ):
-        with tempfile.TemporaryDirectory() as name:
-            folder = pathlib.Path(name).resolve()
-            plant(folder, {**files, "r.txt": spelled(rounds)})
-            answers.append(run(folder))
-    return {**files, "r.txt": spelled(rounds)}, path, *answers
+    files["r.txt"] = spelled(rounds)
+    times = {name: FIRST_TIME for name in folders_of(files)}
+
+    def in_folder(run):
+        def timed(folder):
+            # (the time of the root can't be edited, and the rounds file stands in it)
+            for name in sorted(times, reverse=True):
+                os.utime(folder / name, (FIRST_TIME, FIRST_TIME))
+            return run(folder)
+
+        return trees.in_folder(files, timed)
+
+    theirs = lambda is_alone: in_folder(lambda folder: in_cpython(folder, path, rounds, times, is_alone))
+    return files, path, theirs, in_folder(lambda folder: trees.in_program(program, folder, path, ["--rounds", "r.txt"]))
 
 
 if __name__ == "__main__":

@@ -2,9 +2,11 @@
 """Compares the rows of the tables that CPython can answer with the answers of the CPython that runs this script, 3.12.
 
 Values and names are evaluated; sources are tokenized and parsed, and what is printed of them must have the same tree;
-searches are made by importlib's PathFinder in folders that are made for them; whole calls are run as scripts, on the search
-path of their rows; the scripts of made workloads run in threads. Prints how many rows of each table were compared, and each
-row that is answered otherwise. Exit status 1 where there is one.
+searches are made by importlib's PathFinder in folders that are made for them; whole calls are run as scripts on the search
+path of their rows, several at once in threads, and rounds in one process that edits the files between them
+(`cpython_runner.py`); the scripts of made workloads run in threads. Where a row allows several answers CPython's must be one
+of these. Prints how many rows of each table were compared, and each row that is answered otherwise. Exit status 1 where
+there is one.
 """
 import ast
 import importlib
@@ -12,6 +14,7 @@ import importlib._bootstrap
 import importlib.machinery
 import io
 import keyword
+import marshal
 import os
 import pathlib
 import re
@@ -233,27 +236,17 @@ def search_rows():
 # Whole calls.
 
 OWN_TEXTS = "# Texts of this project's own"
-# Runs a script as CPython runs one that it is given, with these entries alone as search path. (`unicodedata` gives names
-# their normal form, and would be looked for on the search path, as `importlib` would.)
-RUNNER = """import sys, importlib, unicodedata
-entries, script = sys.argv[1:]
-sys.argv[1:] = []
-sys.path[:] = entries.split(":")
-sys.path_importer_cache.clear()
-names = vars(sys.modules["__main__"])
-with open(script, "rb") as source:
-    code = compile(source.read(), script, "exec")
-names["__file__"] = script
-for name in ("sys", "importlib", "unicodedata", "entries", "script", "source", "name"):
-    names.pop(name, None)
-exec(code, names)
-"""
+RUNNER = pathlib.Path(__file__).resolve().parent / "cpython_runner.py"
+SECONDS = 60
 OF_ITS_KIND = {"IndentationError": "SyntaxError", "TabError": "SyntaxError"}
 CALL = re.compile(
     r"(?:#.*\n)*row (?P<name>.*)\n(?P<files>(?:(?:file|dir|pieces) .*\n|[|/].*\n)*)"
-    r"words run (?:--path (?P<path>\S+) )?(?P<script>[^-\s]\S*)\nrun\n"
-    r"out\n(?P<out>(?:[|/] .*\n)*)(?:err\n(?P<err>(?:[|/] .*\n)*))?status (?P<status>\d)\n*"
+    r"words run (?:--path (?P<path>\S+) )?(?:--rounds (?P<rounds>\S+)|(?P<scripts>[^-\s]\S*(?: [^-\s]\S*)*))\n"
+    r"(?P<allowed>(?:allow .*\n)*)run(?: again and again -> as allowed.*)?\n"
+    r"(?:out\n(?P<out>(?:[|/] .*\n)*)(?:err\n(?P<err>(?:[|/] .*\n)*))?status (?P<status>\d)\n)?\n*"
 )
+# Rows of which the kind of the error alone is compared, beside those below a note that says so: why.
+BY_KIND = {"a first script that fails": "the text of a division by zero (`docs/differences.md`)"}
 
 
 def calls(table):
@@ -287,55 +280,99 @@ def contents(lines):
     )
 
 
-def last_error(told):
-    """The lines of an error that ended a script, behind those that say where it was."""
-    lines = told.rstrip("\n").split("\n")
-    places = [n for n, line in enumerate(lines) if line.startswith((" ", "Traceback"))]
-    return "\n".join(lines[max(places, default=-1) + 1 :])
+def edit_of(line):
+    """An edit of a rounds file."""
+    kind, path, *given = line.split(" ", 2)
+    if kind == "file":
+        return kind, path, bytes_of(given[0])
+    return kind, path, int(given[0]) if given else None
 
 
-def plant(folder, files):
-    """Makes the folders and files of a row."""
+def edits_of(files):
+    """The edits that make the folders and files of a row."""
+    edits = []
     for kind, one in re.findall(r"^(file|dir) ((?:.*\n)(?:[|/].*\n|pieces .*\n)*)", files, flags=re.M):
         path, lines = one.split("\n", 1)
         if kind == "dir":
-            (folder / path.split()[0]).mkdir(parents=True, exist_ok=True)
+            path, _, time = path.partition(" ")
+            edits.append((kind, path, int(time or 0)))
         else:
-            (folder / path).parent.mkdir(parents=True, exist_ok=True)
-            (folder / path).write_bytes(contents(lines))
+            edits.append((kind, path, contents(lines)))
+    return edits
+
+
+def rounds_of(text):
+    """The rounds of a rounds file, each with its edits and its scripts."""
+    rounds = []
+    for line in text.split("\n")[1:-1]:
+        if line == "round":
+            rounds.append(([], []))
+        elif line.startswith("script "):
+            rounds[-1][1].append(line.removeprefix("script "))
+        else:
+            rounds[-1][0].append(edit_of(line))
+    return rounds
+
+
+def run_in_cpython(folder, entries, rounds, times=None, is_alone=False):
+    """What CPython prints for rounds, the lines of errors, and its status.
+
+    Paths are told from the folder on, and locks without their addresses.
+    """
+    words = [sys.executable, *"-I -S -B -X utf8 -W ignore".split(), RUNNER, *(["alone"] if is_alone else [])]
+    plan = marshal.dumps((entries, times or {"": 0}, rounds))
+    try:
+        done = subprocess.run(words, cwd=folder, input=plan, capture_output=True, timeout=SECONDS)
+    except subprocess.TimeoutExpired:
+        return "", f"no answer in {SECONDS} seconds", "-1"
+    out, err = (text.decode().replace(f"{folder}/", "") for text in (done.stdout, done.stderr))
+    return out, re.sub(r"(_ModuleLock\('[\w.]+'\)) at \d+", r"\1", err), str(done.returncode)
 
 
 def run(folder, parts):
-    """What CPython prints for a call, the line of its error, and its status. Paths are told from the folder on."""
-    plant(folder, parts["files"])
-    script = parts["script"]
-    entries = os.path.dirname(script) if parts["path"] is None else parts["path"]
-    words = [sys.executable, *"-I -S -B -X utf8 -W ignore -c".split(), RUNNER, entries, script]
-    done = subprocess.run(words, cwd=folder, capture_output=True, encoding="utf-8")
-    told = last_error(done.stderr) if done.returncode else ""
-    out, err = (text.replace(f"{folder}/", "") for text in (done.stdout, told))
-    return out, err, str(done.returncode)
+    """What CPython makes of a call."""
+    edits = edits_of(parts["files"])
+    rounds = [([], (parts["scripts"] or "").split(" "))]
+    if parts["rounds"]:
+        texts = {path: given for kind, path, given in edits if kind == "file"}
+        rounds = rounds_of(texts[parts["rounds"]].decode())
+    rounds[0][0][:0] = edits
+    entries = os.path.dirname(rounds[0][1][0]) if parts["scripts"] and parts["path"] is None else parts["path"] or ""
+    return run_in_cpython(folder, entries.split(":"), rounds)
+
+
+def wanted_of(parts):
+    """What a call may come to, as rows tell it: output, errors, status."""
+    if parts["status"]:
+        return [(lines_of(parts["out"]), lines_of(parts["err"] or ""), parts["status"])]
+    allowed = re.findall(r'^allow ("(?:[^"\\]|\\.)*") ("(?:[^"\\]|\\.)*") (\d)$', parts["allowed"], flags=re.M)
+    return [(ast.literal_eval(out), ast.literal_eval(err), status) for out, err, status in allowed]
 
 
 def kind_alone(answer):
-    """An answer whose error is given by its kind alone."""
+    """An answer whose errors are given by their kinds alone."""
     out, err, status = answer
-    kind = err.split(":")[0]
-    return out, OF_ITS_KIND.get(kind, kind), status
+    kinds = re.findall(r"^(\S+): (\w+)", err, flags=re.M)
+    return out, [(script, OF_ITS_KIND.get(kind, kind)) for script, kind in kinds], status
+
+
+def is_own(answer):
+    """Whether only this project comes to such an answer."""
+    _, err, status = answer
+    return status not in "01" or any(word in err for word in ("ProfileError", "source is longer"))
 
 
 def call_rows(table):
     for notes, parts in calls(table):
-        err = lines_of(parts["err"] or "").removesuffix("\n").removeprefix(f"{parts['script']}: ")
-        own = parts["status"] not in "01" or any(word in err for word in ("ProfileError", "source is longer"))
-        if own or notes.startswith(OWN_RULES):
+        wanted = wanted_of(parts)
+        # (CPython has no module `pyimport`)
+        if any(map(is_own, wanted)) or notes.startswith(OWN_RULES) or "import pyimport" in parts["files"]:
             continue
         with tempfile.TemporaryDirectory() as folder:
-            wanted = lines_of(parts["out"]), err, parts["status"]
             answered = run(pathlib.Path(folder).resolve(), parts)
-        if notes.startswith(OWN_TEXTS):
-            wanted, answered = kind_alone(wanted), kind_alone(answered)
-        yield parts["name"], wanted, answered
+        if notes.startswith(OWN_TEXTS) or parts["name"] in BY_KIND:
+            wanted, answered = [*map(kind_alone, wanted)], kind_alone(answered)
+        yield parts["name"], answered if answered in wanted else wanted, answered
 
 
 def run_rows():

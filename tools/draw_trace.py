@@ -1,12 +1,13 @@
 #!/usr/bin/env python3
-"""Draws a trace as a picture: tools/draw_trace.py [--rounds FILE] TRACE > PICTURE.svg
+"""Draws a trace as a picture: tools/draw_trace.py [--rounds FILE] [--at LINE] TRACE > PICTURE.svg
 
 A trace is what `pyimport run --trace` writes (docs/trace.md). Time goes down, a row for each event that is drawn, and each
 script has a column. The body of a script or a module is a bar, from its first event to its last. An import is an arrow
 from the body that imports: to the bar of the body that it begins, back to the bar of a body that is not done yet, or to
 the name of a module that the cache has. A wait is a hatched bar, with an arrow to the body that has to end first. What is
 printed stands beside the body that prints it. With the rounds file of the run a line across the picture stands before each
-round, with what was edited there. Needs Python 3 alone.
+round, with what was edited there. With the number of a line, as `pyimport check` tells it, a coloured row stands before the
+entry of that line and shows it; for the line behind the last one, beside each script that has not ended. Needs Python 3 alone.
 """
 import html
 import re
@@ -26,6 +27,8 @@ line { stroke: #333; stroke-width: 1.4 } .back { stroke-dasharray: 5 3 } .alarm 
 .lane { stroke: #ddd } .ring { fill: none; stroke: #c0392b; stroke-width: 2 }
 """
 
+AT_STYLE = """rect.at { fill: #ffe3a3 } text.at { stroke: #ffe3a3; font-family: monospace; font-size: 12px }
+"""
 CUT_STYLE = """.cut { stroke: #7a8794; stroke-dasharray: 2 4 } text.cut { stroke: #fff; stroke-dasharray: none }
 """
 
@@ -152,12 +155,14 @@ class Picture:
             self.begun += 1
             self.row += 2
 
-    def entry(self, number, words, reply):
-        """One entry: the words of its event, and those of its reply."""
+    def entry(self, number, words, reply, pointed=""):
+        """One entry: the words of its event, and those of its reply. `pointed` is what is said of it where it is marked."""
         self.cut(number)
         thread = self.threads.setdefault(number, Thread(number))
         if not thread.open:
             self.begin(thread, f"script {number}", "script")
+        if pointed:
+            self.mark(thread, "at", pointed)
         for word in reply:
             for found in re.findall(r'module\(\d+,(?:"(?:[^"\\]|\\.)*"|[^",]+),', word):
                 module, name = module_of(found + "_)")
@@ -165,6 +170,12 @@ class Picture:
         event = getattr(self, "on_" + words[0], None)
         if event:
             event(thread, words[1:], reply)
+
+    def point_behind(self, line):
+        """Marks the line behind the last one, beside each script that has not ended."""
+        for thread in self.threads.values():
+            if thread.open[0].last is None:
+                self.mark(thread, "at", f"line {line}: an entry is missing")
 
     def on_ask(self, thread, words, reply):
         name, kind = words[0], reply[0]
@@ -264,19 +275,24 @@ class Picture:
         script.last, script.kind = self.row, script.kind if words[0] == "normal" else "bad"
 
 
-def read(text, rounds=()):
-    """The picture of a trace, with the rounds of its run."""
+def read(text, rounds=(), pointed=None):
+    """The picture of a trace, with the rounds of its run, and with a mark at one of its lines."""
     lines = text.split("\n")
     if lines[0] not in ("pyimport-trace 1", "pyimport-trace 2"):
         raise Refused("line 1: this is no trace")
+    if pointed is not None and not 2 <= pointed <= len(lines):
+        raise Refused(f"line {pointed}: the trace has no such entry")
     picture = Picture(rounds)
     for at, line in enumerate(lines[1:-1], 2):
         try:
             words = fields(line)
             arrow = words.index("->")
-            picture.entry(int(words[0]), words[1:arrow], words[arrow + 1 :])
+            told = f"line {at}: {line}" if at == pointed else ""
+            picture.entry(int(words[0]), words[1:arrow], words[arrow + 1 :], told)
         except (Refused, ValueError, IndexError) as why:
             raise Refused(f"line {at}: {why}") from why
+    if pointed == len(lines):
+        picture.point_behind(pointed)
     return picture
 
 
@@ -351,12 +367,18 @@ class Drawing:
         if text:
             self.write(beside, row, text, kind)
 
+    def draw_band(self, row):
+        self.put(f'<rect class="at" x="0" y="{self.y(row) - ROW // 2}" width="{self.width}" height="{ROW}"/>')
+
     def draw_cut(self, row, text):
         y = self.y(row + 1) - ROW // 2
         self.put(f'<line class="cut" x1="4" y1="{y}" x2="{self.width - 4}" y2="{y}"/>')
         self.put(f'<text class="cut" x="{LEFT}" y="{y - 6}">{html.escape(shown(text))}</text>')
 
     def svg(self):
+        for row, _, kind, _, _ in self.picture.marks:
+            if kind == "at":
+                self.draw_band(row)
         for number, x in self.at.items():
             self.put(f'<line class="lane" x1="{x - 12}" y1="16" x2="{x - 12}" y2="{self.height - 12}"/>')
         for cut in self.picture.cuts:
@@ -376,22 +398,35 @@ class Drawing:
         head = '<marker id="head" markerWidth="8" markerHeight="8" refX="7" refY="4" orient="auto"><path d="M0 0 L8 4 L0 8 z" fill="#333"/></marker>'
         yield f'<svg xmlns="http://www.w3.org/2000/svg" width="{self.width}" height="{self.height}" viewBox="0 0 {self.width} {self.height}" role="img">'
         yield "<title>The imports of a run</title>"
-        yield f"<style>{STYLE}{CUT_STYLE if self.picture.cuts else ''}</style><defs>{hatch}{head}</defs>"
+        is_pointed = any(mark[2] == "at" for mark in self.picture.marks)
+        styles = STYLE + (CUT_STYLE if self.picture.cuts else "") + (AT_STYLE if is_pointed else "")
+        yield f"<style>{styles}</style><defs>{hatch}{head}</defs>"
         yield f'<rect width="{self.width}" height="{self.height}" fill="#fff"/>'
 
 
+def given(words):
+    """The rounds file or None, the line or None, and the trace that the words name."""
+    options = {}
+    while len(words) > 2 and words[0] in ("--rounds", "--at") and words[0] not in options:
+        option, value, *words = words
+        options[option] = value
+    line = options.get("--at")
+    if len(words) != 1 or line is not None and not line.isdigit():
+        sys.exit("usage: tools/draw_trace.py [--rounds FILE] [--at LINE] TRACE > PICTURE.svg")
+    return options.get("--rounds"), None if line is None else int(line), words[0]
+
+
+def contents(name):
+    with open(name, encoding="utf-8", newline="\n") as file:
+        return file.read()
+
+
 def main(words):
-    has_rounds = len(words) == 3 and words[0] == "--rounds"
-    if not has_rounds and len(words) != 1:
-        sys.exit("usage: tools/draw_trace.py [--rounds FILE] TRACE > PICTURE.svg")
+    rounds, line, trace = given(words)
     try:
-        texts = []
-        for name in words[has_rounds:]:
-            with open(name, encoding="utf-8", newline="\n") as file:
-                texts.append(file.read())
-        picture = read(texts[-1], rounds_in(texts[0]) if has_rounds else ())
+        picture = read(contents(trace), rounds_in(contents(rounds)) if rounds else (), line)
     except (OSError, UnicodeDecodeError, IndexError, Refused) as why:
-        sys.exit(f"draw_trace: {words[-1]}: {why}")
+        sys.exit(f"draw_trace: {trace}: {why}")
     sys.stdout.write(Drawing(picture).svg())
 
 

@@ -5,6 +5,7 @@ mod Framing
 mod Stepping
 mod Making
 mod Turning
+mod Starting
 mod Leading
 mod Finding
 mod Whole

@@ -1,5 +1,5 @@
 -- From where a script stands to where it stands after a turn.
-use Rattle.std.proofs.Common.{◌≡◌, ℕ, List, [], codes, Option, None, Result, IfOk, sym, ◌∙◌, subst, false}
+use Rattle.std.proofs.Common.{◌≡◌, ℕ, List, [], Option, None, Result, IfOk, sym, ◌∙◌, subst, false}
 use Rattle.std.proofs.lemmas.Result.{IfOk-weaker}
 use Rattle.tree_files.specs.Files.{Files}
 use Rattle.machine_events.specs.declared.event.Event.{Event}
@@ -9,30 +9,27 @@ use Rattle.meaning_runs.specs.Runs.{Run, Safe, StandsIn}
 use Rattle.meaning_runs.proofs.Stand.{stands_start, safe_stands, in_some}
 use Rattle.drive_port.specs.View.{View, Stays}
 use Rattle.drive_port.specs.declared.port.Halt.{Halt}
-use Rattle.meaning_script.specs.Meaning.{meaning, first_state}
-use Rattle.step_calls.specs.Sources.{sources}
-use Rattle.py_frames.specs.Does.{want_does, rest}
-use Rattle.py_frames.specs.declared.work.Item.TheVariants.{Start}
 use Rattle.py_frames.specs.declared.want.Want.{Want}
-use Rattle.py_frames.specs.declared.want.Want.TheVariants as want
 use Rattle.drive_account.specs.Ending.{Holds}
 use Rattle.drive_account.specs.At.{At}
 use Rattle.drive_search.specs.Asking.{Refused, RefusedAt, Parted}
 use Rattle.drive_loop.specs.Turns.{After, Turned, Stepped, Stood, remains}
 use Rattle.drive_loop.specs.Overs.{Begun, Fresh}
+use Rattle.drive_loop.specs.Starts.{StartsAs}
 use Rattle.drive_loop.specs.declared.course.Course.{Course}
 use Rattle.drive_loop.specs.declared.course.Turn.{Turn}
 use Rattle.drive_account.specs.declared.purse.Purse.{Purse}
 
-starts_at : (files : Option Files) (script fuel : ℕ) (text : List ℕ)
-    → At files (meaning sources script text) fuel [] (record { budget = fuel; read = None; of_tree = false }) (want_does sources 200 (want.Then (Start script script (codes "__main__") text)) (rest sources []) (first_state script))
-unfolding meaning
-starts_at files script fuel text = record { stands = stands_start (meaning sources script text) fuel; unread = tt }
+-- at first a thread stands at the start of its meaning
+pub begins : (files : Option Files) (t fuel : ℕ) (whole : Run) (w : Want) (mine : List (Event × Reply)) (c : Course) → mine ≡ [] → Fresh t fuel c → StartsAs t whole w
+    → At files whole fuel mine c.purse (remains c w)
+begins files t fuel whole w mine c none fresh starts =
+    rw none (rw fresh.purse (subst (λ (run : Run). At files whole fuel [] (record { budget = fuel; read = None; of_tree = false }) run) (sym (starts fuel c fresh))
+    (record { stands = stands_start whole fuel; unread = tt })))
 
--- at first a script stands at the start of its meaning
-pub begins : (files : Option Files) (script fuel : ℕ) (text : List ℕ) (mine : List (Event × Reply)) (c : Course) → mine ≡ [] → Fresh script fuel c
-    → At files (meaning sources script text) fuel mine c.purse (remains c (want.Then (Start script script (codes "__main__") text)))
-begins files script fuel text mine c none fresh = rw none (rw fresh.purse (rw fresh.thread (rw fresh.work (starts_at files script fuel text))))
+-- and stands somewhere, even where nothing is wanted yet
+pub stands_first : (files : Option Files) (whole : Run) (fuel : ℕ) (mine : List (Event × Reply)) → mine ≡ [] → StandsIn files whole fuel mine
+stands_first files whole fuel mine none = rw none (in_some (stands_start {files = files} whole fuel))
 
 pub holds_first : {S : Type 0} (v : View S) (script fuel : ℕ) (c : Course) → v.mine ≡ [] → Fresh script fuel c → Holds v c.held
 holds_first v script fuel c none fresh = rw none fresh.held

@@ -1,26 +1,25 @@
-//! The loop that does the work of a script.
-ghost use Rattle.std.specs.Prelude.{◌≡◌, [], None, codes, IfOk, OnOk, OnErr, IsErrOf};
+//! The loop that does the work of a thread.
+ghost use Rattle.std.specs.Prelude.{IfOk, OnOk, OnErr, IsErrOf};
 ghost use Rattle.machine_shown.specs.Shown.{shown_first};
 ghost use Rattle.meaning_runs.specs.Runs.{Safe, StandsIn};
 ghost use Rattle.drive_port.specs.View.{View, Stays};
-ghost use Rattle.meaning_script.specs.Meaning.{meaning};
-ghost use Rattle.step_calls.specs.Sources.{sources};
 ghost use Rattle.drive_account.specs.Ending.{Holds};
 ghost use Rattle.drive_search.specs.Asking.{RefusedAt, Asked, AllKept};
 ghost use Rattle.drive_loop.specs.Overs.{Begun, Fresh, Overs};
+ghost use Rattle.drive_loop.specs.Starts.{started};
 
 use crate::course::{Course, Turn};
+use crate::start::{Start, first_want};
 use crate::turn::give;
-use base_types::{Seq, Text};
 use drive_account::{Held, Purse};
 use drive_port::{Halt, Port};
 use meaning_state::{Flow, Scope, Stack, State, Thread};
-use py_frames::{Item, Want, Work};
+use py_frames::Work;
 use spec_core::NumberMap;
 use std::alloc::Global;
 use tree_files::Tree;
 
-/// How the work of a script is over.
+/// How the work of a thread is over.
 #[derive(Drop)]
 pub enum Over {
     /// No work is left.
@@ -63,41 +62,37 @@ impl Course {
     }
 }
 
-/// Runs the body of a script to its end, in the module of this name.
+/// Runs a thread to its end, but for what it still holds and its End event.
 ///
 /// A count of the turns that would pass the end of its type is want of memory.
-fn go<P: Port, T: Tree>(
+pub fn run<P: Port, T: Tree>(
     alloc: Global,
     port: &mut P,
     tree: &mut T,
     course: &mut Course,
     script: u32,
-    name: Text,
-    text: Seq<u8>,
+    start: Start,
     fuel: u64,
 ) -> Result<Over, Halt>
-    requires name { name ≡ codes "__main__" }
     requires begun { Begun (P.view port.old) script }
     requires fresh { Fresh script fuel course.old }
-    requires safe { Safe (shown_first script) (meaning sources script text) }
+    requires safe { Safe (shown_first script) (started script start) }
     ensures stays { Stays (P.view port.old) (P.view port.new) }
     ensures over { IfOk result (Overs (T.files tree.old) (T.faults tree.old) (T.faults tree.new)
-        (meaning sources script text) fuel (P.view port.new).mine) }
+        (started script start) fuel (P.view port.new).mine) }
     ensures holds { OnOk result (Holds (P.view port.new) course.new.held) }
-    ensures part { OnErr result (StandsIn (T.files tree.old) (meaning sources script text) fuel
+    ensures part { OnErr result (StandsIn (T.files tree.old) (started script start) fuel
         (P.view port.new).mine) }
     ensures refused { IsErrOf result Halt.Refused → RefusedAt (P.view port.new) (T.files tree.old)
-        (meaning sources script text) fuel }
+        (started script start) fuel }
     ensures asked { Asked (T.files tree.old) (T.files tree.new) (T.faults tree.old) (T.faults tree.new) }
     ensures kept { OnOk result (AllKept (T.lists tree.old) (T.lists tree.new) (P.view port.old).mine
         (P.view port.new).mine) }
 {
-    let mut want = Want::Then(Item::Start {
-        mid: script,
-        load: script,
-        name,
-        text,
-    });
+    let mut want = match first_want(alloc, script, start) {
+        Ok(want) => want,
+        Err(_) => return Err(Halt::NoMemory),
+    };
     let mut turns: u64 = 0;
     'turns: loop {
         if turns == u64::MAX {
@@ -118,40 +113,6 @@ fn go<P: Port, T: Tree>(
                 });
             }
             Turn::Unread(left) => return Ok(Over::Unread(left)),
-        }
-    }
-}
-
-/// Runs a script to its end, but for what it still holds and its End event.
-pub fn run<P: Port, T: Tree>(
-    alloc: Global,
-    port: &mut P,
-    tree: &mut T,
-    course: &mut Course,
-    script: u32,
-    text: Seq<u8>,
-    fuel: u64,
-) -> Result<Over, Halt>
-    requires begun { Begun (P.view port.old) script }
-    requires fresh { Fresh script fuel course.old }
-    requires safe { Safe (shown_first script) (meaning sources script text) }
-    ensures stays { Stays (P.view port.old) (P.view port.new) }
-    ensures over { IfOk result (Overs (T.files tree.old) (T.faults tree.old) (T.faults tree.new)
-        (meaning sources script text) fuel (P.view port.new).mine) }
-    ensures holds { OnOk result (Holds (P.view port.new) course.new.held) }
-    ensures part { OnErr result (StandsIn (T.files tree.old) (meaning sources script text) fuel
-        (P.view port.new).mine) }
-    ensures refused { IsErrOf result Halt.Refused → RefusedAt (P.view port.new) (T.files tree.old)
-        (meaning sources script text) fuel }
-    ensures asked { Asked (T.files tree.old) (T.files tree.new) (T.faults tree.old) (T.faults tree.new) }
-    ensures kept { OnOk result (AllKept (T.lists tree.old) (T.lists tree.new) (P.view port.old).mine
-        (P.view port.new).mine) }
-{
-    match Text::from_str(alloc, "__main__") {
-        Ok(name) => go(alloc, port, tree, course, script, name, text, fuel),
-        Err(_) => {
-            drop(text);
-            Err(Halt::NoMemory)
         }
     }
 }

@@ -1,4 +1,4 @@
-//! A whole script, on a port.
+//! A whole thread, on a port.
 ghost use Rattle.std.specs.Prelude.{◌≡◌, ◌≤◌, ◌+◌, Some, IfOk, OnOk, OnErr};
 ghost use Rattle.tree_files.specs.Count.{Rose};
 ghost use Rattle.tree_files.specs.Files.{Files};
@@ -8,49 +8,48 @@ ghost use Rattle.meaning_runs.specs.Follows.{Follows};
 ghost use Rattle.meaning_runs.specs.Lists.{lists_in, ends_in};
 ghost use Rattle.drive_port.specs.View.{View, Stays};
 ghost use Rattle.drive_account.specs.Ending.{outcome, IsRead, Ended, Broken};
-ghost use Rattle.meaning_script.specs.Meaning.{meaning};
-ghost use Rattle.step_calls.specs.Sources.{sources};
 ghost use Rattle.drive_search.specs.Asking.{Asked};
 ghost use Rattle.drive_loop.specs.Overs.{Begun};
+ghost use Rattle.drive_loop.specs.Starts.{started};
 
 use crate::course::Course;
 use crate::drive::{Over, run};
-use base_types::Seq;
+use crate::start::Start;
 use drive_account::{Ending, came, spent, unread};
 use drive_port::{Halt, Port};
 use std::alloc::Global;
 use tree_files::Tree;
 
-/// Runs a script on a port, over a tree, and makes its End event.
+/// Runs a script, or a module as a program, on a port, over a tree, and makes its End event.
 ///
-/// The events are those of the script's meaning with this fuel, each once and in order, on the
-/// replies that come. `Read` comes only where a call of the tree failed. A directory is listed at
+/// The events are those of its meaning with this fuel, each once and in order, on the replies that
+/// come. `Read` comes only where a call of the tree failed. A directory is listed at
 /// most once for each listing that the events keep. Where memory is wanted there is no End.
-pub fn run_script_on<P: Port, T: Tree>(
+pub fn run_on<P: Port, T: Tree>(
     alloc: Global,
     port: &mut P,
     tree: &mut T,
     script: u32,
-    text: Seq<u8>,
+    start: Start,
     fuel: u64,
 ) -> Result<Ending, Halt>
     requires begun { Begun (P.view port.old) script }
-    requires safe { Safe (shown_first script) (meaning sources script text) }
+    requires safe { Safe (shown_first script) (started script start) }
     ensures stays { Stays (P.view port.old) (P.view port.new) }
     ensures asked { Asked (T.files tree.old) (T.files tree.new) (T.faults tree.old) (T.faults tree.new) }
     ensures lists { OnOk result (T.lists tree.new ≤ T.lists tree.old + lists_in (P.view port.new).mine) }
     ensures goes_on { OnErr result (ends_in (P.view port.new).mine ≡ 0) }
     ensures ended { IfOk result (λ ending. Ended (P.view port.new).mine (outcome ending)) }
     ensures follows { (files : Files) → T.files tree.old ≡ Some files
-        → IfOk result (λ ending. Follows files script (meaning sources script text) fuel (P.view port.new).mine
+        → IfOk result (λ ending. Follows files script (started script start) fuel (P.view port.new).mine
         (outcome ending)) }
     ensures part { (files : Files) → T.files tree.old ≡ Some files
-        → OnErr result (Broken files script (meaning sources script text) fuel (P.view port.new).mine
+        → OnErr result (Broken files script (started script start) fuel (P.view port.new).mine
         (T.faults tree.old) (T.faults tree.new)) }
     ensures read { IfOk result (λ ending. IsRead ending → Rose (T.faults tree.old) (T.faults tree.new)) }
 {
     let mut course = Course::first(alloc, script, fuel);
-    let over = match run(alloc, port, tree, &mut course, script, text, fuel) {
+    let over = match run(alloc, port, tree, &mut course, script, start, fuel) {
         Ok(over) => over,
         Err(halt) => return Err(halt),
     };

@@ -11,9 +11,9 @@ use Rattle.trace_book.specs.Told.{TableId, Told, new_pass, new_passes, sight_of,
 use Rattle.trace_book.specs.Views.{base_of}
 use Rattle.trace_book.specs.declared.view.Base.{Base}
 use Rattle.trace_book.specs.declared.place.Place.{Place}
-use Rattle.drive_round.specs.Ran.{Results, Counts, counted, no_counts, Ran, Runs, MayBegin}
+use Rattle.drive_round.specs.Ran.{Results, counted, no_counts, IsNewTree, Ran, Runs, MayBegin}
 use Rattle.drive_round.specs.declared.worker.Worker.{Worker}
-use Rattle.drive_round.specs.Workers.{Facts, facts, IsNew, AllNew, HasWorked, AllWork, Descends, IsFork, IsSeated, AllSeated, SeatedAt, RanAt, Works, Gathers, Gathered}
+use Rattle.drive_round.specs.Workers.{Facts, facts, IsNew, AllNew, HasWorked, AllWork, Descends, IsSeated, AllSeated, SeatedAt, RanAt, Works, Gathers, Gathered}
 use Rattle.meaning_runs.specs.Runs.{Run}
 use Rattle.drive_round.proofs.Places.{all-at, zip-length, descends-below, descends-all, descends-zip}
 
@@ -39,11 +39,11 @@ mapped-at f (y ∷ xs) zero x e = ap (λ z. Some (f z)) (some-inj y x e)
 mapped-at f (y ∷ xs) (suc k) x e = mapped-at f xs k x e
 
 -- a worker that was seated over new passes and new forks
-pub seated-at : {T P : Type 0} (run : P → ℕ → Run) (files : T → Option Files) (faults lists : T → ℕ) (table : TableId) (base : Base) (from n : ℕ) (programs : List P) (forks : List T) (tree : T)
-    → All (IsFork files faults lists tree) forks → (k : ℕ) (w : Worker T P) → k < n → IsSeated (new_passes table base from n) programs forks from k w
-    → SeatedAt table base (files tree) from (map run programs) k (facts run files faults lists w)
-seated-at run files faults lists table base from n programs forks tree all k w lt seat =
-    let fork = all-at (IsFork files faults lists tree) forks k w.tree (recursion_from_All _ forks all) seat.forks_at in
+pub seated-at : {T P : Type 0} (run : P → ℕ → Run) (files : T → Option Files) (faults lists : T → ℕ) (table : TableId) (base : Base) (from n : ℕ) (programs : List P) (forks : List T) (all_told : Option Files)
+    → All (IsNewTree files faults lists all_told) forks → (k : ℕ) (w : Worker T P) → k < n → IsSeated (new_passes table base from n) programs forks from k w
+    → SeatedAt table base all_told from (map run programs) k (facts run files faults lists w)
+seated-at run files faults lists table base from n programs forks all_told all k w lt seat =
+    let fork = all-at (IsNewTree files faults lists all_told) forks k w.tree (recursion_from_All _ forks all) seat.forks_at in
     record {
       pass = sym seat.passes_at ∙ passes-at table base from n k lt;
       number = seat.numbered;
@@ -94,7 +94,7 @@ length-new table base t zero = refl
 length-new table base t (suc n) = ap suc (length-new table base (suc t) n)
 
 module _ {O T P : Type 0} (out : O → Outgo) (run : P → ℕ → Run) (files : T → Option Files) (faults lists : T → ℕ)
-    (book : BoundTo O) (table : TableId) (from n : ℕ) (programs : List P) (forks : List T) (tree : T) where
+    (book : BoundTo O) (table : TableId) (from n : ℕ) (programs : List P) (forks : List T) (all_told : Option Files) where
   abbrev pub start : Base
   start = base_of out (book, from, n)
 
@@ -102,40 +102,40 @@ module _ {O T P : Type 0} (out : O → Outgo) (run : P → ℕ → Run) (files :
   seen = facts run files faults lists
 
   -- all workers, seated over new passes and new forks
-  pub seats : (passes : List Told) (ws : List (Worker T P)) → All (IsFork files faults lists tree) forks → passes ≡ new_passes table start from n
-      → AllSeated passes programs forks from ws → Descends (λ k w. SeatedAt table start (files tree) from (map run programs) k (seen w)) n ws
+  pub seats : (passes : List Told) (ws : List (Worker T P)) → All (IsNewTree files faults lists all_told) forks → passes ≡ new_passes table start from n
+      → AllSeated passes programs forks from ws → Descends (λ k w. SeatedAt table start all_told from (map run programs) k (seen w)) n ws
   seats passes ws all is seated =
       let size : length passes ≡ n = ap length is ∙ length-new table start from n in
       let new : Descends (IsSeated (new_passes table start from n) programs forks from) n ws =
       subst (λ (p : List Told × ℕ). Descends (IsSeated p.0 programs forks from) p.1 ws) (λ i. (is i, size i)) seated in
-      descends-below _ _ n ws (λ k w lt seat. seated-at run files faults lists table start from n programs forks tree all k w lt seat) new
+      descends-below _ _ n ws (λ k w lt seat. seated-at run files faults lists table start from n programs forks all_told all k w lt seat) new
 
-  pub seats-are-new : (passes : List Told) (ws : List (Worker T P)) → All (IsFork files faults lists tree) forks → passes ≡ new_passes table start from n
+  pub seats-are-new : (passes : List Told) (ws : List (Worker T P)) → All (IsNewTree files faults lists all_told) forks → passes ≡ new_passes table start from n
       → AllSeated passes programs forks from ws → MayBegin book from n → AllNew table seen ws
   seats-are-new passes ws all is seated may =
-      descends-all _ (λ w. IsNew table (seen w)) n (λ k w lt seat. seat-is-new out book table (files tree) from n (map run programs) k (seen w) may lt seat) ws (seats passes ws all is seated)
+      descends-all _ (λ w. IsNew table (seen w)) n (λ k w lt seat. seat-is-new out book table all_told from n (map run programs) k (seen w) may lt seat) ws (seats passes ws all is seated)
 
-  pub seats-have-run : (fuel : ℕ) (passes : List Told) (olds news : List (Worker T P)) → All (IsFork files faults lists tree) forks → passes ≡ new_passes table start from n
+  pub seats-have-run : (fuel : ℕ) (passes : List Told) (olds news : List (Worker T P)) → All (IsNewTree files faults lists all_told) forks → passes ≡ new_passes table start from n
       → AllSeated passes programs forks from olds → AllWork fuel seen olds news
-      → Descends (λ k w. RanAt table start (files tree) from (map run programs) fuel k (seen w)) n news
+      → Descends (λ k w. RanAt table start all_told from (map run programs) fuel k (seen w)) n news
   seats-have-run fuel passes olds news all is seated work =
-      descends-zip _ _ _ (λ k old new seat works. seat-has-run table start (files tree) from (map run programs) fuel k (seen old) (seen new) seat works) n olds news (seats passes olds all is seated) work
+      descends-zip _ _ _ (λ k old new seat works. seat-has-run table start all_told from (map run programs) fuel k (seen old) (seen new) seat works) n olds news (seats passes olds all is seated) work
 
   pub as-many : (fuel : ℕ) (passes : List Told) (olds news : List (Worker T P)) → passes ≡ new_passes table start from n → length olds ≡ length passes
       → AllWork fuel seen olds news → length news ≡ n
   as-many fuel passes olds news is size work = zip-length (Works fuel seen) olds news work ∙ (size ∙ (ap length is ∙ length-new table start from n))
 
   -- their passes are gathered to what they are of this round
-  pub seats-are-gathered : (fuel : ℕ) (passes : List Told) (olds news : List (Worker T P)) (old new : T) (pass : Told) (results : Results) → All (IsFork files faults lists tree) forks
+  pub seats-are-gathered : (fuel : ℕ) (passes : List Told) (olds news : List (Worker T P)) (pass : Told) (trees : List T) (results : Results) → All (IsNewTree files faults lists all_told) forks
       → passes ≡ new_passes table start from n → AllSeated passes programs forks from olds → length olds ≡ length passes → AllWork fuel seen olds news
-      → counted faults lists old ≡ counted faults lists tree → Gathers table seen (counted faults lists) news old new pass results
-      → Gathered table start (files tree) from (map run programs) fuel (counted faults lists tree) n pass (counted faults lists new) results
-  seats-are-gathered fuel passes olds news old new pass results all is seated size work same gathers =
+      → Gathers table seen (counted faults lists) news pass trees results
+      → Gathered table start all_told from (map run programs) fuel n pass (map (counted faults lists) trees) results
+  seats-are-gathered fuel passes olds news pass trees results all is seated size work gathers =
       let many : length news ≡ n = as-many fuel passes olds news is size work in
       let ran = seats-have-run fuel passes olds news all is seated work in
-      let Ran : ℕ → Worker T P → Type 0 = λ k w. RanAt table start (files tree) from (map run programs) fuel k (seen w) in
-      let it = gathers start (files tree) from (map run programs) fuel (subst (λ m. Descends Ran m news) (sym many) ran) in
-      subst (λ (p : Counts × ℕ). Gathered table start (files tree) from (map run programs) fuel p.0 p.1 pass (counted faults lists new) results) (λ i. (same i, many i)) it
+      let Ran : ℕ → Worker T P → Type 0 = λ k w. RanAt table start all_told from (map run programs) fuel k (seen w) in
+      let it = gathers start all_told from (map run programs) fuel (subst (λ m. Descends Ran m news) (sym many) ran) in
+      subst (λ (m : ℕ). Gathered table start all_told from (map run programs) fuel m pass (map (counted faults lists) trees) results) many it
 
 -- what has run has its pass
 pub passes-are-there : {W : Type 0} (seen : W → Facts) (table : TableId) (base : Base) (files : Option Files) (from : ℕ) (runs : Runs) (fuel n : ℕ) (ws : List W)

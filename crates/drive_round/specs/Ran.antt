@@ -1,5 +1,6 @@
 -- How the programs of a round ran, each in a thread of its own.
 use Rattle.std.specs.Prelude.{◌≡◌, ◌≤◌, ℕ, zero, suc, ◌+◌, List, [], ◌∷◌, fold, length, Option, Some, Result, IfOk, OnOk, OnErr}
+use Rattle.std.specs.List.{All}
 use Rattle.base_types.specs.declared.no_memory.NoMemory.{NoMemory}
 use Rattle.tree_files.specs.Count.{Rose, raised}
 use Rattle.tree_files.specs.Files.{Files}
@@ -43,9 +44,14 @@ no_counts = record { faults = 0; lists = 0 }
 abbrev pub absorbed : Counts → Counts → Counts
 absorbed old fork = record { faults = raised old.faults fork.faults; lists = raised old.lists fork.lists }
 
--- a tree took in a fork
-abbrev pub Absorbs : {T : Type 0} → (T → ℕ) → (T → ℕ) → T → T → T → Type 0
-Absorbs faults lists old new fork = counted faults lists new ≡ absorbed (counted faults lists old) (counted faults lists fork)
+-- a tree tells these files, and has counted nothing
+abbrev pub IsNewTree : {T : Type 0} → (T → Option Files) → (T → ℕ) → (T → ℕ) → Option Files → T → Type 0
+IsNewTree files faults lists told tree = (files tree ≡ told) × (faults tree ≡ 0) × (lists tree ≡ 0)
+
+-- trees tell the same files, and have counted nothing
+pub record AreNewTrees {T : Type 0} (files : T → Option Files) (faults lists : T → ℕ) (trees : List T) : Type 0 where
+  pub told : Option Files
+  pub all : All (IsNewTree files faults lists told) trees
 
 -- thread t ran over this tree with this fuel, which made these pairs of it: with an
 -- ending they are those of its meaning up to its End, and `Read` comes only where a
@@ -84,6 +90,14 @@ AllRan tree t (run ∷ runs) fuel history (new ∷ counts) (result ∷ results) 
 abbrev pub MayBegin : {O : Type 0} → BoundTo O → ℕ → ℕ → Type 0
 MayBegin book t zero = Unit {0}
 MayBegin book t (suc n) = Ready book.opening.rounds book.history t × (own t book.history ≡ []) × MayBegin book (suc t) n
+
+-- threads ran on a book, each over a tree of its own with these files, which then had counted this: the history, which
+-- is legal, gained entries of these threads alone, the outlet kept up with them, and each thread has run
+pub record ThreadsRan {O : Type 0} (piece : Pieces) (out : O → Outgo) (tree : Option Files) (from : ℕ) (runs : Runs)
+    (fuel : ℕ) (before after : BoundTo O) (counts : List Counts) (results : Results) : Type 0 where
+  pub written : Written piece out (base_of out (before, from, length runs)) after.history after
+  pub legal : IsLegal after.opening after.history
+  pub threads : AllRan tree from runs fuel after.history counts results
 
 -- a round ran on a book: the history, which is legal, gained entries of
 -- these threads alone, the outlet kept up with them, and each thread has run

@@ -1,5 +1,5 @@
 -- What contracts see of the worker of a thread.
-use Rattle.std.specs.Prelude.{◌≡◌, ℕ, zero, suc, ◌+◌, List, [], ◌∷◌, fold, take, Option, Some, is_some, length, IsTrue, Result, slice_get}
+use Rattle.std.specs.Prelude.{◌≡◌, ℕ, zero, suc, ◌+◌, List, [], ◌∷◌, map, take, Option, Some, is_some, length, IsTrue, Result, slice_get}
 use Rattle.std.specs.List.{All, AllZip}
 use Rattle.base_types.specs.declared.no_memory.NoMemory.{NoMemory}
 use Rattle.tree_files.specs.Files.{Files}
@@ -10,7 +10,7 @@ use Rattle.drive_account.specs.declared.end.Ending.{Ending}
 use Rattle.trace_book.specs.Told.{TableId, Told, new_pass, sight_of, mine_of}
 use Rattle.trace_book.specs.Views.{numbers_from}
 use Rattle.trace_book.specs.declared.view.Base.{Base}
-use Rattle.drive_round.specs.Ran.{Results, Counts, counted, no_counts, absorbed, Ran, Runs, AllRan}
+use Rattle.drive_round.specs.Ran.{Results, Counts, counted, no_counts, Ran, Runs, AllRan}
 use Rattle.drive_round.specs.declared.worker.Worker.{Worker}
 
 -- its pass, its number, what it means, its tree, and what came of it so far
@@ -72,10 +72,6 @@ Descends P n [] = Unit {0}
 Descends P zero (w ∷ ws) = ⊥
 Descends P (suc n) (w ∷ ws) = P n w × Descends P n ws
 
--- a tree with the same files, whose counts are 0
-abbrev pub IsFork : {T : Type 0} → (T → Option Files) → (T → ℕ) → (T → ℕ) → T → T → Type 0
-IsFork files faults lists tree fork = (files fork ≡ files tree) × (faults fork ≡ 0) × (lists fork ≡ 0)
-
 -- the worker of a place has what stands there in these lists
 pub record IsSeated {T P : Type 0} (passes : List Told) (programs : List P) (forks : List T) (from k : ℕ)
     (w : Worker T P) : Type 0 where
@@ -114,18 +110,16 @@ pub record RanAt (table : TableId) (base : Base) (files : Option Files) (from : 
   pub ran : Ran files (from + k) (means (from + k)) fuel no_counts w.counts (own (from + k) told.seen) w.ran
 
 -- the first n workers were gathered: the pass speaks for their numbers, and each of them has run in what it has seen
-pub record Gathered (table : TableId) (base : Base) (files : Option Files) (from : ℕ) (runs : Runs) (fuel : ℕ)
-    (old : Counts) (n : ℕ) (pass : Told) (new : Counts) (results : Results) : Type 0 where
+pub record Gathered (table : TableId) (base : Base) (files : Option Files) (from : ℕ) (runs : Runs) (fuel n : ℕ)
+    (pass : Told) (counts : List Counts) (results : Results) : Type 0 where
   pub of_table : pass.table ≡ table
   pub of_base : pass.base ≡ base
   pub numbers : pass.numbers ≡ numbers_from from n
-  pub counts : List Counts
   pub threads : AllRan files from (take n runs) fuel pass.seen counts results
-  pub absorbs : new ≡ fold absorbed old counts
 
 -- the workers of a round, the last thread first, are gathered to what they are of it, whatever that is
-abbrev pub Gathers : {W T : Type 0} → TableId → (W → Facts) → (T → Counts) → List W → T → T → Told → Results → Type 0
-Gathers table seen tally ws old new pass results =
+abbrev pub Gathers : {W T : Type 0} → TableId → (W → Facts) → (T → Counts) → List W → Told → List T → Results → Type 0
+Gathers table seen tally ws pass trees results =
     (base : Base) (files : Option Files) (from : ℕ) (runs : Runs) (fuel : ℕ)
     → Descends (λ k w. RanAt table base files from runs fuel k (seen w)) (length ws) ws
-    → Gathered table base files from runs fuel (tally old) (length ws) pass (tally new) results
+    → Gathered table base files from runs fuel (length ws) pass (map tally trees) results

@@ -1,4 +1,4 @@
-//! A whole round.
+//! A whole round, over trees that were made for it.
 ghost use Rattle.std.specs.Prelude.{◌≡◌, ◌≤◌, ◌<◌, ◌+◌, ◌^◌, ◌++◌, ◌∷◌, [], ℕ, List, Option, Some, All, EachIndex, IfOk, IfErr, IfSome, IsSomeAnd, OnOk, OnErr, fold, length, map, slice_index, vec_len, vec_capacity};
 ghost use Rattle.std.specs.List.{AllZip};
 ghost use Rattle.tree_files.specs.Files.{Files};
@@ -6,8 +6,8 @@ ghost use Rattle.machine_spec.specs.Legal.{IsLegal};
 ghost use Rattle.trace_book.specs.Told.{new_passes};
 ghost use Rattle.trace_book.specs.Views.{base_of, numbers_from};
 ghost use Rattle.trace_book.specs.declared.view.Base.{Base};
-ghost use Rattle.drive_round.specs.Ran.{counted, Absorbs, MayBegin, RoundOver};
-ghost use Rattle.drive_round.specs.Workers.{facts, IsNew, AllNew, Works, AllWork, IsFork, AllSeated, Gathers};
+ghost use Rattle.drive_round.specs.Ran.{counted, AreNewTrees, IsNewTree, MayBegin, ThreadsRan};
+ghost use Rattle.drive_round.specs.Workers.{facts, IsNew, AllNew, Works, AllWork, AllSeated, Gathers};
 
 use crate::gate::Gate;
 use crate::program::Program;
@@ -21,15 +21,17 @@ use std::sync::Wait;
 use std::thread;
 use std::thread::Threads;
 use trace_book::{Bell, Pass, Shelf, gather};
-use tree_files::{Grove, Tree};
+use tree_files::Tree;
 
 /// How the program of a thread ended, or that memory was wanting.
 pub type Ran = Result<Ending, NoMemory>;
 
-/// A round that ran: the book, and what came of each thread, in their order.
+/// A round that ran over trees of its own: the book, and of each thread, in their order, its tree and
+/// what came of it.
 #[derive(Drop)]
-pub struct Round<O: Outlet> {
+pub struct Over<O: Outlet, T: Tree> {
     pub book: Book<O>,
+    pub trees: Vec<T>,
     pub results: Vec<Ran>,
 }
 
@@ -39,45 +41,31 @@ pub struct Unrun<O: Outlet> {
     pub book: Book<O>,
 }
 
-/// What is made before a thread begins: a fork of the tree for each thread, in their order, and room
-/// for the workers and for what comes of them.
+/// Room for the workers of a round, and for what they leave.
 #[derive(Drop)]
-struct Prepared<T: Grove, P: Program> {
-    forks: Vec<T>,
+struct Seats<T: Tree, P: Program> {
     workers: Vec<Worker<T, P>>,
+    trees: Vec<T>,
     results: Vec<Ran>,
 }
 
-fn fork_all<T: Grove>(alloc: Global, tree: &mut T, count: usize) -> Result<Vec<T>, NoMemory>
-    ensures files { T.files tree.new ≡ T.files tree.old }
-    ensures faults { T.faults tree.new ≡ T.faults tree.old }
-    ensures lists { T.lists tree.new ≡ T.lists tree.old }
-    ensures count { IfOk result (λ forks. length forks.items ≡ count) }
-    ensures forks { IfOk result (λ forks. All (IsFork T.files T.faults T.lists tree.old) forks.items) }
-{
-    let mut forks = Vec::with_capacity(alloc, count)?;
-    for _ in 0..count {
-        forks.push(tree.fork()?)?;
-    }
-    Ok(forks)
+/// What all workers of a round leave: the pass that speaks for all threads, and of each thread, in
+/// their order, its tree and what came of it.
+#[derive(Drop)]
+struct Left<T: Tree> {
+    pass: Pass,
+    trees: Vec<T>,
+    results: Vec<Ran>,
 }
 
-fn prepare<T: Grove, P: Program>(
-    alloc: Global,
-    tree: &mut T,
-    count: usize,
-) -> Result<Prepared<T, P>, NoMemory>
-    ensures files { T.files tree.new ≡ T.files tree.old }
-    ensures faults { T.faults tree.new ≡ T.faults tree.old }
-    ensures lists { T.lists tree.new ≡ T.lists tree.old }
-    ensures count { IfOk result (λ it. length it.forks.items ≡ count) }
-    ensures forks { IfOk result (λ it. All (IsFork T.files T.faults T.lists tree.old) it.forks.items) }
+fn seats_for<T: Tree, P: Program>(alloc: Global, count: usize) -> Result<Seats<T, P>, NoMemory>
     ensures workers { IfOk result (λ it. (it.workers.items ≡ []) × (count ≤ vec_capacity it.workers)) }
+    ensures trees { IfOk result (λ it. (it.trees.items ≡ []) × (count ≤ vec_capacity it.trees)) }
     ensures results { IfOk result (λ it. (it.results.items ≡ []) × (count ≤ vec_capacity it.results)) }
 {
-    Ok(Prepared {
-        forks: fork_all(alloc, tree, count)?,
+    Ok(Seats {
         workers: Vec::with_capacity(alloc, count)?,
+        trees: Vec::with_capacity(alloc, count)?,
         results: Vec::with_capacity(alloc, count)?,
     })
 }
@@ -106,7 +94,7 @@ fn last_of<A: Drop>(items: &mut Vec<A>) -> A
 }
 
 /// A worker for each thread, the last thread first.
-fn seat_all<T: Grove, P: Program>(
+fn seat_all<T: Tree, P: Program>(
     mut passes: Vec<Pass>,
     mut programs: Vec<P>,
     mut forks: Vec<T>,
@@ -138,7 +126,7 @@ fn run_each<
     R: Threads + Wait + Sync,
     O: Outlet + Send,
     G: Gate + Sync,
-    T: Grove,
+    T: Tree + Send,
     P: Program + Send,
 >(rt: &R, room: &Room<'_, R, O, G>, workers: &mut [Worker<T, P>])
     requires { AllNew room.now.shelf.now.table.shared.table_id (facts P.run T.files T.faults T.lists) workers.old }
@@ -165,7 +153,7 @@ fn run_workers<
     R: Threads + Wait + Sync,
     O: Outlet + Send,
     G: Gate + Sync,
-    T: Grove,
+    T: Tree + Send,
     P: Program + Send,
 >(rt: &R, room: &Room<'_, R, O, G>, mut workers: Vec<Worker<T, P>>) -> Vec<Worker<T, P>>
     requires { AllNew room.now.shelf.now.table.shared.table_id (facts P.run T.files T.faults T.lists) workers.items }
@@ -175,68 +163,71 @@ fn run_workers<
     workers
 }
 
-/// What a worker leaves: its pass, what came of it, and the counts of its tree.
-fn leave<T: Grove, P: Program>(
+/// What a worker leaves: its pass, its tree, and what came of it.
+fn leave<T: Tree, P: Program>(
     worker: Worker<T, P>,
-    tree: &mut T,
+    trees: &mut Vec<T>,
     results: &mut Vec<Ran>,
 ) -> Option<Pass>
+    requires tree_room { vec_len trees.old < vec_capacity trees.old }
     requires room { vec_len results.old < vec_capacity results.old }
     ensures pass { result ≡ worker.pass }
+    ensures trees { trees.new.items ≡ trees.old.items ++ worker.tree ∷ [] }
+    ensures tree_room { vec_capacity trees.old ≤ vec_capacity trees.new }
     ensures results { results.new.items ≡ results.old.items ++ worker.ran ∷ [] }
     ensures room { vec_capacity results.old ≤ vec_capacity results.new }
-    ensures files { T.files tree.new ≡ T.files tree.old }
-    ensures counts { Absorbs T.faults T.lists tree.old tree.new worker.tree }
-    ensures faults_grow { T.faults tree.old ≤ T.faults tree.new }
 {
     let Worker {
         script: _,
         pass,
         program,
-        tree: fork,
+        tree,
         ran,
     } = worker;
     drop(program);
-    tree.absorb(fork);
+    add(trees, tree);
     add(results, ran);
     pass
 }
 
-/// The pass that speaks for all threads, and what came of each in their order.
-fn gather_all<O: Outlet, T: Grove, P: Program>(
+/// The pass that speaks for all threads, and what each leaves, in their order.
+fn gather_all<O: Outlet, T: Tree, P: Program>(
     shelf: &Shelf<O>,
     mut workers: Vec<Worker<T, P>>,
-    tree: &mut T,
+    mut trees: Vec<T>,
     mut results: Vec<Ran>,
-) -> (Pass, Vec<Ran>)
+) -> Left<T>
     requires some { 1 ≤ length workers.items }
+    requires tree_room { (trees.items ≡ []) × (length workers.items ≤ vec_capacity trees) }
     requires room { (results.items ≡ []) × (length workers.items ≤ vec_capacity results) }
     requires passes { All (λ w. IsSomeAnd w.pass (λ pass. pass.table ≡ shelf.now.table.shared.table_id)) workers.items }
-    ensures files { T.files tree.new ≡ T.files tree.old }
     ensures gathered { Gathers shelf.now.table.shared.table_id (facts P.run T.files T.faults T.lists)
-        (counted T.faults T.lists) workers.items tree.old tree.new result.0 result.1.items }
-    ensures faults_grow { T.faults tree.old ≤ T.faults tree.new }
+        (counted T.faults T.lists) workers.items result.pass result.trees.items result.results.items }
 {
     let first = last_of(&mut workers);
-    let Some(mut pass) = leave(first, tree, &mut results) else {
+    let Some(mut pass) = leave(first, &mut trees, &mut results) else {
         unreachable!()
     };
     while let Some(worker) = workers.pop() {
-        let Some(other) = leave(worker, tree, &mut results) else {
+        let Some(other) = leave(worker, &mut trees, &mut results) else {
             unreachable!()
         };
         gather(shelf, &mut pass, other);
     }
-    (pass, results)
+    Left {
+        pass,
+        trees,
+        results,
+    }
 }
 
-/// Runs the programs of a round on a book, each in a thread of its own over a fork of the tree, the
+/// Runs the programs of a round on a book, each in a thread of its own over a tree of its own, the
 /// first with the number `from`. Where memory is wanted before a thread begins, the book comes back.
-pub fn run_round<
+pub fn run_over<
     R: Threads + Wait + Sync,
     O: Outlet + Send,
     G: Gate + Sync,
-    T: Grove,
+    T: Tree + Send,
     P: Program + Send,
 >(
     rt: &R,
@@ -244,38 +235,38 @@ pub fn run_round<
     book: Book<O>,
     from: u32,
     programs: Vec<P>,
-    tree: &mut T,
+    trees: Vec<T>,
     fuel: u64,
     gate: &G,
-) -> Result<Round<O>, Unrun<O>>
+) -> Result<Over<O, T>, Unrun<O>>
     requires some { 1 ≤ length programs.items }
     requires fits { from + length programs.items < 2 ^ 32 }
     requires may { MayBegin book from (length programs.items) }
-    ensures files { T.files tree.new ≡ T.files tree.old }
-    ensures ok { IfOk result (λ round. RoundOver O.piece O.out T.files T.faults T.lists tree.old tree.new from
-        (map P.run programs.items) fuel book round.book round.results.items) }
-    ensures faults_grow { T.faults tree.old ≤ T.faults tree.new }
+    requires many { length trees.items ≡ length programs.items }
+    requires new { AreNewTrees T.files T.faults T.lists trees.items }
+    ensures ok { (told : Option Files) → All (IsNewTree T.files T.faults T.lists told) trees.items
+        → IfOk result (λ over. ThreadsRan O.piece O.out told from (map P.run programs.items) fuel book over.book
+        (map (counted T.faults T.lists) over.trees.items) over.results.items) }
     ensures err { IfErr result (λ unrun. unrun.book ≡ book) }
-    ensures unchanged { OnErr result ((T.faults tree.new ≡ T.faults tree.old) × (T.lists tree.new ≡ T.lists tree.old)) }
 {
     let count = programs.len();
-    let Ok(prepared) = prepare(alloc, tree, count) else {
+    let Ok(seats) = seats_for(alloc, count) else {
         return Err(Unrun { book });
     };
-    let Prepared {
-        forks,
+    let Seats {
         workers,
+        trees: left,
         results,
-    } = prepared;
+    } = seats;
     let (shelf, passes) = match Shelf::open(alloc, book, from, count as u32) {
         Ok(opened) => opened,
         Err(unopened) => return Err(Unrun {
             book: unopened.book,
         }),
     };
-    let workers = seat_all(passes, programs, forks, workers, from);
+    let workers = seat_all(passes, programs, trees, workers, from);
     let bell = Bell::new();
-    let (pass, results) = {
+    let gathered = {
         let room = Room {
             alloc,
             rt,
@@ -285,9 +276,18 @@ pub fn run_round<
             fuel,
         };
         let workers = run_workers(rt, &room, workers);
-        gather_all(&shelf, workers, tree, results)
+        gather_all(&shelf, workers, left, results)
     };
+    let Left {
+        pass,
+        trees,
+        results,
+    } = gathered;
     let book = shelf.close(pass);
     book.check_legal();
-    Ok(Round { book, results })
+    Ok(Over {
+        book,
+        trees,
+        results,
+    })
 }

@@ -73,7 +73,7 @@ heads_same : (p q : Event × Reply) (ps qs : Pairs) → p ∷ ps ≡ q ∷ qs �
 heads_same p q ps qs is = cc is
 
 -- who has an End in its own pairs has ended
-has_ended : (t : ℕ) (h : List Entry) (before : Pairs) (o : Outcome) (k : ℕ) → own t h ≡ before ++ (End o k, Done) ∷ [] → HasEnded h t
+pub has_ended : (t : ℕ) (h : List Entry) (before : Pairs) (o : Outcome) (k : ℕ) → own t h ≡ before ++ (End o k, Done) ∷ [] → HasEnded h t
 has_ended t [] [] o k is = absurd (cc is)
 has_ended t [] (p ∷ before) o k is = absurd (cc is)
 has_ended t (e ∷ es) before o k is = at (eqb e.thread t) refl before is (λ front whole. has_ended t es front o k whole)

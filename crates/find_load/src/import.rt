@@ -60,6 +60,8 @@ pub enum Stage {
     Released(Fault),
     /// That the lock or the load is given back, and then the leave goes on.
     Left(Flow),
+    /// Nothing any more, since memory was wanting: no input fits.
+    Over,
 }
 
 /// An import that is under way: its name, how many more turns it may take, whether the module is to be

@@ -1,5 +1,5 @@
 //! What an import wants next.
-ghost use Rattle.std.specs.Prelude.{IfOk};
+ghost use Rattle.std.specs.Prelude.{◌≡◌, IfOk, OnErr};
 ghost use Rattle.find_load.specs.Means.{Goes, means};
 ghost use Rattle.find_load.specs.UnderWay.{does_at, namespace_stage};
 ghost use Rattle.find_load.specs.declared.import.Stage.TheVariants as stages;
@@ -10,6 +10,7 @@ use crate::loads::{added, added_lazy, discover, ended, finish, finished, namespa
 use crate::locates::{on_entry, on_parent_path, on_search_path};
 use crate::looks::{ask, asked, take, taken};
 use crate::raises::{fail, misfit};
+use crate::waits::close;
 use crate::words::{In, Want};
 use base_types::{NoMemory, Seq};
 use meaning_state::{Fault, Flow};
@@ -229,12 +230,11 @@ fn after_leave(p: &mut Importer, flow: Flow, input: In) -> Result<Want, NoMemory
     }
 }
 
-/// What an import wants next, by what it is fed. An input that its stage does not wait for raises
-/// ProfileError.
-pub fn next(p: &mut Importer, input: In) -> Result<Want, NoMemory>
+/// What an import wants next, by its stage.
+fn step(p: &mut Importer, input: In) -> Result<Want, NoMemory>
     ensures goes { IfOk result (Goes (λ inside. means inside p.old input) p.new) }
 {
-    match std::mem::replace(&mut p.stage, Stage::Finished) {
+    match std::mem::replace(&mut p.stage, Stage::Over) {
         Stage::Begins(is_parent) => begin(p, is_parent, input),
         Stage::Asked(is_parent) => after_ask(p, is_parent, input),
         Stage::Parent => after_parent(p, input),
@@ -264,5 +264,17 @@ pub fn next(p: &mut Importer, input: In) -> Result<Want, NoMemory>
         Stage::Finished => after_finish(p, input),
         Stage::Released(fault) => after_release(p, fault, input),
         Stage::Left(flow) => after_leave(p, flow, input),
+        Stage::Over => misfit(p, input),
+    }
+}
+
+/// What an import wants next, by what it is fed. An input that its stage does not wait for raises ProfileError. Where memory is wanting it is over: no input fits any more.
+pub fn next(p: &mut Importer, input: In) -> Result<Want, NoMemory>
+    ensures goes { IfOk result (Goes (λ inside. means inside p.old input) p.new) }
+    ensures over { OnErr result (p.new.stage ≡ stages.Over) }
+{
+    match step(p, input) {
+        Ok(want) => Ok(want),
+        Err(_) => Err(close(p)),
     }
 }

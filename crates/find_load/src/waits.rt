@@ -1,9 +1,12 @@
 //! What an import waits for from one step to the next.
+ghost use Rattle.std.specs.Prelude.{◌≡◌};
 ghost use Rattle.find_load.specs.Means.{Goes, wants};
 ghost use Rattle.find_load.specs.UnderWay.{goes_on_by};
+ghost use Rattle.find_load.specs.declared.import.Stage.TheVariants as stages;
 
 use crate::import::{Importer, Stage};
 use crate::words::Want;
+use base_types::NoMemory;
 use std::mem;
 
 /// This is wanted, and what it comes to is waited for at a stage. No other function lets go of the
@@ -14,4 +17,13 @@ pub(crate) fn wait_for(p: &mut Importer, stage: Stage, want: Want) -> Want
     let before = mem::replace(&mut p.stage, stage);
     drop(before);
     want
+}
+
+/// Memory was wanting: nothing is waited for any more, so that no input fits.
+pub(crate) fn close(p: &mut Importer) -> NoMemory
+    ensures { p.new.stage ≡ stages.Over }
+{
+    let before = mem::replace(&mut p.stage, Stage::Over);
+    drop(before);
+    NoMemory
 }

@@ -1,8 +1,8 @@
-mod Growth
+pub mod Growth
 mod Given
-mod Pieces
+pub mod Pieces
 mod Values
-mod Searches
+pub mod Searches
 mod Names
 mod Paths
 mod Entries
@@ -15,7 +15,7 @@ mod Tries
 mod Statements
 mod Within
 mod Lazy
-mod Imports
+pub mod Imports
 mod Reload
 pub mod Meaning
 pub mod Parts

@@ -187,7 +187,7 @@ mutual
       (inside_at w left) (record { body = bodies_safe w left; parent = imports_safe w left true false }))
       w s load index vs has h
 
-  bodies_safe : (w : World) (left : ℕ) → SafeBody (bodies_at w left)
+  pub bodies_safe : (w : World) (left : ℕ) → SafeBody (bodies_at w left)
   bodies_safe w zero s mid load n text has_mid has_load = fails_safe fault.TooDeep s
   bodies_safe w (suc left) s mid load n text has_mid has_load =
       runs_body_safe (around_at w left)
@@ -195,21 +195,21 @@ mutual
       (inside_at w left) (record { body = bodies_safe w left; parent = imports_safe w left true false }))
       w s mid load n text has_mid has_load
 
-  imports_safe : (w : World) (left : ℕ) (is_parent is_lazy : Bool) (n : List ℕ) → Always (imports_at w left is_parent is_lazy n)
+  pub imports_safe : (w : World) (left : ℕ) (is_parent is_lazy : Bool) (n : List ℕ) → Always (imports_at w left is_parent is_lazy n)
   imports_safe w zero is_parent is_lazy n s = fails_safe fault.TooDeep s
   imports_safe w (suc left) is_parent is_lazy n s =
       imports_name_safe (record { body = bodies_at w left; parent = imports_at w left true false; is_lazy = is_lazy }) (record { body = bodies_safe w left; parent = imports_safe w left true false }) is_parent n s
 
 -- ---- scripts
 
-ends_safe : (s : Shown) → s.held ≡ [] → SafeOn s ends
+pub ends_safe : (s : Shown) → s.held ≡ [] → SafeOn s ends
 ends_safe s none s' f (Went v) known st knows = (tt, (f.runs, f.held_is ∙ none))
 ends_safe s none s' f (Left (Raised error)) known st knows = (tt, (f.runs, f.held_is ∙ none))
 ends_safe s none s' f (Left (Return v)) known st knows = (tt, (f.runs, f.held_is ∙ none))
 ends_safe s none s' f (Left Break) known st knows = (tt, (f.runs, f.held_is ∙ none))
 ends_safe s none s' f (Left Continue) known st knows = (tt, (f.runs, f.held_is ∙ none))
 
-first_known : (t : ℕ) → Knows (shown_first t) (first_state t)
+pub first_known : (t : ℕ) → Knows (shown_first t) (first_state t)
 first_known t = record { mid = inl (inl refl); load = inl refl; locals = tt; kept = λ load source is. absurd (none_some (sym (get-empty nat_cmp load) ∙ is)) }
   where
     none_some : {w : Source} → None ≡ Some w → ⊥

@@ -51,11 +51,7 @@ names_rounds (Some (plans.Run it)) run is = if_in it run (in_rounds it) refl is
 names_rounds (Some plan) run is = absurd (cc is)
 
 pub some_file : (run : RunPlan) → in_rounds run ≡ true → run.rounds ≡ None → ⊥
-some_file run is none = by run.bundles (subst (λ (o : Option Word). (not run.bundles && is_some o) ≡ true) none is)
-  where
-    by : (b : Bool) → (not b && false) ≡ true → ⊥
-    by true is = cc is
-    by false is = cc is
+some_file run is none = let bad : false ≡ true = subst (λ (o : Option Word). is_some o ≡ true) none is in cc bad
 
 -- ---- what a rounds file says
 

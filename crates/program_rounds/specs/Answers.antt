@@ -1,5 +1,5 @@
 -- How a call of the program ends that may name a rounds file.
-use Rattle.std.specs.Prelude.{◌≡◌, ◌≤◌, ◌++◌, ◌∷◌, [], ◌&&◌, ℕ, Bool, not, List, codes, Option, Some, None, is_some}
+use Rattle.std.specs.Prelude.{◌≡◌, ◌≤◌, ◌++◌, ◌∷◌, [], ℕ, Bool, List, codes, Option, Some, None, is_some}
 use Rattle.tree_files.specs.Count.{Rose}
 use Rattle.words_rounds.specs.declared.rounds.Round.{Round}
 use Rattle.machine_events.specs.declared.event.Entry.{Entry}
@@ -22,9 +22,9 @@ use Rattle.program_rounds.specs.Opened.{HasRounds, HasNoRounds, EachRoundOpens, 
 use Rattle.program_rounds.specs.Rounds.{AreSingle}
 use Rattle.program_rounds.specs.Runs.{HasRun}
 
--- a run that names a rounds file, over the files as they are
+-- a run that names a rounds file
 abbrev pub in_rounds : RunPlan → Bool
-in_rounds run = not run.bundles && is_some run.rounds
+in_rounds run = is_some run.rounds
 
 -- any other plan counts as none
 abbrev pub rounds_plan : Option Plan → Option RunPlan

@@ -30,7 +30,7 @@ use tree_files::{Grove, Sink};
 fn in_rounds(run: &RunPlan) -> bool
     ensures { result ≡ in_rounds run.now }
 {
-    !run.bundles && run.rounds.is_some()
+    run.rounds.is_some()
 }
 
 /// The run of rounds that a plan is, or else the plan.

@@ -40,7 +40,7 @@ run_since : (files : Files) (opened : State) (run : Run) (fuel first old new sta
 run_since files opened run fuel first old new status h f (IsRun.whole stop solo cause) = IsRun.whole stop solo (cause_since stop first old new f cause)
 run_since files opened run fuel first old new status h f (IsRun.part stop rest is whole cause) = IsRun.part stop rest is whole (cause_since stop first old new f cause)
 
-act_since : {files : Files} {t : ℕ} {run : Run} {fuel : ℕ} {mine : List (Event × Reply)} {status : ℕ} (first old new : ℕ) → first ≤ old → Acts (setting files fuel old new status) t run mine → Acts (setting files fuel first new status) t run mine
+pub act_since : {files : Files} {t : ℕ} {run : Run} {fuel : ℕ} {mine : List (Event × Reply)} {status : ℕ} (first old new : ℕ) → first ≤ old → Acts (setting files fuel old new status) t run mine → Acts (setting files fuel first new status) t run mine
 act_since first old new f (Acts.whole outcome follows) = Acts.whole outcome follows
 act_since first old new f (Acts.part six (in_run part)) = Acts.part six (in_run part)
 act_since first old new f (Acts.part six (at_read k fits rose given)) = Acts.part six (at_read k fits (rose_since first old new f rose) given)

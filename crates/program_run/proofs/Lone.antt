@@ -33,10 +33,11 @@ use Rattle.program_run.specs.Prints.{out_text}
 use Rattle.program_run.specs.Ends.{err_text, status_of}
 use Rattle.program_run.specs.Sinks.{Moment, Leaves, status_by}
 use Rattle.program_run.specs.Counts.{ReadsBy, ListsBy}
-use Rattle.program_run.specs.Alone.{Means, setting, IsRun, HasCause, turn_of, opening_of}
+use Rattle.program_run.specs.Alone.{Means, AreSafe, setting, IsRun, HasCause, turn_of, opening_of}
 use Rattle.program_run.specs.Results.{Came, AreWhole, AllEnded}
-use Rattle.program_run.specs.Together.{Mean}
-use Rattle.program_run.specs.Runs.{RunOver, HasRun, finished}
+use Rattle.program_run.specs.Together.{MeanFrom}
+use Rattle.program_run.specs.Runs.{RunOver, HasRun, Gives, finished}
+use Rattle.program_run.specs.declared.report.Left.{Left}
 use Rattle.program_run.proofs.Counting.{tree_counts, reads_one, lists_one}
 use Rattle.program_run.proofs.Threads.{one_mean}
 
@@ -93,6 +94,10 @@ module _ (files : Files) (b : Begun) (run : Run) (fuel old new status : ℕ) (h 
   run_is (Ok it) f p r s = run_by it f r
   run_is (Err e) f p r s = broken_by s p
 
+-- memory was wanted before a history was begun, and nothing has changed
+pub unbegun_gives : (means : Means) (plan : RunPlan) (texts : List (List ℕ)) (m : Moment) (left : Left) → left ≡ record { status = want_of_memory; history = None } → Gives means plan texts m m left
+unbegun_gives means plan texts m left is = subst (λ (x : Left). Gives means plan texts m m x) (sym is) (refl, refl)
+
 -- of the program that ran
 pub run_told : (files : Files) (tree : Option Files) → tree ≡ Some files → (opening : Opening) (opened' : State) (run run' : Run) (fuel status : ℕ) (old new : Counts) (h : List Entry) (came : Result Ending NoMemory)
     → CanOpen opening → opening.rounds ≡ 1 ∷ [] → opened opening ≡ opened' → Safe (shown_first 0) run' → run ≡ run' → IsLegal (opened opening) h
@@ -114,7 +119,7 @@ ran_by {P} run tree fuel old new p script mine mine' came same mine_is ran =
     (subst (λ (x : P). Ran tree 0 (run x 0) fuel old new mine came) same ran)
 
 -- all that a run of one script leaves
-module _ (means : Means) (safe : (t : ℕ) (text : List ℕ) → Safe (shown_first t) (means t text)) (plan : RunPlan) (texts : List (List ℕ)) (old new : Moment) (h : List Entry) (status : ℕ)
+module _ (means : Means) (safe : AreSafe means) (plan : RunPlan) (texts : List (List ℕ)) (old new : Moment) (h : List Entry) (status : ℕ)
     (one : length plan.scripts ≡ 1) (as_many : length texts ≡ 1) (opening : Opening) (can : CanOpen opening) (rounds : opening.rounds ≡ length plan.scripts ∷ []) (is : opened opening ≡ opening_of plan texts) (legal : IsLegal (opened opening) h)
     (leaves : Leaves (status_by (status_of (length plan.scripts) h) sink_fault) (out_text plan.trace h) (err_text plan.scripts h) old new status) where
   over_one : (files : Files) (text : List ℕ) → texts ≡ text ∷ [] → IsRun (setting files plan.fuel old.faults new.faults status) (opening_of plan texts) (means 0 text) h → RunOver means (setting files plan.fuel old.faults new.faults status) plan texts h
@@ -143,14 +148,14 @@ module _ (means : Means) (safe : (t : ℕ) (text : List ℕ) → Safe (shown_fir
     leaves = leaves;
   }
 
-  pub has_run : {P : Type 0} (run : P → ℕ → Run) (programs : List P) (came : Came) → Mean run means texts programs
+  pub has_run : {P : Type 0} (run : P → ℕ → Run) (programs : List P) (came : Came) → MeanFrom run means 0 texts programs
       → ((p : P) → programs ≡ p ∷ [] → Ran old.files 0 (run p 0) plan.fuel (tree_counts old) (tree_counts new) (own 0 h) came) → (status ≡ want_of_memory) ⊎ AreWhole (came ∷ []) → HasRun means plan texts old new (finished h status)
   has_run run programs came mean ran w =
       let the = one_mean run means texts programs as_many mean in
       has_run_of run the.0 came the.2.0 the.2.1 the.2.2 (ran the.0 the.1) w
 
 -- its End, where it has one
-pub ended_one : {P : Type 0} (run : P → ℕ → Run) (means : Means) (texts : List (List ℕ)) (programs : List P) (tree : Option Files) (fuel : ℕ) (old new : Counts) (h : List Entry) (came : Came) → length texts ≡ 1 → Mean run means texts programs
+pub ended_one : {P : Type 0} (run : P → ℕ → Run) (means : Means) (texts : List (List ℕ)) (programs : List P) (tree : Option Files) (fuel : ℕ) (old new : Counts) (h : List Entry) (came : Came) → length texts ≡ 1 → MeanFrom run means 0 texts programs
     → ((p : P) → programs ≡ p ∷ [] → Ran tree 0 (run p 0) fuel old new (own 0 h) came) → AllEnded 0 (came ∷ []) h
 ended_one run means texts programs tree fuel old new h came as_many mean ran =
     let the = one_mean run means texts programs as_many mean in

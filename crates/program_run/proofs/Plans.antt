@@ -48,17 +48,15 @@ module _ (s : Settings) (entry : Word) (scripts : List Word) where
   abbrev plan_with : List Word → ℕ → RunPlan
   plan_with path fuel = record { path = path; fuel = fuel; trace = s.trace; scripts = scripts; rounds = s.rounds; bundles = s.bundles }
 
-  -- with a rounds file no plan is built yet
+  -- with a rounds file no plan is built
   rounds_by : (path : Option (List Word)) (fuel : Option ℕ) → is_some s.rounds ≡ true → IsFewIn (option_map plans.Run (option_and_then (λ p. option_map (λ n. plan_with p n) fuel) path))
   rounds_by None fuel r = none_built
   rounds_by (Some p) None r = none_built
-  rounds_by (Some p) (Some n) r = λ run is. absurd (never s.bundles (is_some s.rounds) r (plan_with p n) run is)
+  rounds_by (Some p) (Some n) r = λ run is. absurd (never (is_some s.rounds) r (plan_with p n) run is)
     where
-      never : (b x : Bool) → x ≡ true → (it run : RunPlan) → run_if (not b && not x) it ≡ Some run → ⊥
-      never true true e it run is = cc is
-      never false true e it run is = cc is
-      never true false e it run is = cc e
-      never false false e it run is = cc e
+      never : (x : Bool) → x ≡ true → (it run : RunPlan) → run_if (not x) it ≡ Some run → ⊥
+      never true e it run is = cc is
+      never false e it run is = cc e
 
   few_with : (path : Option (List Word)) (fuel : Option ℕ) → AreFew scripts → IsFewIn (option_map plans.Run (option_and_then (λ p. option_map (λ n. plan_with p n) fuel) path))
   few_with None fuel few = none_built

@@ -28,7 +28,7 @@ use Rattle.program_run.specs.Counts.{reads_of}
 use Rattle.program_run.specs.Alone.{Means, setting, opening_of}
 use Rattle.program_run.specs.Results.{Came, AreWhole, AllEnded}
 use Rattle.program_run.specs.Runs.{RunOver, HasRun, finished}
-use Rattle.program_run.specs.Together.{Mean, Acts, AllAct, RanTogether}
+use Rattle.program_run.specs.Together.{Mean, MeanFrom, Acts, AllAct, RanTogether}
 use Rattle.program_run.proofs.Counting.{tree_counts, faults_in, faults_rise, reads_by, lists_by, reads_none}
 
 -- one program more
@@ -39,18 +39,28 @@ mean_more run means [] (p ∷ programs) text program mean here = absurd mean
 mean_more run means (x ∷ texts) [] text program mean here = absurd mean
 mean_more run means (x ∷ texts) (p ∷ programs) text program mean here = (mean.0, mean_more run means texts programs text program mean.1 here)
 
+-- the programs mean what the texts do as threads of any number, and so as those of theirs
+pub mean_from : {P : Type 0} (run : P → ℕ → Run) (means : Means) (t : ℕ) (texts : List (List ℕ)) (programs : List P) → Mean run means texts programs → MeanFrom run means t texts programs
+mean_from run means t [] [] mean = tt
+mean_from run means t [] (p ∷ programs) mean = absurd mean
+mean_from run means t (x ∷ texts) [] mean = absurd mean
+mean_from run means t (x ∷ texts) (p ∷ programs) mean = (mean.0 t, mean_from run means (suc t) texts programs mean.1)
+
+pub many_from : {P : Type 0} (run : P → ℕ → Run) (means : Means) (t : ℕ) (texts : List (List ℕ)) (programs : List P) → MeanFrom run means t texts programs → length programs ≡ length texts
+many_from run means t [] [] mean = refl
+many_from run means t [] (p ∷ programs) mean = absurd mean
+many_from run means t (x ∷ texts) [] mean = absurd mean
+many_from run means t (x ∷ texts) (p ∷ programs) mean = ap suc (many_from run means (suc t) texts programs mean.1)
+
 pub many_mean : {P : Type 0} (run : P → ℕ → Run) (means : Means) (texts : List (List ℕ)) (programs : List P) → Mean run means texts programs → length programs ≡ length texts
-many_mean run means [] [] mean = refl
-many_mean run means [] (p ∷ programs) mean = absurd mean
-many_mean run means (x ∷ texts) [] mean = absurd mean
-many_mean run means (x ∷ texts) (p ∷ programs) mean = ap suc (many_mean run means texts programs mean.1)
+many_mean run means texts programs mean = many_from run means 0 texts programs (mean_from run means 0 texts programs mean)
 
 -- the one program of one text
-pub one_mean : {P : Type 0} (run : P → ℕ → Run) (means : Means) (texts : List (List ℕ)) (programs : List P) → length texts ≡ 1 → Mean run means texts programs
+pub one_mean : {P : Type 0} (run : P → ℕ → Run) (means : Means) (texts : List (List ℕ)) (programs : List P) → length texts ≡ 1 → MeanFrom run means 0 texts programs
     → (p : P) × (programs ≡ p ∷ []) × ((text : List ℕ) × (texts ≡ text ∷ []) × (run p 0 ≡ means 0 text))
 one_mean run means [] programs one mean = absurd (omega (arith, one))
 one_mean run means (text ∷ []) [] one mean = absurd mean
-one_mean run means (text ∷ []) (p ∷ []) one mean = (p, refl, (text, refl, mean.0 0))
+one_mean run means (text ∷ []) (p ∷ []) one mean = (p, refl, (text, refl, mean.0))
 one_mean run means (text ∷ []) (p ∷ q ∷ programs) one mean = absurd mean.1
 one_mean run means (text ∷ other ∷ texts) programs one mean = absurd (omega (arith, one))
 
@@ -63,27 +73,27 @@ broken_up old new n up (in_run it) = in_run it
 broken_up old new n up (at_read k fits rose given) = at_read k fits (up rose) given
 
 module _ (files : Files) (means : Means) (fuel old new status : ℕ) (h : List Entry) where
-  act_of : (t : ℕ) (run run' : Run) (came : Came) (results : List Came) (n total : ℕ) → run ≡ run' → n ≤ total → raised old total ≤ new → IfOk came (λ it. Follows files t run fuel (own t h) (outcome it))
+  pub act_of : (t : ℕ) (run run' : Run) (came : Came) (results : List Came) (n total : ℕ) → run ≡ run' → n ≤ total → raised old total ≤ new → IfOk came (λ it. Follows files t run fuel (own t h) (outcome it))
       → OnErr came (Broken files t run fuel (own t h) 0 n) → (status ≡ want_of_memory) ⊎ AreWhole (came ∷ results) → Acts (setting files fuel old new status) t run' (own t h)
   act_of t run run' (Ok it) results n total same some rise follows broken w = subst (λ (x : Run). Acts (setting files fuel old new status) t x (own t h)) same (Acts.whole (outcome it) follows)
   act_of t run run' (Err e) results n total same some rise follows broken (inl six) =
       subst (λ (x : Run). Acts (setting files fuel old new status) t x (own t h)) same (Acts.part six (broken_up old new n (rose_up old new n total some rise) broken))
   act_of t run run' (Err e) results n total same some rise follows broken (inr w) = absurd w
 
-  whole_rest : (came : Came) (results : List Came) → (status ≡ want_of_memory) ⊎ AreWhole (came ∷ results) → (status ≡ want_of_memory) ⊎ AreWhole results
+  pub whole_rest : (came : Came) (results : List Came) → (status ≡ want_of_memory) ⊎ AreWhole (came ∷ results) → (status ≡ want_of_memory) ⊎ AreWhole results
   whole_rest came results (inl six) = inl six
   whole_rest (Ok it) results (inr w) = inr w
   whole_rest (Err e) results (inr w) = absurd w
 
   module _ {P : Type 0} (run : P → ℕ → Run) (total : ℕ) (rise : raised old total ≤ new) where
-    acts_from : (t : ℕ) (texts : List (List ℕ)) (programs : List P) (counts : List Counts) (results : List Came) → Mean run means texts programs → faults_in counts ≤ total
+    acts_from : (t : ℕ) (texts : List (List ℕ)) (programs : List P) (counts : List Counts) (results : List Came) → MeanFrom run means t texts programs → faults_in counts ≤ total
         → AllRan (Some files) t (map run programs) fuel h counts results → (status ≡ want_of_memory) ⊎ AreWhole results → AllAct means (setting files fuel old new status) t texts h
     acts_from t [] programs counts results mean some all w = tt
     acts_from t (text ∷ texts) [] counts results mean some all w = absurd mean
     acts_from t (text ∷ texts) (p ∷ programs) [] results mean some all w = absurd all
     acts_from t (text ∷ texts) (p ∷ programs) (c ∷ counts) [] mean some all w = absurd all
     acts_from t (text ∷ texts) (p ∷ programs) (c ∷ counts) (r ∷ results) mean some all w = (
-      act_of t (run p t) (means t text) r results c.faults total (mean.0 t) (omega (arith, some)) rise (all.0.follows files refl) (all.0.part files refl) w,
+      act_of t (run p t) (means t text) r results c.faults total mean.0 (omega (arith, some)) rise (all.0.follows files refl) (all.0.part files refl) w,
       acts_from (suc t) texts programs counts results mean.1 (omega (arith, some)) all.1 (whole_rest r results w),
     )
 
@@ -94,7 +104,7 @@ over_by means files plan (text ∷ []) old new status h two acts = absurd (omega
 over_by means files plan (text ∷ other ∷ texts) old new status h two acts = acts
 
 pub over_ran : (means : Means) (tree : Option Files) (files : Files) → tree ≡ Some files → (plan : RunPlan) (texts : List (List ℕ)) → 2 ≤ length texts → (old new : Counts) (status : ℕ) (h : List Entry) {P : Type 0} (run : P → ℕ → Run) (programs : List P) (results : List Came)
-    → Mean run means texts programs → RanTogether tree (map run programs) plan.fuel old new h results → (status ≡ want_of_memory) ⊎ AreWhole results → RunOver means (setting files plan.fuel old.faults new.faults status) plan texts h
+    → MeanFrom run means 0 texts programs → RanTogether tree (map run programs) plan.fuel old new h results → (status ≡ want_of_memory) ⊎ AreWhole results → RunOver means (setting files plan.fuel old.faults new.faults status) plan texts h
 over_ran means tree files told plan texts two old new status h run programs results mean ran w =
     let rise : raised old.faults (faults_in ran.counts) ≤ new.faults = subst (λ (c : Counts). raised old.faults (faults_in ran.counts) ≤ c.faults) (sym ran.absorbs) (faults_rise old ran.counts) in
     let all = subst (λ (x : Option Files). AllRan x 0 (map run programs) plan.fuel h ran.counts results) told ran.threads in
@@ -149,10 +159,10 @@ module _ {O : Type 0} (book : BoundTo O) (size : ℕ) (empty : book.history ≡ 
 module _ (means : Means) (plan : RunPlan) (texts : List (List ℕ)) (old new : Moment) (h : List Entry) (status : ℕ)
     (two : 2 ≤ length texts) (as_many : length texts ≡ length plan.scripts) (legal : IsLegal (opening_of plan texts) h)
     (leaves : Leaves (status_by (status_of (length plan.scripts) h) sink_fault) (out_text plan.trace h) (err_text plan.scripts h) old new status) where
-  ran_by : {P : Type 0} (run : P → ℕ → Run) (programs : List P) (results : List Came) → Mean run means texts programs → RanTogether old.files (map run programs) plan.fuel (tree_counts old) (tree_counts new) h results → (status ≡ want_of_memory) ⊎ AreWhole results
+  ran_by : {P : Type 0} (run : P → ℕ → Run) (programs : List P) (results : List Came) → MeanFrom run means 0 texts programs → RanTogether old.files (map run programs) plan.fuel (tree_counts old) (tree_counts new) h results → (status ≡ want_of_memory) ⊎ AreWhole results
       → HasRun means plan texts old new (finished h status)
   ran_by run programs results mean ran w =
-      let many : length results ≡ length plan.scripts = many_ran old.files plan.fuel h 0 (map run programs) ran.counts results ran.threads ∙ (length-map programs run ∙ (many_mean run means texts programs mean ∙ as_many)) in
+      let many : length results ≡ length plan.scripts = many_ran old.files plan.fuel h 0 (map run programs) ran.counts results ran.threads ∙ (length-map programs run ∙ (many_from run means 0 texts programs mean ∙ as_many)) in
       record {
         legal = legal;
         runs = by_told old.files (λ files told. over_ran means old.files files told plan texts two (tree_counts old) (tree_counts new) status h run programs results mean ran w);
@@ -179,7 +189,7 @@ module _ (means : Means) (plan : RunPlan) (texts : List (List ℕ)) (old new : M
       by_told (Some files) = subst (λ (x : List Entry). RunOver means (setting files plan.fuel old.faults new.faults status) plan texts x) (sym empty) (over_none means files plan texts old.faults new.faults status two six)
 
   -- whether they began or not
-  pub has_run : {P V : Type 0} (run : P → ℕ → Run) (programs : List P) (items : V → List Came) (results : Option V) → Mean run means texts programs
+  pub has_run : {P V : Type 0} (run : P → ℕ → Run) (programs : List P) (items : V → List Came) (results : Option V) → MeanFrom run means 0 texts programs
       → IfSome results (λ v. RanTogether old.files (map run programs) plan.fuel (tree_counts old) (tree_counts new) h (items v)) → IfNone results ((h ≡ []) × (new.faults ≡ old.faults) × (new.lists ≡ old.lists))
       → (status ≡ want_of_memory) ⊎ IsSomeAnd results (λ v. AreWhole (items v)) → HasRun means plan texts old new (finished h status)
   has_run run programs items None mean ran none (inl six) = none_by none.0 none.1 none.2 six

@@ -5,7 +5,8 @@ use Rattle.tree_files.specs.Count.{Rose}
 use Rattle.machine_events.specs.declared.event.Entry.{Entry}
 use Rattle.machine_spec.specs.declared.state.State.{State}
 use Rattle.machine_spec.specs.Opening.{opening}
-use Rattle.meaning_runs.specs.Runs.{Run}
+use Rattle.machine_shown.specs.Shown.{shown_first}
+use Rattle.meaning_runs.specs.Runs.{Run, Safe}
 use Rattle.meaning_solo.specs.Made.{Turn}
 use Rattle.meaning_solo.specs.Solo.{IsSolo}
 use Rattle.import_words.specs.declared.plan.RunPlan.{RunPlan}
@@ -14,6 +15,10 @@ use Rattle.program_run.specs.Statuses.{want_of_memory}
 -- what texts mean, each as the script of a number
 abbrev pub Means : Type 0
 Means = ℕ → List ℕ → Run
+
+-- the events of the script of a number show all that it asks for, whatever its text is
+abbrev pub AreSafe : Means → Type 0
+AreSafe means = (t : ℕ) (text : List ℕ) → Safe (shown_first t) (means t text)
 
 -- the state before the first event, from the plan and the texts: all scripts are of one round
 abbrev pub opening_of : RunPlan → List (List ℕ) → State

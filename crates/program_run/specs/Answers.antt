@@ -1,5 +1,5 @@
 -- How a call of the program ends.
-use Rattle.std.specs.Prelude.{◌≡◌, ◌&&◌, ℕ, Bool, true, false, not, List, [], ◌∷◌, ◌++◌, codes, Option, Some, None, is_some}
+use Rattle.std.specs.Prelude.{◌≡◌, ℕ, Bool, true, false, not, List, [], ◌∷◌, ◌++◌, codes, Option, Some, None, is_some}
 use Rattle.machine_events.specs.declared.event.Entry.{Entry}
 use Rattle.import_words.specs.Words.{Word}
 use Rattle.import_words.specs.Plans.{plan_of}
@@ -15,9 +15,10 @@ use Rattle.program_run.specs.Runs.{HasRun, finished}
 use Rattle.program_run.specs.declared.report.Report.{Report}
 use Rattle.program_run.specs.declared.report.Left.{Left}
 
--- what is done here: scripts of one round, over the files as they are
+-- what is done here: scripts of one round, over the files of the tree; with `--bundles` the tree is one in which the
+-- bundles stand as folders
 abbrev pub is_built : RunPlan → Bool
-is_built run = not run.bundles && not (is_some run.rounds)
+is_built run = not (is_some run.rounds)
 
 -- the run where it is done here, and else none
 abbrev pub run_if : Bool → RunPlan → Option RunPlan

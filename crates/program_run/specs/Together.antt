@@ -19,6 +19,14 @@ use Rattle.program_run.specs.Results.{Came}
 abbrev pub Mean : {P : Type 0} → (P → ℕ → Run) → Means → List (List ℕ) → List P → Type 0
 Mean run means texts programs = AllZip (λ text program. (t : ℕ) → run program t ≡ means t text) texts programs
 
+-- the programs, of which the first has the number t, mean each as the thread of its number what these texts mean
+abbrev pub MeanFrom : {P : Type 0} → (P → ℕ → Run) → Means → ℕ → List (List ℕ) → List P → Type 0
+MeanFrom run means t [] [] = Unit {0}
+MeanFrom run means t [] (program ∷ programs) = ⊥
+MeanFrom run means t (text ∷ texts) [] = ⊥
+MeanFrom run means t (text ∷ texts) (program ∷ programs) =
+    (run program t ≡ means t text) × MeanFrom run means (suc t) texts programs
+
 -- the scripts were run, each over a fork of the tree, which has taken in the counts of all forks
 pub record RanTogether (tree : Option Files) (runs : Runs) (fuel : ℕ) (old new : Counts) (history : List Entry) (results : List Came) : Type 0 where
   pub counts : List Counts

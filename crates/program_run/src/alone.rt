@@ -1,19 +1,21 @@
-//! One script that runs alone.
+//! One program that runs alone.
 ghost use Rattle.std.specs.Prelude.{◌≡◌, ◌≤◌, ◌∷◌, [], length};
 ghost use Rattle.machine_spec.specs.Legal.{IsLegal};
 ghost use Rattle.machine_book.specs.Bound.{opened, CanOpen};
 ghost use Rattle.machine_desk.specs.Outgo.{Kept};
 ghost use Rattle.machine_shown.specs.Own.{own};
 ghost use Rattle.drive_round.specs.Ran.{Ran, counted};
+ghost use Rattle.program_run.specs.Alone.{AreSafe, Means};
 ghost use Rattle.program_run.specs.Runs.{Gives};
 ghost use Rattle.program_run.specs.Sinks.{at, moment, Passes};
+ghost use Rattle.program_run.specs.Together.{MeanFrom};
 
 use crate::begin::{Begun, begin};
 use crate::finish::{Came, finish_run};
 use crate::outlet::Out;
 use crate::report::{Left, of_run, unbegun};
-use crate::scripts::Scripts;
 use base_types::Seq;
+use drive_round::Program;
 use import_words::RunPlan;
 use machine_book::{Book, SoloDesk};
 use machine_desk::Outlet;
@@ -21,7 +23,7 @@ use machine_events::Entry;
 use std::alloc::Global;
 use tree_files::{Sink, Tree};
 
-/// What a run leaves: its history, its outlet, and how its script ended.
+/// What a run leaves: its history, its outlet, and how its program ended.
 #[derive(Drop)]
 struct Alone<O: Outlet> {
     history: Seq<Entry>,
@@ -29,11 +31,11 @@ struct Alone<O: Outlet> {
     came: Came,
 }
 
-/// Runs the script on a book of its own.
-fn run_on_book<S: Scripts, T: Tree, O: Outlet>(
+/// Runs the program on a book of its own.
+fn run_on_book<P: Program, T: Tree, O: Outlet>(
     alloc: Global,
     tree: &mut T,
-    it: Begun<S>,
+    it: Begun<P>,
     fuel: u64,
     outlet: O,
 ) -> Alone<O>
@@ -44,8 +46,8 @@ fn run_on_book<S: Scripts, T: Tree, O: Outlet>(
     ensures files { T.files tree.new ≡ T.files tree.old }
     ensures legal { IsLegal (opened it.opening) result.history }
     ensures kept { Kept O.piece (O.out outlet) (O.out result.outlet) result.history }
-    ensures ran { (script : S) → it.programs.items ≡ script ∷ []
-        → Ran (T.files tree.old) 0 (S.run script 0) fuel (counted T.faults T.lists tree.old)
+    ensures ran { (program : P) → it.programs.items ≡ program ∷ []
+        → Ran (T.files tree.old) 0 (P.run program 0) fuel (counted T.faults T.lists tree.old)
         (counted T.faults T.lists tree.new) (own 0 result.history) result.came }
     ensures faults_grow { T.faults tree.old ≤ T.faults tree.new }
 {
@@ -67,19 +69,22 @@ fn run_on_book<S: Scripts, T: Tree, O: Outlet>(
     }
 }
 
-/// Runs one script over a tree. What it prints goes to `out` as it is printed, and a line where its
-/// end is not normal to `err`. It always returns.
-pub fn run_alone<S: Scripts, T: Tree, O: Sink, K: Sink>(
+/// Runs the one program of a plan over a tree. What it prints goes to `out` as it is printed, and a
+/// line where its end is not normal to `err`. It always returns. The machine keeps the one text.
+pub fn run_one<P: Program, T: Tree, O: Sink, K: Sink>(
     alloc: Global,
     plan: &RunPlan,
     texts: Seq<Seq<u8>>,
+    programs: Vec<P>,
     tree: &mut T,
     out: &mut O,
     err: &mut K,
 ) -> Left
     requires script { length plan.now.scripts ≡ 1 }
     requires text { length texts ≡ 1 }
-    ensures run { Gives S.means plan.now texts
+    requires program { length programs.items ≡ 1 }
+    ensures run { (means : Means) → AreSafe means → MeanFrom P.run means 0 texts programs.items
+        → Gives means plan.now texts
         (moment T.files T.faults T.lists tree.old (at O.written O.faults out.old) (at K.written K.faults err.old))
         (moment T.files T.faults T.lists tree.new (at O.written O.faults out.new) (at K.written K.faults err.new))
         result }
@@ -87,8 +92,9 @@ pub fn run_alone<S: Scripts, T: Tree, O: Sink, K: Sink>(
         (moment T.files T.faults T.lists tree.old (at O.written O.faults out.old) (at K.written K.faults err.old))
         (moment T.files T.faults T.lists tree.new (at O.written O.faults out.new) (at K.written K.faults err.new)) }
 {
-    let Ok(it) = begin::<S>(alloc, plan, texts) else {
-        return unbegun();
+    let it = match begin(alloc, plan, texts, programs) {
+        Ok(it) => it,
+        Err(_) => return unbegun(),
     };
     let outlet = Out::open(alloc, out, plan.trace);
     let Alone {

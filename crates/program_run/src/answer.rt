@@ -26,11 +26,11 @@ use std::sync::Wait;
 use std::thread::Threads;
 use tree_files::{Grove, Sink};
 
-/// Whether the plan is built so far: scripts of one round, over the files as they are.
+/// Whether the plan is done here: scripts of one round.
 fn is_built(run: &RunPlan) -> bool
     ensures { result ≡ is_built run.now }
 {
-    !run.bundles && !run.rounds.is_some()
+    !run.rounds.is_some()
 }
 
 /// Writes the line about a refusal. Standard output gets nothing.
@@ -153,7 +153,7 @@ fn built_run(run: RunPlan) -> Option<RunPlan>
     None
 }
 
-/// The plan, where it is built so far.
+/// The plan, where it is done here.
 fn built(plan: Option<Plan>) -> Option<RunPlan>
     ensures { result ≡ built plan }
 {
@@ -181,7 +181,8 @@ pub fn plan_for(alloc: Global, words: &[String]) -> Result<Option<Plan>, NoMemor
 /// be written to the two sinks. Each text of a script is what `S` makes of it.
 ///
 /// What is done here is `run` for 1 to 16 scripts, with a search path, a budget and a trace as the
-/// words tell; all other words are refused with the usage line.
+/// words tell, over the files of the tree; where the words say `--bundles`, the caller's tree is one in
+/// which they stand as folders. All other words are refused with the usage line.
 pub fn call<S: Scripts + Send, R: Threads + Wait + Sync, T: Grove, K: Sink + Send, G: Gate + Sync>(
     rt: &R,
     alloc: Global,

@@ -1,4 +1,4 @@
-//! What scripts run on.
+//! What programs run on.
 ghost use Rattle.std.specs.Prelude.{◌≡◌, ◌≤◌, ◌∷◌, [], ℕ, IfOk, length};
 ghost use Rattle.machine_book.specs.Bound.{opened, CanOpen};
 ghost use Rattle.program_run.specs.Alone.{opening_of};
@@ -7,17 +7,18 @@ ghost use Rattle.program_run.specs.Together.{Mean};
 
 use crate::scripts::Scripts;
 use base_types::{Exact, NoMemory, Seq};
+use drive_round::Program;
 use import_machine::Machine;
 use import_words::RunPlan;
 use machine_book::Opening;
 use std::alloc::Global;
 
-/// What scripts run on: the machine and what it was opened with; and the scripts.
+/// What programs run on: the machine and what it was opened with; and the programs.
 #[derive(Drop)]
-pub struct Begun<S: Scripts> {
+pub struct Begun<P: Program> {
     pub opening: Opening,
     pub machine: Machine,
-    pub programs: Vec<S>,
+    pub programs: Vec<P>,
 }
 
 fn one_round(alloc: Global, size: usize) -> Result<Seq<u32>, NoMemory>
@@ -40,21 +41,21 @@ pub fn programs_of<S: Scripts>(alloc: Global, texts: &[Seq<u8>]) -> Result<Vec<S
     Ok(programs)
 }
 
-/// The machine for the scripts of a plan, which are of one round.
-pub fn begin<S: Scripts>(
+/// The machine for the programs of a plan, which are of one round. It keeps these texts.
+pub fn begin<P: Program>(
     alloc: Global,
     plan: &RunPlan,
     texts: Seq<Seq<u8>>,
-) -> Result<Begun<S>, NoMemory>
+    programs: Vec<P>,
+) -> Result<Begun<P>, NoMemory>
     requires few { AreFew plan.now.scripts }
     requires texts { length texts ≡ length plan.now.scripts }
     ensures opening { IfOk result (λ it. opened it.opening ≡ opening_of plan.now texts) }
     ensures machine { IfOk result (λ it. it.machine ≡ opening_of plan.now texts) }
     ensures can_open { IfOk result (λ it. CanOpen it.opening) }
     ensures rounds { IfOk result (λ it. it.opening.rounds ≡ length plan.now.scripts ∷ []) }
-    ensures programs { IfOk result (λ it. Mean S.run S.means texts it.programs.items) }
+    ensures programs { IfOk result (λ it. it.programs ≡ programs) }
 {
-    let programs = programs_of(alloc, texts.as_slice())?;
     let opening = Opening {
         scripts: plan.scripts.copy()?,
         texts,

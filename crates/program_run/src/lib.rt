@@ -16,7 +16,7 @@ mod scripts;
 mod status;
 mod together;
 
-pub use alone::run_alone;
+pub use alone::run_one;
 pub use answer::{call, plan_for, tell, unread};
 pub use begin::programs_of;
 pub use finish::{Came, finish_run, say_line};
@@ -25,9 +25,9 @@ pub use line::joined;
 pub use open::{Opened, Unopened, open_all, open_script, refused};
 pub use outlet::Out;
 pub use report::{Left, Report, of_run, unbegun, with_plan, without_run};
-pub use run::run_scripts;
+pub use run::{run_alone, run_programs, run_scripts, run_together};
 pub use scripts::Scripts;
 pub use status::{
     ERROR_END, NORMAL_END, REFUSAL, SINK_FAULT, SPENT_BUDGET, TREE_FAULT, WANT_OF_MEMORY,
 };
-pub use together::run_together;
+pub use together::{finish_some, run_several};

@@ -1,4 +1,4 @@
-//! Several scripts, each in a thread of its own.
+//! Several programs, each in a thread of its own.
 ghost use Rattle.std.specs.Prelude.{◌≡◌, ◌≤◌, ◌⊎◌, ◌∷◌, [], List, length, map, IfSome, IfNone, IsSomeAnd};
 ghost use Rattle.machine_events.specs.declared.event.Entry.{Entry};
 ghost use Rattle.machine_spec.specs.Legal.{IsLegal};
@@ -11,16 +11,16 @@ ghost use Rattle.program_run.specs.Results.{AreWhole, AllEnded};
 ghost use Rattle.program_run.specs.Runs.{Gives};
 ghost use Rattle.program_run.specs.Sinks.{at, moment, Gets, Passes, status_by};
 ghost use Rattle.program_run.specs.Statuses.{sink_fault, want_of_memory};
-ghost use Rattle.program_run.specs.Together.{RanTogether};
+ghost use Rattle.program_run.specs.Alone.{AreSafe, Means};
+ghost use Rattle.program_run.specs.Together.{MeanFrom, RanTogether};
 
 use crate::begin::{Begun, begin};
 use crate::finish::{Came, finish_run};
 use crate::outlet::Out;
 use crate::report::{Left, of_run, unbegun};
-use crate::scripts::Scripts;
 use crate::status::WANT_OF_MEMORY;
 use base_types::{Seq, Text};
-use drive_round::{Gate, run_round};
+use drive_round::{Gate, Program, run_round};
 use import_words::RunPlan;
 use machine_book::Book;
 use machine_desk::{Flow, Outlet};
@@ -30,7 +30,7 @@ use std::sync::Wait;
 use std::thread::Threads;
 use tree_files::{Grove, Sink};
 
-/// What a run leaves: its history, its outlet, and how its scripts ended, where they began.
+/// What a run leaves: its history, its outlet, and how its programs ended, where they began.
 #[derive(Drop)]
 struct Together<O: Outlet> {
     history: Seq<Entry>,
@@ -38,14 +38,14 @@ struct Together<O: Outlet> {
     results: Option<Vec<Came>>,
 }
 
-/// Runs the scripts on one book, each over a fork of the tree.
+/// Runs the programs on one book, each over a fork of the tree.
 fn run_on_book<
-    S: Scripts + Send,
+    P: Program + Send,
     R: Threads + Wait + Sync,
     T: Grove,
     O: Outlet + Send,
     G: Gate + Sync,
->(rt: &R, alloc: Global, tree: &mut T, it: Begun<S>, fuel: u64, outlet: O, gate: &G) -> Together<O>
+>(rt: &R, alloc: Global, tree: &mut T, it: Begun<P>, fuel: u64, outlet: O, gate: &G) -> Together<O>
     requires machine { it.machine ≡ opened it.opening }
     requires can_open { CanOpen it.opening }
     requires rounds { it.opening.rounds ≡ length it.programs.items ∷ [] }
@@ -54,7 +54,7 @@ fn run_on_book<
     ensures faults_grow { T.faults tree.old ≤ T.faults tree.new }
     ensures legal { IsLegal (opened it.opening) result.history }
     ensures kept { Kept O.piece (O.out outlet) (O.out result.outlet) result.history }
-    ensures ran { IfSome result.results (λ results. RanTogether (T.files tree.old) (map S.run it.programs.items) fuel
+    ensures ran { IfSome result.results (λ results. RanTogether (T.files tree.old) (map P.run it.programs.items) fuel
         (counted T.faults T.lists tree.old) (counted T.faults T.lists tree.new) result.history results.items) }
     ensures unrun { IfNone result.results ((result.history ≡ []) × (T.faults tree.new ≡ T.faults tree.old)
         × (T.lists tree.new ≡ T.lists tree.old)) }
@@ -86,7 +86,7 @@ fn run_on_book<
 }
 
 /// Writes the lines about the ends of the scripts, where they began, and gives the status.
-fn finish_some<K: Sink>(
+pub fn finish_some<K: Sink>(
     alloc: Global,
     err: &mut K,
     scripts: &[Text],
@@ -107,11 +107,11 @@ fn finish_some<K: Sink>(
     }
 }
 
-/// Runs several scripts over a tree, each in a thread of its own over a fork of it, which passes the
-/// gate before each event. What they print goes to `out` as it is printed, and a line for each end
-/// that is not normal to `err`, in the order of the scripts.
-pub fn run_together<
-    S: Scripts + Send,
+/// Runs the programs of a plan, of which there are several, over a tree, each in a thread of its own over
+/// a fork of it, which passes the gate before each event. What they print goes to `out` as it is printed,
+/// and a line for each end that is not normal to `err`, in their order. The machine keeps these texts.
+pub fn run_several<
+    P: Program + Send,
     R: Threads + Wait + Sync,
     T: Grove,
     O: Sink + Send,
@@ -122,6 +122,7 @@ pub fn run_together<
     alloc: Global,
     plan: &RunPlan,
     texts: Seq<Seq<u8>>,
+    programs: Vec<P>,
     tree: &mut T,
     out: &mut O,
     err: &mut K,
@@ -130,7 +131,9 @@ pub fn run_together<
     requires some { 2 ≤ length plan.now.scripts }
     requires few { length plan.now.scripts ≤ 16 }
     requires texts { length texts ≡ length plan.now.scripts }
-    ensures run { Gives S.means plan.now texts
+    requires programs { length programs.items ≡ length plan.now.scripts }
+    ensures run { (means : Means) → AreSafe means → MeanFrom P.run means 0 texts programs.items
+        → Gives means plan.now texts
         (moment T.files T.faults T.lists tree.old (at O.written O.faults out.old) (at K.written K.faults err.old))
         (moment T.files T.faults T.lists tree.new (at O.written O.faults out.new) (at K.written K.faults err.new))
         result }
@@ -138,8 +141,9 @@ pub fn run_together<
         (moment T.files T.faults T.lists tree.old (at O.written O.faults out.old) (at K.written K.faults err.old))
         (moment T.files T.faults T.lists tree.new (at O.written O.faults out.new) (at K.written K.faults err.new)) }
 {
-    let Ok(it) = begin::<S>(alloc, plan, texts) else {
-        return unbegun();
+    let it = match begin(alloc, plan, texts, programs) {
+        Ok(it) => it,
+        Err(_) => return unbegun(),
     };
     let outlet = Out::open(alloc, out, plan.trace);
     let Together {

@@ -34,6 +34,8 @@ use Rattle.meaning_script.specs.ImportStatements.{with_module, imports_one, impo
 use Rattle.step_package_path.specs.Means.{means as path_means}
 use Rattle.reload_lazy.specs.Rouse.{means as rouse_means}
 use Rattle.reload_lazy.specs.Reload.{means as reload_means}
+use Rattle.run_module.specs.Means.{means as program_means}
+use Rattle.run_module.specs.Programs.{program_inside}
 use Rattle.path_finder.specs.Steps.{searches}
 use Rattle.meaning_search.specs.Searches.{searches_in}
 use Rattle.spec_core.specs.Relative.{resolved}
@@ -41,7 +43,7 @@ use Rattle.find_load.specs.Means.{means}
 use Rattle.find_load.specs.declared.words.In.{In}
 use Rattle.find_load.specs.declared.words.In.TheVariants as given
 use Rattle.py_frames.specs.declared.procedures.Procedure.{Procedure}
-use Rattle.py_frames.specs.declared.procedures.Procedure.TheVariants.{Import, Path, Rouse, Reload}
+use Rattle.py_frames.specs.declared.procedures.Procedure.TheVariants.{Import, Path, Rouse, Reload, Program}
 use Rattle.py_frames.specs.declared.work.Form.{Form}
 use Rattle.py_frames.specs.declared.work.Form.TheVariants.{Expression, Statement, Method}
 use Rattle.py_frames.specs.declared.work.Item.{Item}
@@ -316,6 +318,7 @@ fed w left (Import p) input = means (inside_at w left) p input
 fed w left (Path p) input = path_means (inside_at w left) p input
 fed w left (Rouse p) input = rouse_means (inside_at w left) p input
 fed w left (Reload p) input = reload_means (inside_at w left) p input
+fed w left (Program p) input = program_means (program_inside w left) p input
 
 -- a body that is paid for, where one more may be open
 abbrev pub begins_at : World → ℕ → ℕ → ℕ → List ℕ → List ℕ → Piece

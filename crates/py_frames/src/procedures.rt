@@ -2,6 +2,7 @@
 use base_owners::Boxed;
 use find_load::Importer;
 use reload_lazy::{Reloader, Rouser};
+use run_module::ModuleStart;
 use step_package_path::PathReader;
 
 /// A procedure that is open. It stands apart, since it is large and rare.
@@ -11,4 +12,5 @@ pub enum Procedure {
     Path(Boxed<PathReader>),
     Rouse(Boxed<Rouser>),
     Reload(Boxed<Reloader>),
+    Program(Boxed<ModuleStart>),
 }

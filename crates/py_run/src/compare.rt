@@ -9,7 +9,7 @@ ghost use Rattle.step_calls.specs.Sources.{sources};
 
 use crate::script::copy_of;
 use drive_follow::{budget_by, ends_came, ends_out, refused};
-use drive_loop::{Course, Over, run};
+use drive_loop::{Course, Over, Start, run};
 use drive_port::{Halt, ReplayPort};
 use machine_events::{Follow, Pair};
 use std::alloc::Global;
@@ -41,7 +41,8 @@ pub fn follow<T: Tree>(
     let budget = budget_by(fuel, own);
     let mut port = ReplayPort::new(script, own);
     let mut course = Course::first(alloc, script, budget);
-    match run(alloc, &mut port, tree, &mut course, script, copy, budget) {
+    let start = Start::Script(copy);
+    match run(alloc, &mut port, tree, &mut course, script, start, budget) {
         Ok(Over::Came(flow)) => ends_came(&mut port, flow, fuel, budget),
         Ok(Over::Out { of_tree }) => ends_out(&mut port, &mut course.held, of_tree, fuel, budget),
         Ok(Over::Unread(_)) => Err(TreeFault::Failed),

@@ -9,9 +9,9 @@ ghost use Rattle.drive_account.specs.Ending.{Ended, Broken, IsRead, outcome};
 ghost use Rattle.meaning_script.specs.Meaning.{meaning};
 ghost use Rattle.step_calls.specs.Sources.{sources};
 
-use crate::OnDesk;
+use crate::thread::run_thread;
 use base_types::{NoMemory, Seq};
-use drive_loop::{Ending, run_script_on};
+use drive_loop::{Ending, Start};
 use machine_desk::Desk;
 use std::alloc::Global;
 use tree_files::Tree;
@@ -59,9 +59,5 @@ pub fn run_script<D: Desk, T: Tree>(
         Ok(copy) => copy,
         Err(_) => return Err(NoMemory),
     };
-    let mut port = OnDesk { desk };
-    match run_script_on(alloc, &mut port, tree, script, copy, fuel) {
-        Ok(ending) => Ok(ending),
-        Err(_) => Err(NoMemory),
-    }
+    run_thread(alloc, desk, tree, script, Start::Script(copy), fuel)
 }

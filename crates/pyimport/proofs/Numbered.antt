@@ -1,8 +1,8 @@
--- A plan of a made workload has at least one module, and 1 to 16 scripts; one that judges a stored trace has 1 to 16 scripts,
--- where it has no rounds file.
+-- What plans give for their tasks: one of a made workload has at least one module, and 1 to 16 scripts; one that judges a
+-- stored trace has 1 to 16 scripts, where it has no rounds file; one of modules has 1 to 16 dotted names.
 use Rattle.std.proofs.Common.{◌≡◌, ◌≤◌, ℕ, Bool, true, false, not, ◌&&◌, List, [], ◌∷◌, length, Option, Some, None, refl, sym, ap, subst}
 use Rattle.std.specs.Prelude.{nat_le, is_some, if◌then◌else◌}
-use Rattle.std.specs.List.{list_any}
+use Rattle.std.specs.List.{list_all, list_any}
 use Rattle.std.specs.Option.{option_map, option_and_then}
 use Rattle.std.proofs.lemmas.Bool.{leb-true, and_parts}
 use Rattle.words_options.specs.Words.{Word, is_refused, options, no_settings}
@@ -15,15 +15,19 @@ use Rattle.import_words.specs.declared.plan.Plan.{Plan}
 use Rattle.import_words.specs.declared.plan.Plan.TheVariants as plans
 use Rattle.program_run.specs.Scripts.{AreFew}
 use Rattle.import_words.specs.declared.plan.RunPlan.{RunPlan}
-use Rattle.pyimport.specs.Tasks.{check_by, task_of}
-use Rattle.pyimport.specs.declared.task.Numbers.{Numbers}
-use Rattle.pyimport.specs.declared.task.Stored.{Stored}
+use Rattle.spec_core.specs.Identifiers.{is_dotted}
+use Rattle.program_module.specs.Modules.{AreNames}
+use Rattle.program_run.specs.Answers.{run_if}
+use Rattle.program_rounds.specs.Answers.{rounds_plan}
+use Rattle.pyimport.specs.Answers.{ReadsItself}
+use Rattle.pyimport.specs.Tasks.{check_by, modules_by, runs_by, task_of}
 use Rattle.pyimport.specs.declared.task.Task.{Task}
 use Rattle.pyimport.specs.declared.task.Task.TheVariants as tasks
 
 abbrev pub Fits : Option Plan → Type 0
 Fits (Some (plans.Gen seed modules scripts)) = (1 ≤ modules) × ((1 ≤ scripts) × (scripts ≤ 16))
 Fits (Some (plans.Check run file)) = is_some run.rounds ≡ false → AreFew run.scripts
+Fits (Some (plans.Module run)) = AreFew run.scripts × AreNames run.scripts
 Fits plan = Unit {0}
 
 mapped : {A : Type 0} (make : A → Plan) → ((a : A) → Fits (Some (make a))) → (o : Option A) → Fits (option_map make o)
@@ -105,8 +109,20 @@ check_fits s (trace_file ∷ script ∷ scripts) = if_not _ _ (at (not (is_some 
     at false true are = tt
     at false false are = tt
 
+module_with : (s : Settings) (names : List Word) → AreFew names × AreNames names → (path : Option (List Word)) (fuel : Option ℕ)
+    → Fits (option_map plans.Module (option_and_then (λ p. option_map (λ n. record { path = p; fuel = n; trace = s.trace; scripts = names; rounds = s.rounds; bundles = s.bundles }) fuel) path))
+module_with s names fits None fuel = tt
+module_with s names fits (Some p) None = tt
+module_with s names fits (Some p) (Some n) = fits
+
 module_fits : (s : Settings) (names : List Word) → Fits (module_plan s names)
-module_fits s names = if_so _ _ (mapped plans.Module (λ run. tt) (run_with s [] names))
+module_fits s names = at (not (is_some s.rounds)) (are_scripts names && list_all is_dotted names) refl
+  where
+    at : (r b : Bool) → (are_scripts names && list_all is_dotted names) ≡ b → Fits (if r && b then option_map plans.Module (run_with s [] names) else None)
+    at true true is = let both = and_parts _ _ is in module_with s names (few_by names both.0, both.1) (path_of s.path []) (fuel_of s.fuel)
+    at true false is = tt
+    at false true is = tt
+    at false false is = tt
 
 report_fits : (s : Settings) (words : List Word) → Fits (report_plan s words)
 report_fits s [] = tt
@@ -127,61 +143,109 @@ pub plan_fits : (words : List Word) → Fits (plan_of words)
 plan_fits [] = tt
 plan_fits (word ∷ words) = if_not (list_any is_refused (word ∷ words)) (plan_by (command_of word) words) (command_fits (command_of word) words)
 
--- a trace that is judged has no rounds file
-unmade : (b : Bool) (run : RunPlan) (file : Word) (it : Numbers) → check_by b run file ≡ tasks.Make it → ⊥
-unmade true run file it is = cc is
-unmade false run file it is = cc is
+-- ---- the task
 
-same_run : (b : Bool) (run : RunPlan) (file : Word) (other : Option Plan) → check_by b run file ≡ tasks.Run other → other ≡ Some (plans.Check run file)
-same_run true run file other is = sym (cc is)
-same_run false run file other is = absurd (cc is)
+-- what a plan that was read gives for what is to be done
+abbrev pub FitsTask : Task → Type 0
+FitsTask (tasks.Make it) = (1 ≤ it.modules) × ((1 ≤ it.scripts) × (it.scripts ≤ 16))
+FitsTask (tasks.Check it) = AreFew it.run.scripts
+FitsTask (tasks.Modules run) = AreFew run.scripts × AreNames run.scripts
+FitsTask (tasks.ModulesInBundles run) = AreFew run.scripts × AreNames run.scripts
+FitsTask task = Unit {0}
 
-judged_by : (b : Bool) (run : RunPlan) (file : Word) (it : Stored) → check_by b run file ≡ tasks.Check it → (b ≡ false) × (run ≡ it.run)
-judged_by true run file it is = absurd (cc is)
-judged_by false run file it is =
-    let same : ◌≡◌ {A = Stored} (record { run = run; trace_file = file }) it = cc is in
-    (refl, ap (λ (x : Stored). x.run) same)
+check_task : (b : Bool) (run : RunPlan) (file : Word) → (b ≡ false → AreFew run.scripts) → FitsTask (check_by b run file)
+check_task true run file fits = tt
+check_task false run file fits = fits refl
 
--- of what was read
-fits_by : (plan : Option Plan) → Fits plan → (it : Numbers) → task_of plan ≡ tasks.Make it → (1 ≤ it.modules) × ((1 ≤ it.scripts) × (it.scripts ≤ 16))
-fits_by None fits it is = absurd (cc is)
-fits_by (Some (plans.Run run)) fits it is = absurd (cc is)
-fits_by (Some (plans.Gen seed modules scripts)) fits it is =
-    let same : record { seed = seed; modules = modules; scripts = scripts } ≡ it = cc is in
-    subst (λ (x : Numbers). (1 ≤ x.modules) × ((1 ≤ x.scripts) × (x.scripts ≤ 16))) same fits
-fits_by (Some (plans.Check run file)) fits it is = absurd (unmade (is_some run.rounds) run file it is)
-fits_by (Some (plans.Convert file)) fits it is = absurd (cc is)
-fits_by (Some (plans.Module run)) fits it is = absurd (cc is)
-fits_by (Some (plans.Report path dir)) fits it is = absurd (cc is)
-fits_by (Some (plans.Bundle dir)) fits it is = absurd (cc is)
+modules_task : (b : Bool) (run : RunPlan) → AreFew run.scripts × AreNames run.scripts → FitsTask (modules_by b run)
+modules_task true run fits = fits
+modules_task false run fits = fits
 
-pub fits_of : (words : List Word) (plan : Option Plan) → plan ≡ plan_of words → (it : Numbers) → task_of plan ≡ tasks.Make it
-    → (1 ≤ it.modules) × ((1 ≤ it.scripts) × (it.scripts ≤ 16))
-fits_of words plan is it found = fits_by plan (subst Fits (sym is) (plan_fits words)) it found
+runs_task : (b : Bool) (run : RunPlan) → FitsTask (runs_by b run)
+runs_task true run = tt
+runs_task false run = tt
 
--- the plan that runs scripts is the one that was read
-pub run_is : (plan other : Option Plan) → task_of plan ≡ tasks.Run other → other ≡ plan
-run_is None other is = sym (cc is)
-run_is (Some (plans.Run run)) other is = sym (cc is)
-run_is (Some (plans.Gen seed modules scripts)) other is = absurd (cc is)
-run_is (Some (plans.Check run file)) other is = same_run (is_some run.rounds) run file other is
-run_is (Some (plans.Convert file)) other is = absurd (cc is)
-run_is (Some (plans.Module run)) other is = sym (cc is)
-run_is (Some (plans.Report path dir)) other is = sym (cc is)
-run_is (Some (plans.Bundle dir)) other is = absurd (cc is)
+task_fits : (plan : Option Plan) → Fits plan → FitsTask (task_of plan)
+task_fits None fits = tt
+task_fits (Some (plans.Run run)) fits = runs_task run.bundles run
+task_fits (Some (plans.Gen seed modules scripts)) fits = fits
+task_fits (Some (plans.Check run file)) fits = check_task (is_some run.rounds) run file fits
+task_fits (Some (plans.Convert file)) fits = tt
+task_fits (Some (plans.Module run)) fits = modules_task run.bundles run fits
+task_fits (Some (plans.Report path dir)) fits = tt
+task_fits (Some (plans.Bundle dir)) fits = tt
 
-few_by_plan : (plan : Option Plan) → Fits plan → (it : Stored) → task_of plan ≡ tasks.Check it → AreFew it.run.scripts
-few_by_plan None fits it is = absurd (cc is)
-few_by_plan (Some (plans.Run r)) fits it is = absurd (cc is)
-few_by_plan (Some (plans.Gen seed modules scripts)) fits it is = absurd (cc is)
-few_by_plan (Some (plans.Check r f)) fits it is =
-    let judged = judged_by (is_some r.rounds) r f it is in
-    subst (λ (x : RunPlan). AreFew x.scripts) judged.1 (fits judged.0)
-few_by_plan (Some (plans.Convert f)) fits it is = absurd (cc is)
-few_by_plan (Some (plans.Module r)) fits it is = absurd (cc is)
-few_by_plan (Some (plans.Report path dir)) fits it is = absurd (cc is)
-few_by_plan (Some (plans.Bundle dir)) fits it is = absurd (cc is)
+pub fits_of : (words : List Word) (plan : Option Plan) → plan ≡ plan_of words → (task : Task) → task_of plan ≡ task → FitsTask task
+fits_of words plan is task found = subst FitsTask found (task_fits plan (subst Fits (sym is) (plan_fits words)))
 
--- scripts against which a trace is judged
-pub few_of : (words : List Word) (plan : Option Plan) → plan ≡ plan_of words → (it : Stored) → task_of plan ≡ tasks.Check it → AreFew it.run.scripts
-few_of words plan is it found = few_by_plan plan (subst Fits (sym is) (plan_fits words)) it found
+-- the plan that a task was made of
+abbrev pub plan_behind : Task → Option Plan
+plan_behind (tasks.Make it) = Some (plans.Gen it.seed it.modules it.scripts)
+plan_behind (tasks.Convert file) = Some (plans.Convert file)
+plan_behind (tasks.Bundle dir) = Some (plans.Bundle dir)
+plan_behind (tasks.Check it) = Some (plans.Check it.run it.trace_file)
+plan_behind (tasks.Modules run) = Some (plans.Module run)
+plan_behind (tasks.ModulesInBundles run) = Some (plans.Module run)
+plan_behind (tasks.RunInBundles run) = Some (plans.Run run)
+plan_behind (tasks.Run plan) = plan
+
+check_behind : (b : Bool) (run : RunPlan) (file : Word) → plan_behind (check_by b run file) ≡ Some (plans.Check run file)
+check_behind true run file = refl
+check_behind false run file = refl
+
+modules_behind : (b : Bool) (run : RunPlan) → plan_behind (modules_by b run) ≡ Some (plans.Module run)
+modules_behind true run = refl
+modules_behind false run = refl
+
+runs_behind : (b : Bool) (run : RunPlan) → plan_behind (runs_by b run) ≡ Some (plans.Run run)
+runs_behind true run = refl
+runs_behind false run = refl
+
+behind_task : (plan : Option Plan) → plan_behind (task_of plan) ≡ plan
+behind_task None = refl
+behind_task (Some (plans.Run run)) = runs_behind run.bundles run
+behind_task (Some (plans.Gen seed modules scripts)) = refl
+behind_task (Some (plans.Check run file)) = check_behind (is_some run.rounds) run file
+behind_task (Some (plans.Convert file)) = refl
+behind_task (Some (plans.Module run)) = modules_behind run.bundles run
+behind_task (Some (plans.Report path dir)) = refl
+behind_task (Some (plans.Bundle dir)) = refl
+
+pub plan_is : (plan : Option Plan) (task : Task) → task_of plan ≡ task → plan_behind task ≡ plan
+plan_is plan task found = subst (λ (x : Task). plan_behind x ≡ plan) found (behind_task plan)
+
+-- ---- which tree is read
+
+-- a task over the tree itself, and not over one in which bundles are folders
+abbrev pub IsDirect : Task → Type 0
+IsDirect (tasks.ModulesInBundles run) = ⊥
+IsDirect (tasks.RunInBundles run) = ⊥
+IsDirect task = Unit {0}
+
+direct_check : (b : Bool) (run : RunPlan) (file : Word) → IsDirect (check_by b run file)
+direct_check true run file = tt
+direct_check false run file = tt
+
+direct_task : (plan : Option Plan) → ReadsItself plan → IsDirect (task_of plan)
+direct_task None reads = tt
+direct_task (Some (plans.Run run)) reads = subst (λ (b : Bool). IsDirect (runs_by b run)) (sym reads.1) tt
+direct_task (Some (plans.Gen seed modules scripts)) reads = tt
+direct_task (Some (plans.Check run file)) reads = direct_check (is_some run.rounds) run file
+direct_task (Some (plans.Convert file)) reads = tt
+direct_task (Some (plans.Module run)) reads = subst (λ (b : Bool). IsDirect (modules_by b run)) (sym reads) tt
+direct_task (Some (plans.Report path dir)) reads = tt
+direct_task (Some (plans.Bundle dir)) reads = tt
+
+pub direct_of : (words : List Word) (plan : Option Plan) → plan ≡ plan_of words → ReadsItself (plan_of words) → (task : Task) → task_of plan ≡ task → IsDirect task
+direct_of words plan is reads task found = subst IsDirect found (direct_task plan (subst ReadsItself (sym is) reads))
+
+-- it names no rounds file
+pub no_rounds : (plan : Option Plan) → ReadsItself plan → rounds_plan plan ≡ None
+no_rounds None reads = refl
+no_rounds (Some (plans.Run run)) reads = ap (λ (o : Option Word). run_if (is_some o) run) reads.0
+no_rounds (Some (plans.Gen seed modules scripts)) reads = refl
+no_rounds (Some (plans.Check run file)) reads = refl
+no_rounds (Some (plans.Convert file)) reads = refl
+no_rounds (Some (plans.Module run)) reads = refl
+no_rounds (Some (plans.Report path dir)) reads = refl
+no_rounds (Some (plans.Bundle dir)) reads = refl

@@ -1,19 +1,24 @@
 -- How a call of the program ends.
-use Rattle.std.specs.Prelude.{◌≡◌, List, Option, Some, None}
+use Rattle.std.specs.Prelude.{◌≡◌, false, List, Option, Some, None}
 use Rattle.import_words.specs.Words.{Word}
 use Rattle.import_words.specs.Plans.{plan_of}
 use Rattle.import_words.specs.declared.plan.Plan.{Plan}
 use Rattle.import_words.specs.declared.plan.Plan.TheVariants as plans
+use Rattle.import_words.specs.declared.plan.RunPlan.{RunPlan}
 use Rattle.meaning_script.specs.Meaning.{meaning}
+use Rattle.run_module.specs.Programs.{meaning_of_name}
 use Rattle.step_calls.specs.Sources.{sources}
 use Rattle.program_run.specs.Sinks.{Moment}
 use Rattle.program_run.specs.Statuses.{want_of_memory}
 use Rattle.program_run.specs.Answers.{left_of}
+use Rattle.program_run.specs.Runs.{Gives}
+use Rattle.program_module.specs.Modules.{of_names, no_texts}
 use Rattle.program_run.specs.declared.report.Report.{Report}
 use Rattle.program_rounds.specs.Answers as call
 use Rattle.program_gen.specs.MadeRuns.{MadeGives, sinks, workload_of}
 use Rattle.program_convert.specs.Converting.{Converts}
 use Rattle.program_bundle.specs.Bundling.{Bundles}
+use Rattle.program_bundled.specs.Bundled.{expanded, GivesInBundles}
 use Rattle.program_check.specs.Checking.{Checks}
 use Rattle.pyimport.specs.declared.task.Numbers.{Numbers}
 use Rattle.pyimport.specs.declared.task.Stored.{Stored}
@@ -26,6 +31,13 @@ abbrev pub ReadsNoFolder : Option Plan → Type 0
 ReadsNoFolder (Some (plans.Check run file)) = ⊥
 ReadsNoFolder (Some (plans.Bundle dir)) = ⊥
 ReadsNoFolder plan = Unit {0}
+
+-- the tree that was handed in is read itself, and not a fork of it whose counts are added in the end: no rounds file is
+-- named, and bundles are files. (A count that stands past the greatest u64 is cut to that where a fork's is added.)
+abbrev pub ReadsItself : Option Plan → Type 0
+ReadsItself (Some (plans.Run run)) = (run.rounds ≡ None) × (run.bundles ≡ false)
+ReadsItself (Some (plans.Module run)) = run.bundles ≡ false
+ReadsItself plan = Unit {0}
 
 -- how a call ends that was made with these words, from one moment to a later one
 pub data Answers (words : List Word) (old new : Moment) (report : Report) : Type 0 where
@@ -45,6 +57,20 @@ pub data Answers (words : List Word) (old new : Moment) (report : Report) : Type
   -- the files below a folder were written as a bundle, or a line about them
   bundled : (dir : Word) → task_of (plan_of words) ≡ tasks.Bundle dir → report.plan ≡ Some (plans.Bundle dir)
       → report.history ≡ None → Bundles dir old new report.status → Answers words old new report
+  -- modules were run as programs, each in the thread of its place: the machine opened as for scripts of these names with
+  -- empty texts
+  modules : (run : RunPlan) → task_of (plan_of words) ≡ tasks.Modules run → report.plan ≡ Some (plans.Module run)
+      → Gives (of_names (meaning_of_name sources) run.scripts) run (no_texts run.scripts) old new (left_of report)
+      → Answers words old new report
+  -- the same over the tree in which each bundle is the folder that it lists
+  modules_in_bundles : (run : RunPlan) → task_of (plan_of words) ≡ tasks.ModulesInBundles run
+      → report.plan ≡ Some (plans.Module run)
+      → GivesInBundles (of_names (meaning_of_name sources) run.scripts) run (no_texts run.scripts) (expanded old) (expanded new)
+      (left_of report)
+      → Answers words old new report
+  -- scripts were run over the tree in which each bundle is the folder that it lists
+  runs_in_bundles : (run : RunPlan) → task_of (plan_of words) ≡ tasks.RunInBundles run
+      → call.Answers (meaning sources) words (expanded old) (expanded new) report → Answers words old new report
   -- scripts of the tree were run, at once or round after round, or the words were refused
   runs : (plan : Option Plan) → task_of (plan_of words) ≡ tasks.Run plan → call.Answers (meaning sources) words old new report
       → Answers words old new report

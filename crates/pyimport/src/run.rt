@@ -5,22 +5,24 @@ ghost use Rattle.import_words.specs.Plans.{plan_of};
 ghost use Rattle.program_run.specs.Answers.{left_of};
 ghost use Rattle.program_run.specs.Runs.{Gives};
 ghost use Rattle.program_run.specs.Sinks.{at, moment, Passes};
-ghost use Rattle.program_rounds.specs.Answers.{rounds_plan};
 ghost use Rattle.program_rounds.specs.Rounds.{AreBelowRoot, AreFew, AreSingle};
 ghost use Rattle.program_rounds.specs.Runs as in_rounds;
 ghost use Rattle.meaning_script.specs.Meaning.{meaning};
 ghost use Rattle.step_calls.specs.Sources.{sources};
-ghost use Rattle.pyimport.specs.Answers.{Answers, ReadsNoFolder};
+ghost use Rattle.pyimport.specs.Answers.{Answers, ReadsItself, ReadsNoFolder};
 
 use crate::judged::judge;
 use crate::made::run_made;
+use crate::module::Module;
 use crate::script::Script;
 use crate::task::{Task, task_of};
 use base_types::Seq;
 use drive_round::Gate;
 use import_words::{Round, RunPlan};
 use program_bundle::bundle;
+use program_bundled::{call_bundled, run_modules_bundled};
 use program_convert::convert;
+use program_module::run_modules;
 use program_rounds::{call, run_rounds_alone};
 use program_run::{
     Report, WANT_OF_MEMORY, plan_for, run_alone, run_together, with_plan, without_run,
@@ -117,10 +119,10 @@ pub fn run_all<R: Threads + Wait + Sync, T: Grove, K: Sink + Send, G: Gate + Syn
 /// Runs what the words of the command line ask for, over a tree, and writes what is to be written to
 /// the two sinks.
 ///
-/// What is built so far is `run` for 1 to 16 scripts, or for a rounds file whose rounds have one script
-/// each, with a search path, a budget and a trace as the words tell, `gen`, `convert`, `bundle`, and
-/// `check` without a rounds file; all other words are refused with the usage line. One script runs as in
-/// `solo`, several as in `run_all`, and rounds as in `solo_rounds`. A made workload leaves the tree alone.
+/// A rounds file with several scripts in a round, `check` with a rounds file, and `report` are not built
+/// yet, and are refused with the usage line. One script or module runs as in `solo`, several as in
+/// `run_all`, and rounds as in `solo_rounds`. With `--bundles` the tree is forked once, and all is done over
+/// that fork, in which bundles are folders. A made workload leaves the tree alone.
 pub fn pyimport<R: Threads + Wait + Sync, T: Grove, K: Sink + Send, G: Gate + Sync>(
     rt: &R,
     alloc: Global,
@@ -138,7 +140,7 @@ pub fn pyimport<R: Threads + Wait + Sync, T: Grove, K: Sink + Send, G: Gate + Sy
         (moment T.files T.faults T.lists tree.old (at K.written K.faults out.old) (at K.written K.faults err.old))
         (moment T.files T.faults T.lists tree.new (at K.written K.faults out.new) (at K.written K.faults err.new)) }
     ensures lists { result.history ≡ None → ReadsNoFolder result.plan → T.lists tree.new ≤ T.lists tree.old }
-    ensures lists_stay { rounds_plan (plan_of (map string_bytes words.now)) ≡ None → result.history ≡ None
+    ensures lists_stay { ReadsItself (plan_of (map string_bytes words.now)) → result.history ≡ None
         → ReadsNoFolder result.plan → T.lists tree.new ≡ T.lists tree.old }
 {
     match plan_for(alloc, words) {
@@ -147,6 +149,15 @@ pub fn pyimport<R: Threads + Wait + Sync, T: Grove, K: Sink + Send, G: Gate + Sy
             Task::Convert(file) => convert(alloc, file, tree, out, err),
             Task::Bundle(dir) => bundle(alloc, dir, tree, out, err),
             Task::Check(it) => judge(alloc, it, tree, out, err),
+            Task::Modules(run) => {
+                run_modules::<Module, R, T, K, G>(rt, alloc, run, tree, out, err, gate)
+            }
+            Task::ModulesInBundles(run) => {
+                run_modules_bundled::<Module, R, T, K, G>(rt, alloc, run, tree, out, err, gate)
+            }
+            Task::RunInBundles(run) => call_bundled::<Script, R, T, K, G>(
+                rt, alloc, words, run, tree, out, err, gate,
+            ),
             Task::Run(plan) => call::<Script, R, T, K, G>(
                 rt, alloc, words, plan, tree, out, err, gate,
             ),

@@ -1,6 +1,6 @@
 //! Which call does what the words ask for.
 ghost use Rattle.std.specs.Prelude.{◌≡◌};
-ghost use Rattle.pyimport.specs.Tasks.{check_of, task_of};
+ghost use Rattle.pyimport.specs.Tasks.{check_of, modules_by, runs_by, task_of};
 
 use base_types::Text;
 use import_words::{Plan, RunPlan};
@@ -31,6 +31,12 @@ pub enum Task {
     Bundle(Text),
     /// A stored trace is judged.
     Check(Stored),
+    /// Modules run as programs.
+    Modules(RunPlan),
+    /// The same over the tree in which bundles are folders.
+    ModulesInBundles(RunPlan),
+    /// Scripts run over the tree in which bundles are folders.
+    RunInBundles(RunPlan),
     /// Scripts run over the tree, or the words are refused.
     Run(Option<Plan>),
 }
@@ -43,6 +49,26 @@ fn check_of(run: RunPlan, trace_file: Text) -> Task
         return Task::Run(Some(Plan::Check { run, trace_file }));
     }
     Task::Check(Stored { run, trace_file })
+}
+
+/// Modules run as programs, by whether bundles are folders.
+fn modules_of(run: RunPlan) -> Task
+    ensures { result ≡ modules_by run.bundles run }
+{
+    if run.bundles {
+        return Task::ModulesInBundles(run);
+    }
+    Task::Modules(run)
+}
+
+/// Scripts run, by whether bundles are folders.
+fn runs_of(run: RunPlan) -> Task
+    ensures { result ≡ runs_by run.bundles run }
+{
+    if run.bundles {
+        return Task::RunInBundles(run);
+    }
+    Task::Run(Some(Plan::Run(run)))
 }
 
 /// What is to be done for a plan; there is none where the words are refused.
@@ -64,6 +90,8 @@ pub fn task_of(plan: Option<Plan>) -> Task
         Some(Plan::Convert { trace_file }) => Task::Convert(trace_file),
         Some(Plan::Bundle { dir }) => Task::Bundle(dir),
         Some(Plan::Check { run, trace_file }) => check_of(run, trace_file),
+        Some(Plan::Module(run)) => modules_of(run),
+        Some(Plan::Run(run)) => runs_of(run),
         other => Task::Run(other),
     }
 }

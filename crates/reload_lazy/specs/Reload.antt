@@ -64,6 +64,7 @@ abbrev pub does : Inside → ℕ → ModRef → ReloadStage → In → Piece
 does inside turns m stage.Begins given.Start = reloads inside m
 does inside turns m stage.Begins input = fails fault.NotInProfile
 does inside turns m (stage.Awaits n at) input = awaits inside turns (named m n) at input
+does inside turns m stage.Over input = fails fault.NotInProfile
 
 -- a reload that is under way goes on by what it is fed, with its own module, turns and stage
 abbrev pub means : Inside → Reloader → In → Piece

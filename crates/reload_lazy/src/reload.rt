@@ -1,5 +1,5 @@
 //! What a reload wants next.
-ghost use Rattle.std.specs.Prelude.{IfOk};
+ghost use Rattle.std.specs.Prelude.{◌≡◌, IfOk, OnErr};
 ghost use Rattle.reload_lazy.specs.Reload.{ReloadGoes, does, means};
 ghost use Rattle.reload_lazy.specs.Reloading.{does_at};
 ghost use Rattle.reload_lazy.specs.declared.reloader.Awaited.TheVariants as await;
@@ -12,6 +12,7 @@ use crate::locates::{on_entry, on_parent_path, on_search_path};
 use crate::raises::{fail, misfit, stop};
 use crate::reloader::{Awaited, Finding, ReloadStage, Reloader};
 use crate::takes::{take, took};
+use crate::waits::close;
 use base_types::NoMemory;
 use find_load::{In, Want};
 use meaning_state::{Fault, Flow};
@@ -282,13 +283,24 @@ fn go_on(p: &mut Reloader, name: Dotted, awaited: Awaited, input: In) -> Result<
     }
 }
 
-/// What a reload wants next, by what it is fed. An input that its stage does not wait for raises
-/// ProfileError.
-pub fn next(p: &mut Reloader, input: In) -> Result<Want, NoMemory>
+/// What a reload wants next, by its stage.
+fn step(p: &mut Reloader, input: In) -> Result<Want, NoMemory>
     ensures goes { IfOk result (ReloadGoes (λ inside. means inside p.old input) p.new) }
 {
-    match std::mem::replace(&mut p.stage, ReloadStage::Begins) {
+    match std::mem::replace(&mut p.stage, ReloadStage::Over) {
         ReloadStage::Begins => begin(p, input),
         ReloadStage::Awaits(name, awaited) => go_on(p, name, awaited, input),
+        ReloadStage::Over => misfit(p, input),
+    }
+}
+
+/// What a reload wants next, by what it is fed. An input that its stage does not wait for raises ProfileError. Where memory is wanting it is over: no input fits any more.
+pub fn next(p: &mut Reloader, input: In) -> Result<Want, NoMemory>
+    ensures goes { IfOk result (ReloadGoes (λ inside. means inside p.old input) p.new) }
+    ensures over { OnErr result (p.new.stage ≡ stages.Over) }
+{
+    match step(p, input) {
+        Ok(want) => Ok(want),
+        Err(_) => Err(close(p)),
     }
 }

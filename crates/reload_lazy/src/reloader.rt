@@ -60,6 +60,8 @@ pub enum ReloadStage {
     Begins,
     /// It waits, under the dotted name that its module's was read as.
     Awaits(Dotted, Awaited),
+    /// Nothing any more, since memory was wanting: no input fits.
+    Over,
 }
 
 /// A reload that is under way: its module, how often it may still ask for its lock, and where it

@@ -1,5 +1,5 @@
 //! What the first use of a lazy module wants next.
-ghost use Rattle.std.specs.Prelude.{◌<◌, IfOk};
+ghost use Rattle.std.specs.Prelude.{◌≡◌, ◌<◌, IfOk, OnErr};
 ghost use Rattle.machine_events.specs.declared.event.Event.TheVariants as ev;
 ghost use Rattle.machine_events.specs.declared.event.Reply.TheVariants as replies;
 ghost use Rattle.meaning_runs.specs.Runs.{Makes};
@@ -28,6 +28,15 @@ fn wait_for(p: &mut Rouser, stage: RouseStage, want: Want) -> Want
     let before = mem::replace(&mut p.stage, stage);
     drop(before);
     want
+}
+
+/// Memory was wanting: nothing is waited for any more, so that no input fits.
+fn close(p: &mut Rouser) -> NoMemory
+    ensures { p.new.stage ≡ stages.Over }
+{
+    let before = mem::replace(&mut p.stage, RouseStage::Over);
+    drop(before);
+    NoMemory
 }
 
 /// An error is raised.
@@ -221,17 +230,29 @@ fn after_leave(p: &mut Rouser, flow: Flow, input: In) -> Result<Want, NoMemory>
     }
 }
 
-/// What the first use of a module wants next, by what it is fed. An input that its stage does not wait
-/// for raises ProfileError.
-pub fn next(p: &mut Rouser, input: In) -> Result<Want, NoMemory>
+/// What the first use of a module wants next, by its stage.
+fn step(p: &mut Rouser, input: In) -> Result<Want, NoMemory>
     ensures goes { IfOk result (RouseGoes (λ inside. means inside p.old input) p.new) }
 {
-    match mem::replace(&mut p.stage, RouseStage::Begins) {
+    match mem::replace(&mut p.stage, RouseStage::Over) {
         RouseStage::Begins => begin(p, input),
         RouseStage::Asked => after_ask(p, input),
         RouseStage::Waits => after_wait(p, input),
         RouseStage::Running(load) => after_body(p, load, input),
         RouseStage::Finished => after_finish(p, input),
         RouseStage::Left(flow) => after_leave(p, flow, input),
+        RouseStage::Over => misfit(p, input),
+    }
+}
+
+/// What the first use of a module wants next, by what it is fed. An input that its stage does not wait
+/// for raises ProfileError. Where memory is wanting it is over: no input fits any more.
+pub fn next(p: &mut Rouser, input: In) -> Result<Want, NoMemory>
+    ensures goes { IfOk result (RouseGoes (λ inside. means inside p.old input) p.new) }
+    ensures over { OnErr result (p.new.stage ≡ stages.Over) }
+{
+    match step(p, input) {
+        Ok(want) => Ok(want),
+        Err(_) => Err(close(p)),
     }
 }

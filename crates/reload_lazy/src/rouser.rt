@@ -22,6 +22,8 @@ pub enum RouseStage {
     Finished,
     /// That the load ended, and then the leave goes on.
     Left(Flow),
+    /// Nothing any more, since memory was wanting: no input fits.
+    Over,
 }
 
 /// The first use of a module: how many more turns it may take, and what it waits for.

@@ -123,6 +123,7 @@ fn name_line<T: Tree>(
     ensures faults_stay { OnOk result (T.faults tree.new ≡ T.faults tree.old) }
     ensures files_stay { T.files tree.new ≡ T.files tree.old }
     ensures faults_grow { T.faults tree.old ≤ T.faults tree.new }
+    ensures lists_stay { T.lists tree.new ≡ T.lists tree.old }
 {
     let means = meaning_of(tree, path, name)?;
     Ok(told(what, &means)?)
@@ -141,6 +142,7 @@ fn member_line<T: Tree>(
     ensures faults_stay { OnOk result (T.faults tree.new ≡ T.faults tree.old) }
     ensures files_stay { T.files tree.new ≡ T.files tree.old }
     ensures faults_grow { T.faults tree.old ≤ T.faults tree.new }
+    ensures lists_stay { T.lists tree.new ≡ T.lists tree.old }
 {
     let alloc = name.alloc();
     let what = member_of(alloc, from.as_str(), name.as_str())?;
@@ -157,6 +159,7 @@ fn query_line<T: Tree>(tree: &mut T, path: &Texts, query: &Query) -> Result<Line
     ensures faults_stay { OnOk result (T.faults tree.new ≡ T.faults tree.old) }
     ensures files_stay { T.files tree.new ≡ T.files tree.old }
     ensures faults_grow { T.faults tree.old ≤ T.faults tree.new }
+    ensures lists_stay { T.lists tree.new ≡ T.lists tree.old }
 {
     match query {
         Query::Module(name) => name_line(tree, path, name, name),
@@ -198,6 +201,7 @@ pub fn question_line<T: Tree>(
     ensures faults_stay { OnOk result (T.faults tree.new ≡ T.faults tree.old) }
     ensures files_stay { T.files tree.new ≡ T.files tree.old }
     ensures faults_grow { T.faults tree.old ≤ T.faults tree.new }
+    ensures lists_stay { T.lists tree.new ≡ T.lists tree.old }
 {
     let answer = query_line(tree, path, &question.query)?;
     Ok(placed(file, question.line, answer)?)

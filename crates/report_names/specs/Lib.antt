@@ -1,2 +1,2 @@
-pub mod Unkept
 pub mod Meanings
+pub mod Seeking

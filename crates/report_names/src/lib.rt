@@ -2,7 +2,9 @@
 #![tactic(auto)]
 
 mod meaning;
+mod offers;
 mod seeking;
+mod wanted;
 
 pub use meaning::{Meaning, entries, meaning_of};
 pub use seeking::search;

@@ -78,11 +78,12 @@ fn search_means<T: Tree>(tree: &mut T, path: &Texts, name: &Text) -> Result<Mean
     ensures faults_stay { OnOk result (T.faults tree.new ≡ T.faults tree.old) }
     ensures files_stay { T.files tree.new ≡ T.files tree.old }
     ensures faults_grow { T.faults tree.old ≤ T.faults tree.new }
+    ensures lists_stay { T.lists tree.new ≡ T.lists tree.old }
 {
     let Some(dotted) = Dotted::read(name)? else {
         return Ok(Meaning::Missing(name.copy()?));
     };
-    let found = search(tree, dotted, entries(path)?)?;
+    let found = search(tree, dotted, path)?;
     Ok(found_means(name, found)?)
 }
 
@@ -93,6 +94,7 @@ fn first_means<T: Tree>(tree: &mut T, path: &Texts, name: &Text) -> Result<Meani
     ensures faults_stay { OnOk result (T.faults tree.new ≡ T.faults tree.old) }
     ensures files_stay { T.files tree.new ≡ T.files tree.old }
     ensures faults_grow { T.faults tree.old ≤ T.faults tree.new }
+    ensures lists_stay { T.lists tree.new ≡ T.lists tree.old }
 {
     if is_builtin(name.as_str()) {
         return Ok(Meaning::Builtin);
@@ -113,6 +115,7 @@ fn member_of<T: Tree>(
     ensures faults_stay { OnOk result (T.faults tree.new ≡ T.faults tree.old) }
     ensures files_stay { T.files tree.new ≡ T.files tree.old }
     ensures faults_grow { T.faults tree.old ≤ T.faults tree.new }
+    ensures lists_stay { T.lists tree.new ≡ T.lists tree.old }
 {
     match means {
         Meaning::Builtin | Meaning::Module(_) => Ok(Meaning::NotPackage(name.copy()?)),
@@ -156,6 +159,7 @@ fn onward<T: Tree>(
     ensures faults_stay { OnOk result (T.faults tree.new ≡ T.faults tree.old) }
     ensures files_stay { T.files tree.new ≡ T.files tree.old }
     ensures faults_grow { T.faults tree.old ≤ T.faults tree.new }
+    ensures lists_stay { T.lists tree.new ≡ T.lists tree.old }
 {
     let mut name = front;
     let mut means = means;
@@ -176,6 +180,7 @@ pub fn meaning_of<T: Tree>(tree: &mut T, path: &Texts, name: &Text) -> Result<Me
     ensures faults_stay { OnOk result (T.faults tree.new ≡ T.faults tree.old) }
     ensures files_stay { T.files tree.new ≡ T.files tree.old }
     ensures faults_grow { T.faults tree.old ≤ T.faults tree.new }
+    ensures lists_stay { T.lists tree.new ≡ T.lists tree.old }
 {
     let parts = parts_of(name.alloc(), name.as_str())?;
     match parts.as_slice() {

@@ -26,6 +26,8 @@ pub enum Stage {
     Main(Seq<u8>),
     /// The end of the body.
     Running,
+    /// Nothing any more, since memory was wanting: no input fits.
+    Over,
 }
 
 /// The start of a module that is under way: the thread that runs it, its home where it is the `__main__` of a

@@ -1,5 +1,5 @@
 //! What the start of a module wants next.
-ghost use Rattle.std.specs.Prelude.{IfOk};
+ghost use Rattle.std.specs.Prelude.{◌≡◌, IfOk, OnErr};
 ghost use Rattle.find_load.specs.declared.words.In.TheVariants as ins;
 ghost use Rattle.run_module.specs.Means.{Goes, means};
 ghost use Rattle.run_module.specs.UnderWay.{does_at};
@@ -9,6 +9,7 @@ use crate::finds::{discover, opened, run_body};
 use crate::locates::{begin, locate, on_entry, on_parent_path, on_search_path};
 use crate::raises::misfit;
 use crate::start::{ModuleStart, Stage};
+use crate::waits::close;
 use base_types::{NoMemory, Seq};
 use find_load::{In, Want};
 use meaning_state::Flow;
@@ -123,12 +124,11 @@ fn after_body(p: &mut ModuleStart, input: In) -> Result<Want, NoMemory>
     }
 }
 
-/// What the start of a module wants next, by what it is fed. An input that its stage does not wait for
-/// raises ProfileError.
-pub fn next(p: &mut ModuleStart, input: In) -> Result<Want, NoMemory>
+/// What the start of a module wants next, by its stage.
+fn step(p: &mut ModuleStart, input: In) -> Result<Want, NoMemory>
     ensures goes { IfOk result (Goes (λ inside. means inside p.old input) p.new) }
 {
-    match std::mem::replace(&mut p.stage, Stage::Running) {
+    match std::mem::replace(&mut p.stage, Stage::Over) {
         Stage::Begins => after_start(p, input),
         Stage::Parent => after_parent(p, input),
         Stage::SearchPath => after_search_path(p, input),
@@ -138,5 +138,18 @@ pub fn next(p: &mut ModuleStart, input: In) -> Result<Want, NoMemory>
         Stage::File(spec) => after_file(p, spec, input),
         Stage::Main(text) => after_main(p, text, input),
         Stage::Running => after_body(p, input),
+        Stage::Over => misfit(p, input),
+    }
+}
+
+/// What the start of a module wants next, by what it is fed. An input that its stage does not wait for
+/// raises ProfileError. Where memory is wanting it is over: no input fits any more.
+pub fn next(p: &mut ModuleStart, input: In) -> Result<Want, NoMemory>
+    ensures goes { IfOk result (Goes (λ inside. means inside p.old input) p.new) }
+    ensures over { OnErr result (p.new.stage ≡ stages.Over) }
+{
+    match step(p, input) {
+        Ok(want) => Ok(want),
+        Err(_) => Err(close(p)),
     }
 }

@@ -46,6 +46,8 @@ pub enum Stage {
     },
     /// That this state is kept.
     Kept(NsState),
+    /// Nothing any more, since memory was wanting: no input fits.
+    Over,
 }
 
 /// A path that is read: the module's, how many more modules may stand one above the other, and what it

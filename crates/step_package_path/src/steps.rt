@@ -1,5 +1,5 @@
 //! What the reading of a path wants next.
-ghost use Rattle.std.specs.Prelude.{◌≡◌, IfOk};
+ghost use Rattle.std.specs.Prelude.{◌≡◌, IfOk, OnErr};
 ghost use Rattle.spec_core.specs.Names.{parent_of};
 ghost use Rattle.machine_events.specs.declared.event.Reply.TheVariants as replies;
 ghost use Rattle.find_load.specs.declared.words.In.TheVariants as ins;
@@ -467,12 +467,11 @@ fn after_keep(p: &mut PathReader, state: NsState, input: In) -> Result<Want, NoM
     }
 }
 
-/// What the reading of a path wants next, by what it is fed. An input that its stage does not wait for
-/// raises ProfileError.
-pub fn next(p: &mut PathReader, input: In) -> Result<Want, NoMemory>
+/// What the reading of a path wants next, by its stage.
+fn step(p: &mut PathReader, input: In) -> Result<Want, NoMemory>
     ensures goes { IfOk result (Goes (λ inside. means inside p.old input) p.new) }
 {
-    let stage = std::mem::replace(&mut p.stage, Stage::Begins);
+    let stage = std::mem::replace(&mut p.stage, Stage::Over);
     match stage {
         Stage::Begins => begin(p, input),
         Stage::Read => after_read(p, input),
@@ -485,5 +484,27 @@ pub fn next(p: &mut PathReader, input: In) -> Result<Want, NoMemory>
         Stage::Above(namespace) => after_above(p, namespace, input),
         Stage::Searched { state, epoch, path } => after_search(p, state, epoch, path, input),
         Stage::Kept(state) => after_keep(p, state, input),
+        Stage::Over => misfit(p, input),
+    }
+}
+
+/// Memory was wanting: nothing is waited for any more, so that no input fits.
+fn close(p: &mut PathReader) -> NoMemory
+    ensures { p.new.stage ≡ stages.Over }
+{
+    let before = std::mem::replace(&mut p.stage, Stage::Over);
+    drop(before);
+    NoMemory
+}
+
+/// What the reading of a path wants next, by what it is fed. An input that its stage does not wait for
+/// raises ProfileError. Where memory is wanting it is over: no input fits any more.
+pub fn next(p: &mut PathReader, input: In) -> Result<Want, NoMemory>
+    ensures goes { IfOk result (Goes (λ inside. means inside p.old input) p.new) }
+    ensures over { OnErr result (p.new.stage ≡ stages.Over) }
+{
+    match step(p, input) {
+        Ok(want) => Ok(want),
+        Err(_) => Err(close(p)),
     }
 }

@@ -1,7 +1,6 @@
 //! A procedure is fed, and what it wants is what the work wants.
 ghost use Rattle.std.specs.Prelude.{◌≡◌, IfOk};
-ghost use Rattle.meaning_script.specs.Meaning.{inside_at};
-ghost use Rattle.step_procedures.specs.Waiting.{lifts, waits_parent, waits_path, waits_rouse};
+ghost use Rattle.step_procedures.specs.Waiting.{inside_by, lifts, waits_parent, waits_path, waits_rouse};
 ghost use Rattle.py_frames.specs.Does as meant;
 ghost use Rattle.py_frames.specs.Does.{Does, begins, goes_on, pieces, replies};
 ghost use Rattle.py_frames.specs.declared.work.Item.TheVariants as items;
@@ -22,14 +21,19 @@ use std::alloc::Global;
 use step_package_path::PathReader;
 
 /// A procedure waits for the import of a parent.
-fn open_import(name: &Dotted, procedure: Procedure, thread: &Thread) -> Result<Want, NoMemory>
-    ensures { IfOk result (Does thread.now (pieces (λ w d. waits_parent w d procedure name.now) thread.now)) }
+fn open_import(
+    name: &Dotted,
+    is_parent: bool,
+    procedure: Procedure,
+    thread: &Thread,
+) -> Result<Want, NoMemory>
+    ensures { IfOk result (Does thread.now (pieces (λ w d. waits_parent w d is_parent procedure name.now) thread.now)) }
 {
     let _ = thread;
     let name = name.owned()?;
     let item = Item::Import {
         name,
-        is_parent: true,
+        is_parent,
         is_lazy: false,
     };
     Ok(Want::Both(item, Frame::Open(procedure)))
@@ -69,11 +73,12 @@ fn open_rouse(
 /// What a procedure wants, wanted by the work.
 fn lift(
     alloc: Global,
+    is_parent: bool,
     procedure: Procedure,
     want: Wanted,
     thread: &Thread,
 ) -> Result<Want, NoMemory>
-    ensures { IfOk result (Does thread.now (pieces (λ w d. lifts w d want procedure) thread.now)) }
+    ensures { IfOk result (Does thread.now (pieces (λ w d. lifts w d is_parent want procedure) thread.now)) }
 {
     match want {
         Wanted::Call(event) => Ok(Want::Call(event, OnReply::Feed(procedure))),
@@ -103,7 +108,7 @@ fn lift(
             };
             Ok(Want::Both(item, Frame::Open(procedure)))
         }
-        Wanted::Import(name) => open_import(&name, procedure, thread),
+        Wanted::Import(name) => open_import(&name, is_parent, procedure, thread),
         Wanted::Path { module, turns } => open_path(alloc, module, turns, procedure, thread),
         Wanted::Rouse(module) => open_rouse(alloc, module, procedure, thread),
         Wanted::End(flow) => {
@@ -120,10 +125,11 @@ fn lift_step<P: Steps>(
     want: Wanted,
     thread: &Thread,
 ) -> Result<Want, NoMemory>
-    ensures { IfOk result (Does thread.now (pieces (λ w d. lifts w d want (P.held procedure)) thread.now)) }
+    ensures { IfOk result (Does thread.now (pieces (λ w d. lifts w d P.imports_parent want (P.held procedure)) thread.now)) }
 {
+    let is_parent = procedure.is_parent();
     match procedure.hold(alloc) {
-        Ok(procedure) => lift(alloc, procedure, want, thread),
+        Ok(procedure) => lift(alloc, is_parent, procedure, want, thread),
         Err(_) => {
             drop(want);
             Err(NoMemory)
@@ -138,7 +144,7 @@ fn step<P: Steps>(
     input: In,
     thread: &Thread,
 ) -> Result<Want, NoMemory>
-    ensures { IfOk result (Does thread.now (pieces (λ w d. P.means (inside_at w d) procedure input) thread.now)) }
+    ensures { IfOk result (Does thread.now (pieces (λ w d. P.means (inside_by w d P.imports_parent) procedure input) thread.now)) }
 {
     let mut procedure = procedure.into_inner();
     match procedure.step(input) {
@@ -164,6 +170,7 @@ pub fn fed(
         Procedure::Path(reader) => step(alloc, reader, input, thread),
         Procedure::Rouse(rouser) => step(alloc, rouser, input, thread),
         Procedure::Reload(reloader) => step(alloc, reloader, input, thread),
+        Procedure::Program(start) => step(alloc, start, input, thread),
     }
 }
 

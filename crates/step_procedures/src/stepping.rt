@@ -1,14 +1,16 @@
 //! Procedures that the work feeds, each in the same way.
-ghost use Rattle.std.specs.Prelude.{◌≡◌, ℕ, IfOk, refl};
+ghost use Rattle.std.specs.Prelude.{◌≡◌, ℕ, Bool, true, false, IfOk, refl};
 ghost use Rattle.meaning_script.specs.Pieces.{Piece};
 ghost use Rattle.meaning_script.specs.Imports.{Inside};
-ghost use Rattle.meaning_script.specs.Meaning.{World, inside_at};
+ghost use Rattle.meaning_script.specs.Meaning.{World};
 ghost use Rattle.find_load.specs.Means.{GoesOn};
 ghost use Rattle.find_load.specs.Means as imports;
 ghost use Rattle.find_load.specs.declared.words.In.{In as Input};
 ghost use Rattle.step_package_path.specs.Means as paths;
 ghost use Rattle.reload_lazy.specs.Rouse as rouses;
 ghost use Rattle.reload_lazy.specs.Reload as reloads;
+ghost use Rattle.run_module.specs.Means as programs;
+ghost use Rattle.step_procedures.specs.Waiting.{inside_by};
 ghost use Rattle.py_frames.specs.Does.{fed};
 ghost use Rattle.py_frames.specs.declared.procedures.Procedure.{Procedure as Held};
 ghost use Rattle.py_frames.specs.declared.procedures.Procedure.TheVariants as procedures;
@@ -18,6 +20,7 @@ use base_types::NoMemory;
 use find_load::{Importer, In, Want, next};
 use py_frames::Procedure;
 use reload_lazy::{Reloader, Rouser, next_of_reload, next_of_rouse};
+use run_module::{ModuleStart, next as next_of_program};
 use std::alloc::Global;
 use step_package_path::{PathReader, next as next_of_path};
 
@@ -27,6 +30,13 @@ pub(crate) trait Steps: Drop {
     ghost means: { Inside → Self → Input → Piece };
 
     ghost held: { Self → Held };
+
+    // Whether the parent of its name is imported as a parent is, or as an `import` of it does.
+    ghost imports_parent: { Bool };
+
+    /// The same.
+    fn is_parent(&self) -> bool
+        ensures { result ≡ imports_parent };
 
     /// What it wants next.
     fn step(&mut self, input: In) -> Result<Want, NoMemory>
@@ -38,7 +48,7 @@ pub(crate) trait Steps: Drop {
 
     // Fed by the work it does just that.
     ghost is_fed: { (w : World) (d : ℕ) (it : Self) (input : Input)
-        → fed w d (held it) input ≡ means (inside_at w d) it input };
+        → fed w d (held it) input ≡ means (inside_by w d imports_parent) it input };
 }
 
 impl Steps for Importer {
@@ -46,7 +56,13 @@ impl Steps for Importer {
 
     ghost held = { procedures.Import };
 
+    ghost imports_parent = { true };
+
     ghost is_fed = { λ w d it input. refl };
+
+    fn is_parent(&self) -> bool {
+        true
+    }
 
     fn step(&mut self, input: In) -> Result<Want, NoMemory> {
         next(self, input)
@@ -62,7 +78,13 @@ impl Steps for PathReader {
 
     ghost held = { procedures.Path };
 
+    ghost imports_parent = { true };
+
     ghost is_fed = { λ w d it input. refl };
+
+    fn is_parent(&self) -> bool {
+        true
+    }
 
     fn step(&mut self, input: In) -> Result<Want, NoMemory> {
         next_of_path(self, input)
@@ -78,7 +100,13 @@ impl Steps for Rouser {
 
     ghost held = { procedures.Rouse };
 
+    ghost imports_parent = { true };
+
     ghost is_fed = { λ w d it input. refl };
+
+    fn is_parent(&self) -> bool {
+        true
+    }
 
     fn step(&mut self, input: In) -> Result<Want, NoMemory> {
         next_of_rouse(self, input)
@@ -94,7 +122,13 @@ impl Steps for Reloader {
 
     ghost held = { procedures.Reload };
 
+    ghost imports_parent = { true };
+
     ghost is_fed = { λ w d it input. refl };
+
+    fn is_parent(&self) -> bool {
+        true
+    }
 
     fn step(&mut self, input: In) -> Result<Want, NoMemory> {
         next_of_reload(self, input)
@@ -102,5 +136,27 @@ impl Steps for Reloader {
 
     fn hold(self, alloc: Global) -> Result<Procedure, NoMemory> {
         Ok(Procedure::Reload(Boxed::new(alloc, self)?))
+    }
+}
+
+impl Steps for ModuleStart {
+    ghost means = { programs.means };
+
+    ghost held = { procedures.Program };
+
+    ghost imports_parent = { false };
+
+    ghost is_fed = { λ w d it input. refl };
+
+    fn is_parent(&self) -> bool {
+        false
+    }
+
+    fn step(&mut self, input: In) -> Result<Want, NoMemory> {
+        next_of_program(self, input)
+    }
+
+    fn hold(self, alloc: Global) -> Result<Procedure, NoMemory> {
+        Ok(Procedure::Program(Boxed::new(alloc, self)?))
     }
 }

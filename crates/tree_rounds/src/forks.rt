@@ -10,7 +10,7 @@ use tree_files::{Edit, Grove, Tree};
 use tree_overlay::Overlay;
 
 /// Puts copies of edits behind those that there are.
-fn add_edits(edits: &mut Seq<Edit>, more: &[Edit]) -> Result<(), NoMemory>
+pub fn add_edits(edits: &mut Seq<Edit>, more: &[Edit]) -> Result<(), NoMemory>
     ensures { OnOk result (edits.new ≡ edits.old ++ more.now) }
 {
     for edit in more {
@@ -20,7 +20,7 @@ fn add_edits(edits: &mut Seq<Edit>, more: &[Edit]) -> Result<(), NoMemory>
 }
 
 /// A fork of a tree after edits. It has counted nothing.
-fn edited_fork<T: Grove>(
+pub fn edited_fork<T: Grove>(
     alloc: Global,
     tree: &mut T,
     edits: &[Edit],

@@ -1,5 +1,5 @@
 -- What stands below a folder, name by name.
-use Rattle.std.proofs.Common.{◌≡◌, ◌∙◌, refl, sym, ap, subst, ℕ, List, [], ◌∷◌, ◌++◌, Bool, true, false, cond, ◌&&◌, ◌||◌, nat_eq, map, Option, Some, None, IsTrue, is_some, inl, inr, append_assoc, append-nil, if◌then◌else◌}
+use Rattle.std.proofs.Common.{◌≡◌, ◌∙◌, refl, sym, ap, subst, ℕ, List, [], ◌∷◌, ◌++◌, Bool, true, false, cond, ◌&&◌, ◌||◌, nat_eq, map, Option, Some, None, IsTrue, is_some, inl, inr, append_assoc, append-nil, if◌then◌else◌, length, ◌≤◌, arith}
 use Rattle.std.specs.Prelude.{T, ◌⊎◌}
 use Rattle.std.specs.List.{AllByRecursion, flat_map, list_all, list_any}
 use Rattle.std.specs.List.Sorted.{IsStrictlySortedBy}
@@ -124,7 +124,7 @@ module _ {X Y : Type 0} where
   alike g h [] e = refl
   alike g h (x ∷ xs) e = ap (λ l. l ++ flat_map g xs) (e x) ∙ ap (λ l. h x ++ l) (alike g h xs e)
 
-  nothing : (g : X → List Y) (xs : List X) → ((x : X) → g x ≡ []) → flat_map g xs ≡ []
+  pub nothing : (g : X → List Y) (xs : List X) → ((x : X) → g x ≡ []) → flat_map g xs ≡ []
   nothing g [] e = refl
   nothing g (x ∷ xs) e = ap (λ l. l ++ flat_map g xs) (e x) ∙ nothing g xs e
 
@@ -427,3 +427,68 @@ all_within-file {X} tell f t q bytes at =
     none : (a : List ℕ) (b : Bool) → is_some (node_at f (q ++ a ∷ [])) ≡ b → b ≡ false
     none a false is = refl
     none a true is = let bad : ◌≡◌ {A = Bool} false true = sym (ap is_dir at) ∙ t.inside q a is in cc
+
+-- ---- where nothing is told
+
+-- a path is no longer than what stands below it
+pub within_longer : (q p : Path) → is_within q p ≡ true → length q ≤ length p
+within_longer [] p w = omega arith
+within_longer (x ∷ q) [] w = cc
+within_longer (x ∷ q) (y ∷ p) w = let rest = within_longer q p (and_parts (same x y) (is_within q p) w).1 in omega (arith, rest)
+
+-- nothing is told of what stands at a path or below it, where nothing is told of each of these things
+pub all_within-silent : {X : Type 0} (tell : Path × Node → List X) (f : Files) (q : Path) → ((e : Path × Node) → is_within q e.0 ≡ true → tell e ≡ []) → all_within tell f q ≡ []
+unfolding all_within
+all_within-silent tell f q silent = nothing (within q tell) (entries f) (λ e. by e (is_within q e.0) refl)
+  where
+    of_named : (e : Path × Node) (b : Bool) → tell e ≡ [] → (if b then tell e else []) ≡ []
+    of_named e true none = none
+    of_named e false none = refl
+
+    by : (e : Path × Node) (b : Bool) → is_within q e.0 ≡ b → within q tell e ≡ []
+    by e false is = ap (λ c. if c then named tell e else []) is
+    by e true is = ap (λ c. if c then named tell e else []) is ∙ of_named e (list_all is_part e.0) (silent e is)
+
+-- ---- paths that are told
+
+-- nothing is told of a thing, or its path
+abbrev pub IsItsPath : (Path × Node → List Path) → Path × Node → Type 0
+IsItsPath tell e = (tell e ≡ []) ⊎ (tell e ≡ e.0 ∷ [])
+
+abbrev After : Path → List Path → Type 0
+After p = AllByRecursion (λ (q : Path). path_cmp p q ≡ Less)
+
+module _ (tell : Path × Node → List Path) (each : (e : Path × Node) → IsItsPath tell e) where
+  after_told : (p : Path) (es : Things) → Behind p es → After p (flat_map tell es)
+  after_told p [] h = tt
+  after_told p (e ∷ es) h = elim (each e) [
+    | inl none ↦ subst (λ (l : List Path). After p (l ++ flat_map tell es)) (sym none) (after_told p es h.1)
+    | inr it ↦ subst (λ (l : List Path). After p (l ++ flat_map tell es)) (sym it) (h.0, after_told p es h.1)
+  ]
+
+  told_rise : (es : Things) → T (is_sorted path_cmp es) → IsStrictlySortedBy path_cmp (flat_map tell es)
+  unfolding IsStrictlySortedBy
+  told_rise [] s = tt
+  told_rise (e ∷ es) s =
+      let two = both _ _ s in
+      let rest : IsStrictlySortedBy path_cmp (flat_map tell es) = told_rise es two.1 in
+      elim (each e) [
+        | inl none ↦ subst (λ (l : List Path). IsStrictlySortedBy path_cmp (l ++ flat_map tell es)) (sym none) rest
+        | inr it ↦ subst (λ (l : List Path). IsStrictlySortedBy path_cmp (l ++ flat_map tell es)) (sym it) (after_told e.0 es (behind_of e.0 es two.0), rest)
+      ]
+
+-- paths that are told rise
+pub all_within-rises : (tell : Path × Node → List Path) (f : Files) (q : Path) → ((e : Path × Node) → IsItsPath tell e) → IsStrictlySortedBy path_cmp (all_within tell f q)
+unfolding all_within
+all_within-rises tell f q each = told_rise (within q tell) within_each (entries f) (entries_sorted f)
+  where
+    of_named : (e : Path × Node) (b : Bool) → IsItsPath tell e → ((if b then tell e else []) ≡ []) ⊎ ((if b then tell e else []) ≡ e.0 ∷ [])
+    of_named e true it = it
+    of_named e false it = inl refl
+
+    of_within : (e : Path × Node) (b : Bool) → (named tell e ≡ []) ⊎ (named tell e ≡ e.0 ∷ []) → ((if b then named tell e else []) ≡ []) ⊎ ((if b then named tell e else []) ≡ e.0 ∷ [])
+    of_within e true it = it
+    of_within e false it = inl refl
+
+    within_each : (e : Path × Node) → IsItsPath (within q tell) e
+    within_each e = of_within e (is_within q e.0) (of_named e (list_all is_part e.0) (each e))

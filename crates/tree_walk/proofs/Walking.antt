@@ -32,12 +32,12 @@ due_push {X} tell f (g ∷ pile) folder = ap (λ (l : List X). l ++ of_folder te
 
 -- ---- single things
 
-dir_node : (n : Option Node) → IsTrue (is_dir n) → (time : ℕ) × (n ≡ Some (Dir time))
+pub dir_node : (n : Option Node) → IsTrue (is_dir n) → (time : ℕ) × (n ≡ Some (Dir time))
 dir_node None h = cc
 dir_node (Some (Dir time)) h = (time, refl)
 dir_node (Some (File bytes)) h = cc
 
-file_node : (n : Option Node) → IsTrue (is_file n) → n ≡ Some (File (bytes_of n))
+pub file_node : (n : Option Node) → IsTrue (is_file n) → n ≡ Some (File (bytes_of n))
 file_node None h = cc
 file_node (Some (Dir time)) h = cc
 file_node (Some (File bytes)) h = refl
@@ -152,17 +152,17 @@ file_taken (Some f) file old path bytes files size long is t p behind read fits 
 
 -- ---- what stands at a path
 
-absent_node : (n : Option Node) → stamp.Absent ≡ stamp_of n → n ≡ None
+pub absent_node : (n : Option Node) → stamp.Absent ≡ stamp_of n → n ≡ None
 absent_node None e = refl
 absent_node (Some (Dir time)) e = cc
 absent_node (Some (File bytes)) e = cc
 
-dir_stamped : (n : Option Node) (time : ℕ) → stamp.Dir time ≡ stamp_of n → IsTrue (is_dir n)
+pub dir_stamped : (n : Option Node) (time : ℕ) → stamp.Dir time ≡ stamp_of n → IsTrue (is_dir n)
 dir_stamped None time e = cc
 dir_stamped (Some (Dir t)) time e = refl
 dir_stamped (Some (File bytes)) time e = cc
 
-file_stamped : (n : Option Node) (size : ℕ) → stamp.File size ≡ stamp_of n → IsTrue (is_file n)
+pub file_stamped : (n : Option Node) (size : ℕ) → stamp.File size ≡ stamp_of n → IsTrue (is_file n)
 file_stamped None size e = cc
 file_stamped (Some (Dir t)) size e = cc
 file_stamped (Some (File bytes)) size e = refl
@@ -194,11 +194,11 @@ tree_there o p same t f e = subst (λ (x : Option Files). IfSome x IsTree) (sym 
 -- ---- names
 
 -- the item at a place comes first of those from there on
-next_item : {X : Type 0} (xs : List X) (i : ℕ) (x : X) → slice_get xs i ≡ Some x → drop i xs ≡ x ∷ drop (i + 1) xs
+pub next_item : {X : Type 0} (xs : List X) (i : ℕ) (x : X) → slice_get xs i ≡ Some x → drop i xs ≡ x ∷ drop (i + 1) xs
 next_item xs i x is = drop_more xs i x (slice_get_within xs i x is) ∙ ap (λ y. y ∷ drop (i + 1) xs) (get_or_from_slice_get xs i x x is)
 
 -- where there is no item, none is from there on
-no_item : {X : Type 0} (xs : List X) (i : ℕ) → slice_get xs i ≡ None → drop i xs ≡ []
+pub no_item : {X : Type 0} (xs : List X) (i : ℕ) → slice_get xs i ≡ None → drop i xs ≡ []
 no_item {X} xs i is = elim (slice_get_cases xs i).1 [
   | inl w ↦ let bad : ◌≡◌ {A = Option X} None (Some w.0) = sym is ∙ w.2 in cc
   | inr w ↦ drop_of_length-le xs w.0
@@ -248,14 +248,14 @@ module _ (f : Files) (dir : Path) (names : List (List ℕ)) (at : ℕ) (name : L
   name_passed none = name_taken (record { parts = old.parts; pile = pile; files = old.files; room = old.room }) true
       (nothing_taken f _ _ (record { parts = old.parts; pile = pile; files = old.files; room = old.room }) (all_within-no_part (file_in old.parts) f dir name none) (all_within-no_part (deep_in old.parts) f dir name none))
 
-child_is : (dir path : Path) (name : List ℕ) → Some path ≡ child_of dir name → path ≡ dir ++ name ∷ []
+pub child_is : (dir path : Path) (name : List ℕ) → Some path ≡ child_of dir name → path ≡ dir ++ name ∷ []
 child_is dir path name e = by (is_part name) e
   where
     by : (b : Bool) → Some path ≡ (if b then Some (dir ++ name ∷ []) else None) → path ≡ dir ++ name ∷ []
     by true e = cc
     by false e = cc
 
-no_child : (dir : Path) (name : List ℕ) → None ≡ child_of dir name → is_part name ≡ false
+pub no_child : (dir : Path) (name : List ℕ) → None ≡ child_of dir name → is_part name ≡ false
 no_child dir name e = by (is_part name) refl e
   where
     by : (b : Bool) → is_part name ≡ b → ◌≡◌ {A = Option Path} None (if b then Some (dir ++ name ∷ []) else None) → b ≡ false

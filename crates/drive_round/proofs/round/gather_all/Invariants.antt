@@ -1,4 +1,4 @@
-use Rattle.std.proofs.Common.{◌≡◌, ◌≤◌, ◌+◌, ℕ, Option, length, vec_len, vec_capacity}
+use Rattle.std.proofs.Common.{◌≡◌, ◌≤◌, ◌+◌, ℕ, Option, length, map, vec_len, vec_capacity}
 use mathlib.Core.List.{IsPrefix}
 use Rattle.tree_files.specs.Files.{Files}
 use Rattle.trace_book.specs.declared.view.Base.{Base}
@@ -14,12 +14,12 @@ invariant-loop-worker g l =
       workers : IsPrefix l.workers.items l.fn.workers.items;
       count : length l.results.items + length l.workers.items ≡ length l.fn.workers.items;
       room : length l.fn.workers.items ≤ vec_capacity l.results;
+      as_many : length l.trees.items ≡ length l.results.items;
+      tree_room : length l.fn.workers.items ≤ vec_capacity l.trees;
       table : l.pass.table ≡ shelf;
-      files : g.T.Tree.files l.tree ≡ g.T.Tree.files l.fn.tree;
-      grows : g.T.Tree.faults l.fn.tree ≤ g.T.Tree.faults l.tree;
       gathered : (base : Base) (files : Option Files) (from : ℕ) (runs : Runs) (fuel : ℕ)
           → Descends (λ k w. RanAt shelf base files from runs fuel k (seen w)) (length l.fn.workers.items) l.fn.workers.items
-          → Gathered shelf base files from runs fuel (tally l.fn.tree) (length l.results.items) l.pass (tally l.tree) l.results.items;
+          → Gathered shelf base files from runs fuel (length l.results.items) l.pass (map tally l.trees.items) l.results.items;
     }
 
 abbrev pub decreases-loop-worker : goal.decreases-loop-worker

@@ -19,7 +19,7 @@ returns-clause-kept g c =
     search rules
 
 pub returns-clause-ran : goal.returns-clause-ran
-returns-clause-ran g c = λ script one.
+returns-clause-ran g c = λ program one.
     let left = c.book-2-1.given.1 (sym (ap (λ p. p.name) (c.run-came.ensures.continues.place ∙ c.new-desk.ensures.place))) in
-    let same : c.index-as_slice-0.result ≡ script = c.index-as_slice-0.is ∙ ap (λ xs. get_or xs 0 c.index-as_slice-0.result) (c.as_slice.ensures.value ∙ one) in
-    ran_by g.S.Program.run _ _ _ _ _ script _ _ _ same (search rules) c.run-came.ensures.ran
+    let same : c.index-as_slice-0.result ≡ program = c.index-as_slice-0.is ∙ ap (λ xs. get_or xs 0 c.index-as_slice-0.result) (c.as_slice.ensures.value ∙ one) in
+    ran_by g.P.Program.run _ _ _ _ _ program _ _ _ same (search rules) c.run-came.ensures.ran

@@ -8,4 +8,5 @@ invariant-loop-part g l = record {
   means : ForSome (g.T.Tree.files l.tree) (λ f. onward f l.name l.means (map (λ x. x.now) (drop l.part-index l.parts)) ≡ onward f l.fn.front l.fn.means (map (λ x. x.now) l.parts));
   files : g.T.Tree.files l.tree ≡ g.T.Tree.files l.fn.tree;
   faults : g.T.Tree.faults l.tree ≡ g.T.Tree.faults l.fn.tree;
+  lists : g.T.Tree.lists l.tree ≡ g.T.Tree.lists l.fn.tree;
 }

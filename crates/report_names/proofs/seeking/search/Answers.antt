@@ -1,34 +1,31 @@
-use Rattle.std.proofs.Common.{◌≡◌, ◌∙◌, sym, ap, subst, [], Option}
+use Rattle.std.proofs.Common.{◌≡◌, ◌∙◌, sym, ap, ℕ, ◌+◌, List, [], drop, Option, None, subst}
 use Rattle.std.specs.Option.{ForSome}
-use Rattle.tree_files.specs.Files.{Files}
-use Rattle.path_finder.specs.Looking.{Suits}
-use Rattle.path_finder.specs.Find.{find}
-use Rattle.path_finder.specs.declared.sought.Sought.{Sought}
-use Rattle.report_names.specs.Unkept.{step_of}
-use Rattle.report_names.specs.declared.seeking.Step.TheVariants as step
-use Rattle.report_names.proofs.Unkept.{CameUnkept, goes_on, given_none, given_fits, comes_out}
+use Rattle.spec_core.specs.declared.spec.SpecKind.{SpecKind}
+use Rattle.report_names.specs.Seeking.{seek, by_kind}
+use Rattle.report_names.proofs.Finding.{seek_step, seek_decided, seek_over}
 use Rattle.report_names.proofs.seeking.search.Goals as goal
 
-pub steps-preserved : goal.steps-preserved
-steps-preserved g c =
-    let next : step_of c.in_ok-want.want ≡ step.On c.in-On.next = sym c.given.ensures ∙ c.in-On.is in
-    let stay : g.T.Tree.files c.next.new.tree ≡ g.T.Tree.files c.steps.tree = c.next.ensures.files_stay in
-    record {
-      name = ap (λ (s : Sought). s.name) c.next.ensures.same.0 ∙ c.steps.invariant.name;
-      path = c.next.ensures.same.1 ∙ c.steps.invariant.path;
-      fits = c.in_ok-want.ensures.awaits ∙ given_fits c.in_ok-want.want c.in-On.next next;
-      suits = subst (λ (o : Option Files). ForSome o (λ f. Suits c.next.new.self.stage f)) (sym stay) c.in_ok-want.ensures.suits;
-      came =
-          subst (λ (o : Option Files). ForSome o (CameUnkept c.next.new.self)) (sym stay)
-          (goes_on (g.T.Tree.files c.steps.tree) c.steps.look c.next.new.self c.steps.input c.in_ok-want.want c.in-On.next c.steps.invariant.came c.in_ok-want.ensures.finds c.steps.invariant.input next);
-      input = given_none c.in_ok-want.want c.in-On.next next;
-      files = stay ∙ c.steps.invariant.files;
-      faults = c.in_ok-want.ensures.faults_stay ∙ c.steps.invariant.faults;
-    }
+pub loop-entry-preserved : goal.loop-entry-preserved
+loop-entry-preserved g c = record {
+  found = λ f there.
+      let before = sym c.entry_offer.ensures.files_stay ∙ there in
+      let step = seek_step f c.args.name c.as_slice-entry-items.result.now c.loop-entry.entry-index c.entry-item.result c.in_ok-wanted.wanted.part c.in_ok-offer.offer c.loop-entry.portions c.loop-entry-test.true c.entry-item.is c.in_ok-wanted.ensures (c.in_ok-offer.ensures.told f before) in
+      sym (ap (λ (k : Option SpecKind). by_kind c.args.name k (seek f c.args.name (drop (c.loop-entry.entry-index + 1) c.as_slice-entry-items.result.now) c.keep.new.portions)) c.in-None.is)
+      ∙ sym (c.in_ok-decided.ensures c.args.name (seek f c.args.name (drop (c.loop-entry.entry-index + 1) c.as_slice-entry-items.result.now)))
+      ∙ sym step ∙ c.loop-entry.invariant.found f before;
+  files = c.entry_offer.ensures.files_stay ∙ c.loop-entry.invariant.files;
+  faults = c.in_ok-offer.ensures.faults_stay ∙ c.loop-entry.invariant.faults;
+  lists = c.entry_offer.ensures.lists_stay ∙ c.loop-entry.invariant.lists;
+}
 
-pub returns-in-Over-clause-found : goal.returns-in-Over-clause-found
-returns-in-Over-clause-found g c =
-    let over : step_of c.in_ok-want.want ≡ step.Over c.in-Over.found = sym c.given.ensures ∙ c.in-Over.is in
-    subst (λ (o : Option Files). ForSome o (λ f. c.in-Over.found ≡ find f c.args.name c.args.path [])) c.steps.invariant.files
-    (comes_out (g.T.Tree.files c.steps.tree) c.steps.look c.next.new.self c.steps.input c.in_ok-want.want c.in-Over.found c.args.name c.args.path c.steps.invariant.came c.in_ok-want.ensures.finds c.steps.invariant.input over
-    (ap (λ (s : Sought). s.name) c.next.ensures.same.0 ∙ c.steps.invariant.name) (c.next.ensures.same.1 ∙ c.steps.invariant.path))
+pub returns-in-Some-clause-found : goal.returns-in-Some-clause-found
+returns-in-Some-clause-found g c = λ f there.
+    let before = c.loop-entry.invariant.files ∙ there in
+    let behind = seek f c.args.name (drop (c.loop-entry.entry-index + 1) c.as_slice-entry-items.result.now) in
+    let step = seek_step f c.args.name c.as_slice-entry-items.result.now c.loop-entry.entry-index c.entry-item.result c.in_ok-wanted.wanted.part c.in_ok-offer.offer c.loop-entry.portions c.loop-entry-test.true c.entry-item.is c.in_ok-wanted.ensures (c.in_ok-offer.ensures.told f before) in
+    seek_decided f c.args.name c.in_ok-name-in-Some.name c.args.path.now c.in_ok-decided.decided c.in-Some.kind (behind c.keep.new.portions) _ c.in_ok-name-in-Some.ensures c.in-Some.is (sym (c.in_ok-decided.ensures c.args.name behind)) (sym step ∙ c.loop-entry.invariant.found f before)
+
+pub returns-clause-found : goal.returns-clause-found
+returns-clause-found g c = λ f there.
+    c.found.ensures c.args.name
+    ∙ seek_over f c.args.name c.args.path.now c.as_slice-entry-items.result.now c.loop-entry.entry-index c.loop-entry.portions c.loop-entry-test.false (c.loop-entry.invariant.found f (c.loop-entry.invariant.files ∙ there))

@@ -1,21 +1,12 @@
-use Rattle.std.proofs.Common.{◌≡◌, ◌-◌, ◌^◌, ℕ, List, Option}
+use Rattle.std.proofs.Common.{◌≡◌, [], drop}
 use Rattle.std.specs.Option.{ForSome}
-use Rattle.path_finder.specs.Looking.{awaits, input_kind, Suits, Came, reply_in}
-use Rattle.path_finder.specs.declared.words.Probe.{Probe}
-use Rattle.report_names.specs.Unkept.{NoneKept}
+use Rattle.report_names.specs.Seeking.{seek}
 use Rattle.report_names.proofs.seeking.search.Given as goal
 
-abbrev pub invariant-steps : goal.invariant-steps
-invariant-steps g l = record {
-  name : l.look.sought.name ≡ l.fn.name;
-  path : l.look.path ≡ l.fn.path;
-  fits : awaits l.look.stage ≡ input_kind l.input;
-  suits : ForSome (g.T.Tree.files l.tree) (λ f. Suits l.look.stage f);
-  came : ForSome (g.T.Tree.files l.tree) (λ f. (replies : List (Option Probe)) × NoneKept replies × Came f l.look replies);
-  input : NoneKept (reply_in l.input);
+abbrev pub invariant-loop-entry : goal.invariant-loop-entry
+invariant-loop-entry g l = record {
+  found : ForSome (g.T.Tree.files l.tree) (λ f. seek f l.fn.name (drop l.entry-index l.entry-items) l.portions ≡ seek f l.fn.name l.fn.path []);
   files : g.T.Tree.files l.tree ≡ g.T.Tree.files l.fn.tree;
   faults : g.T.Tree.faults l.tree ≡ g.T.Tree.faults l.fn.tree;
+  lists : g.T.Tree.lists l.tree ≡ g.T.Tree.lists l.fn.tree;
 }
-
-abbrev pub decreases-steps : goal.decreases-steps
-decreases-steps g l = 2 ^ 64 - l.counter

@@ -1,0 +1,5 @@
+pub mod Naming
+pub mod Things
+pub mod Piles
+pub mod Steps
+pub mod Once

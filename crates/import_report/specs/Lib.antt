@@ -1,0 +1,4 @@
+pub mod Sources
+pub mod Reports
+pub mod Due
+pub mod Left

@@ -1,0 +1,2 @@
+import price
+print("to pay", price.apple)
