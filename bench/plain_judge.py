@@ -1,5 +1,7 @@
 #!/usr/bin/env python3
-"""A second judge of stored traces, slow and plain: bench/plain_judge.py [--path LIST] [--fuel N] TRACE SCRIPT..
+"""A second judge of stored traces, slow and plain:
+
+    bench/plain_judge.py [--path LIST] [--fuel N] (TRACE SCRIPT.. | --rounds FILE TRACE)
 
 Says what `pyimport check` with these words has to say of a trace, and is written from the pages alone (docs/check.md and the
 pages that it names): the trace is read (`plain_trace.py`), replayed on a machine of dictionaries (`plain_machine.py`), and each
@@ -12,6 +14,7 @@ import sys
 import threading
 
 import plain_machine
+import plain_rounds
 import plain_running
 import plain_thread
 import plain_trace as trace
@@ -23,17 +26,32 @@ COUNTED = (("loads", ("load", "yours")), ("waits", ("wait",)), ("cycles", ("cycl
 
 
 class Case:
-    """What a trace is judged against: files, scripts with their texts, a search path, and a budget."""
+    """What a trace is judged against: scripts with their texts and the files of their rounds, a search path, and a budget."""
 
     def __init__(self, files, scripts, path=None, fuel=1_000_000):
-        self.files, self.scripts, self.fuel = files, scripts, fuel
-        self.path = [scripts[0].rpartition("/")[0]] if path is None else path
-        self.texts = [files.found[tuple(script.split("/"))] for script in scripts]
+        self.scripts, self.texts, self.trees, self.begins, self.fuel = [], [], [], [], fuel
+        self.path = path
+        if scripts:
+            self.path = [scripts[0].rpartition("/")[0]] if path is None else path
+            self.add_round(files, scripts)
+
+    @classmethod
+    def in_rounds(cls, rounds, path=None, fuel=1_000_000):
+        case = cls(None, [], [""] if path is None else path, fuel)
+        for files, scripts in rounds:
+            case.add_round(files, scripts)
+        return case
+
+    def add_round(self, files, scripts):
+        self.begins += [len(self.scripts)] * len(scripts)
+        self.trees += [files] * len(scripts)
+        self.texts += [files.found[tuple(script.split("/"))] for script in scripts]
+        self.scripts += scripts
 
 
 def replayed(case, entries):
     """The first entry that the machine does not make, with the cause, or None."""
-    machine = plain_machine.Machine(case.scripts, case.texts, case.path)
+    machine = plain_machine.Machine(case.scripts, case.texts, case.path, case.begins)
     for at, it in enumerate(entries):
         if it.thread >= machine.scripts:
             return at, "thread"
@@ -54,7 +72,7 @@ def followed(case, entries, number):
     """The entry at which a script parts from a trace, with the cause, or None."""
     places = [at for at, it in enumerate(entries) if it.thread == number]
     own = [entries[at] for at in places]
-    script = plain_running.Script(case.files, number, case.texts[number], case.fuel, own, stop_of(own))
+    script = plain_running.Script(case.trees[number], number, case.texts[number], case.fuel, own, stop_of(own))
     parts = script.parts()
     if parts is None:
         return None
@@ -91,15 +109,24 @@ def deeply(work):
     return answers[0]
 
 
+def case_of(given, files, path):
+    """What the words of a call name."""
+    if given.rounds is None:
+        return Case(files, given.scripts, path, given.fuel)
+    text = pathlib.Path(given.rounds).read_bytes().decode()
+    return Case.in_rounds(plain_rounds.rounds_of(files, text), path, given.fuel)
+
+
 def main():
     words = argparse.ArgumentParser(description=__doc__.split("\n")[0])
     words.add_argument("--path")
     words.add_argument("--fuel", type=int, default=1_000_000)
+    words.add_argument("--rounds")
     words.add_argument("trace")
-    words.add_argument("scripts", nargs="+")
+    words.add_argument("scripts", nargs="*")
     given = words.parse_args()
     path = None if given.path is None else given.path.split(":")
-    case = Case(plain_thread.Files.below("."), given.scripts, path, given.fuel)
+    case = case_of(given, plain_thread.Files.below("."), path)
     said = deeply(lambda: judged(case, pathlib.Path(given.trace).read_bytes()))
     print(said)
     sys.exit(0 if said.startswith("yes") else 1)

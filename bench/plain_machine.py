@@ -48,8 +48,9 @@ def start_variables(spec):
 
 
 class Machine:
-    def __init__(self, scripts, texts, path):
-        self.scripts = len(scripts)
+    def __init__(self, scripts, texts, path, begins):
+        """`begins` has for each script the first one of its round."""
+        self.scripts, self.begins = len(scripts), begins
         self.cache, self.objects, self.loads = {}, [], []
         self.locks, self.waits, self.states = {}, {}, {}
         self.path, self.epoch, self.reloads, self.ended, self.listings = list(path), 0, {}, set(), {}
@@ -134,7 +135,7 @@ class Machine:
     # Allowed.
 
     def allowed(self, thread, event):
-        if thread >= self.scripts or not self.exist(event):
+        if thread >= self.scripts or not self.is_due(thread) or not self.exist(event):
             return False
         word = event[0]
         if word == "wake":
@@ -143,6 +144,10 @@ class Machine:
             return False
         test = getattr(self, "allows_" + word.split(" ")[0], None)
         return test is None or test(thread, *event[1:])
+
+    def is_due(self, thread):
+        """Whether all scripts of earlier rounds have ended."""
+        return all(it in self.ended for it in range(self.begins[thread]))
 
     def exist(self, event):
         """Whether the modules and loads in an event exist, and its modules have the names and places of theirs."""

@@ -13,14 +13,14 @@ class Turns:
 
     def __init__(self, case, stops=()):
         self.case, self.stops, self.entries = case, dict(stops), []
-        self.machine = plain_machine.Machine(case.scripts, case.texts, case.path)
+        self.machine = plain_machine.Machine(case.scripts, case.texts, case.path, case.begins)
         self.due = {number: self.event_of(number) for number in range(len(case.scripts))}
 
     def event_of(self, number):
         """The event that a script makes next, or None."""
         own = [it for it in self.entries if it.thread == number]
         text, stop = self.case.texts[number], self.stops.get(number)
-        parts = plain_running.Script(self.case.files, number, text, self.case.fuel, own, stop).parts()
+        parts = plain_running.Script(self.case.trees[number], number, text, self.case.fuel, own, stop).parts()
         return parts and parts.event
 
     def ready(self):

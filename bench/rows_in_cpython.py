@@ -243,7 +243,7 @@ CALL = re.compile(
     r"(?:#.*\n)*row (?P<name>.*)\n(?P<files>(?:(?:file|dir|pieces) .*\n|[|/].*\n)*)"
     r"words run (?:--path (?P<path>\S+) )?(?:--rounds (?P<rounds>\S+)|(?P<scripts>[^-\s]\S*(?: [^-\s]\S*)*))\n"
     r"(?P<allowed>(?:allow .*\n)*)run(?: again and again -> as allowed.*)?\n"
-    r"(?:out\n(?P<out>(?:[|/] .*\n)*)(?:err\n(?P<err>(?:[|/] .*\n)*))?status (?P<status>\d)\n)?\n*"
+    r"(?:out\n(?P<out>(?:[|/] .*\n)*)(?:err\n(?P<err>(?:[|/] .*\n)*))?status (?P<status>\d)\n)?(?:run with each .*\n)*\n*"
 )
 # Rows of which the kind of the error alone is compared, beside those below a note that says so: why.
 BY_KIND = {"a first script that fails": "the text of a division by zero (`docs/differences.md`)"}

@@ -31,7 +31,7 @@ use Rattle.program_run.specs.Answers.{built, run_if}
 use Rattle.program_run.specs.declared.report.Left.{Left}
 use Rattle.program_run.specs.declared.report.Report.{Report}
 use Rattle.program_rounds.specs.Rounds.{scripts_of, opening_in}
-use Rattle.program_rounds.specs.Runs.{IsRun, HasRun}
+use Rattle.program_rounds.specs.Runs.{IsRun, EachActs, RunOver, HasRun}
 use Rattle.program_rounds.specs.Answers.{Answers, rounds_plan}
 use Rattle.program_bundled.specs.Bundled.{GivesInBundles}
 
@@ -98,6 +98,14 @@ module _ (files : Files) (fuel faults f status : ℕ) where
   rounds_by means opened rounds texts h (IsRun.whole turns are causes solo) = IsRun.whole turns are (causes_by turns causes) solo
   rounds_by means opened rounds texts h (IsRun.part turns rest six are causes solo) = IsRun.part turns rest six are (causes_by turns causes) solo
 
+  each_by : (means : Means) (h : List Entry) {t : ℕ} {trees : List Files} {texts : List (List ℕ)} → EachActs means forked h t trees texts → EachActs means whole h t trees texts
+  each_by means h (EachActs.none t) = EachActs.none t
+  each_by means h (EachActs.more t it trees text texts act rest) = EachActs.more t it trees text texts (act_by it fuel faults f status t (means t text) (own t h) act) (each_by means h {t = suc t} rest)
+
+  all_by : (means : Means) (opened : State) (rounds : List Round) (texts : List (List ℕ)) (h : List Entry) → RunOver means forked opened rounds texts h → RunOver means whole opened rounds texts h
+  all_by means opened rounds texts h (RunOver.alone single run) = RunOver.alone single (rounds_by means opened rounds texts h run)
+  all_by means opened rounds texts h (RunOver.together several acts) = RunOver.together several (each_by means h acts)
+
 -- the same where files are told
 told_by : (told : Option Files) (a b : Files → Type 0) → ((files : Files) → a files → b files) → IfSome told a → IfSome told b
 told_by None a b h it = tt
@@ -140,7 +148,7 @@ module _ (files files' files'' : Option Files) (faults f lists l lists' : ℕ) (
   ran_in_rounds : (means : Means) (plan : RunPlan) (rounds : List Round) (texts : List (List ℕ)) (h : List Entry) (status : ℕ) → HasRun means plan rounds texts first last (finished h status) → HasRun means plan rounds texts old new (finished h status)
   ran_in_rounds means plan rounds texts h status run = record {
     legal = run.legal;
-    runs = told_by files _ _ (λ told. rounds_by told plan.fuel faults f status means (opening_in plan rounds texts) rounds texts h) run.runs;
+    runs = told_by files _ _ (λ told. all_by told plan.fuel faults f status means (opening_in plan rounds texts) rounds texts h) run.runs;
     reads = reads_by faults f (reads_of (length (scripts_of rounds)) h) run.reads;
     lists = λ ended. lists_by (lists_of (length (scripts_of rounds)) h) (run.lists ended);
     leaves = leaves_by run.leaves;
@@ -159,8 +167,7 @@ module _ (files files' files'' : Option Files) (faults f lists l lists' : ℕ) (
   answers_by means words run report is (Answers.no_rounds it file line asks none has leaves) = Answers.no_rounds it file line asks none has (leaves_by leaves)
   answers_by means words run report is (Answers.unopened it file rounds line asks none has why leaves) = Answers.unopened it file rounds line asks none has why (leaves_by leaves)
   answers_by means words run report is (Answers.unread it file asks none rose leaves) = Answers.unread it file asks none (rose_by faults f rose) (leaves_by leaves)
-  answers_by means words run report is (Answers.ran it file rounds texts history asks h has single opens ran) = Answers.ran it file rounds texts history asks h has single opens (ran_in_rounds means it rounds texts history report.status ran)
-  answers_by means words run report is (Answers.several it file rounds asks none has several leaves) = Answers.several it file rounds asks none has several (leaves_by leaves)
+  answers_by means words run report is (Answers.ran it file rounds texts history asks h has opens ran) = Answers.ran it file rounds texts history asks h has opens (ran_in_rounds means it rounds texts history report.status ran)
   answers_by means words run report is (Answers.short it file asks none status o e) = Answers.short it file asks none status o e
 
   match_by : (means : Means) (plan : RunPlan) (texts : List (List ℕ)) (status : ℕ) (h : Option (List Entry))

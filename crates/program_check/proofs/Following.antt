@@ -1,43 +1,183 @@
 -- Scripts that are compared one after another.
-use Rattle.std.proofs.Common.{◌≡◌, ℕ, suc, ◌+◌, List, [], ◌∷◌, ◌++◌, length, Option, Some, None, IfSome, refl, subst, ap, sym, ◌∙◌, arith}
-use Rattle.std.proofs.lemmas.List.{length-append}
-use Rattle.tree_files.specs.Count.{Rose, raised}
+use Rattle.std.proofs.Common.{◌≡◌, ◌<◌, ◌≤◌, ℕ, zero, suc, ◌+◌, ◌-◌, List, [], ◌∷◌, ◌++◌, ◌&&◌, Bool, true, false, length, take, drop, get_or, replicate, Option, Some, None, IfSome, Result, Ok, Err, refl, subst, ap, sym, ◌∙◌, arith}
+use Rattle.std.specs.Prelude.{OnOk, slice_range}
+use Rattle.std.proofs.lemmas.List.{append_assoc, append-nil, drop-take, length-append, length-drop, length-take-le, replicate_more, take-append-drop, take-take, take_all, take_more}
 use Rattle.tree_files.specs.Files.{Files}
+use Rattle.tree_files.specs.declared.edit.Edit.{Edit}
+use Rattle.std.specs.List.{list_all}
+use Rattle.tree_overlay.specs.Kinds.{IsBelowRoot, is_below_root}
+use Rattle.tree_overlay.specs.Told.{edited_told}
+use Rattle.tree_overlay.proofs.Overlaid.{told_append}
+use Rattle.words_rounds.specs.declared.rounds.Round.{Round}
 use Rattle.machine_events.specs.declared.event.Entry.{Entry}
 use Rattle.machine_events.specs.declared.event.Follow.{Follow}
 use Rattle.machine_shown.specs.Own.{own}
 use Rattle.drive_follow.specs.Following.{Answers}
 use Rattle.program_run.specs.Alone.{Means}
-use Rattle.program_check.specs.Judge.{AllAnswer, AreFollows}
+use Rattle.program_rounds.specs.Course.{told_in}
+use Rattle.program_rounds.specs.Opened.{files_after}
+use Rattle.program_rounds.proofs.Begun.{next_round}
+use Rattle.program_rounds.proofs.Coursing.{many_more, told_more}
+use Rattle.program_rounds.proofs.Opening.{after_more}
+use Rattle.import_words.specs.declared.plan.RunPlan.{RunPlan}
+use Rattle.machine_spec.specs.declared.state.State.{State}
+use Rattle.program_rounds.specs.Rounds.{opening_in, scripts_of}
+use Rattle.trace_check.specs.Judge.{Judges}
+use Rattle.trace_check.specs.Replays.{Replays}
+use Rattle.trace_check.specs.declared.answers.Replayed.{Replayed}
+use Rattle.trace_check.specs.declared.answers.Verdict.{Verdict}
+use Rattle.program_check.specs.Judge.{AreFollows, JudgesEntries}
 
 -- what holds of the files that a tree tells
 pub if_told : (tree : Option Files) (P : Files → Type 0) → ((files : Files) → tree ≡ Some files → P files) → IfSome tree P
 if_told None P holds = tt
 if_told (Some files) P holds = holds files refl
 
--- a tree that took in a fork whose count rose
-pub rose_absorbed : (old mid new forked : ℕ) → mid ≡ old → new ≡ raised mid forked → Rose 0 forked → Rose old new
-rose_absorbed old mid new forked same is rose = omega (arith, same, is, rose)
+-- edits below the root, and more of them
+pub below_both : (edits more : List Edit) → IsBelowRoot edits → IsBelowRoot more → IsBelowRoot (edits ++ more)
+below_both [] more are behind = behind
+below_both (edit ∷ edits) more are behind = by (is_below_root edit) are (λ rest. below_both edits more rest behind)
+  where
+    by : (b : Bool) → (b && list_all is_below_root edits) ≡ true → (IsBelowRoot edits → IsBelowRoot (edits ++ more)) → (b && list_all is_below_root (edits ++ more)) ≡ true
+    by true rest go_on = go_on rest
+    by false rest go_on = rest
 
-module _ (means : Means) (files : Files) (fuel : ℕ) (history : List Entry) where
-  -- one answer more
-  answers_more : (t n : ℕ) (texts : List (List ℕ)) (follows : List Follow) (text : List ℕ) (follow : Follow) → n ≡ t + length texts → AllAnswer means files fuel history t texts follows
-      → Answers files n (means n text) fuel (own n history) follow → AllAnswer means files fuel history t (texts ++ text ∷ []) (follows ++ follow ∷ [])
-  answers_more t n [] [] text follow is all here =
-      (subst (λ (m : ℕ). Answers files m (means m text) fuel (own m history) follow) (omega (arith, is)) here, tt)
-  answers_more t n [] (f ∷ follows) text follow is all here = absurd all
-  answers_more t n (x ∷ texts) [] text follow is all here = absurd all
-  answers_more t n (x ∷ texts) (f ∷ follows) text follow is all here =
-      (all.0, answers_more (suc t) n texts follows text follow (omega (arith, is)) all.1 here)
+-- edits that were joined are below the root
+pub below_joined : (edits more mine joined seen : List Edit) → seen ≡ joined → joined ≡ edits ++ mine → mine ≡ more → IsBelowRoot edits → IsBelowRoot more → IsBelowRoot seen
+below_joined edits more mine joined seen same is copied are behind =
+    subst IsBelowRoot (sym (same ∙ (is ∙ ap (λ (x : List Edit). edits ++ x) copied))) (below_both edits more are behind)
 
-pub follows_more : (means : Means) (tree : Option Files) (fuel : ℕ) (history : List Entry) (n : ℕ) (texts : List (List ℕ)) (follows : List Follow) (text : List ℕ) (follow : Follow) → n ≡ length texts
-    → AreFollows means tree fuel history texts follows → IfSome tree (λ files. Answers files n (means n text) fuel (own n history) follow)
-    → AreFollows means tree fuel history (texts ++ text ∷ []) (follows ++ follow ∷ [])
-follows_more means None fuel history n texts follows text follow is all here =
-    length-append follows (follow ∷ []) ∙ (ap (λ (m : ℕ). m + 1) all ∙ sym (length-append texts (text ∷ [])))
-follows_more means (Some files) fuel history n texts follows text follow is all here =
-    answers_more means files fuel history 0 n texts follows text follow (omega (arith, is)) all here
+-- the files after edits, and after more of them
+pub told_next : (tree before : Option Files) (edits more joined : List Edit) → joined ≡ edits ++ more → edited_told edits tree ≡ before → edited_told joined tree ≡ edited_told more before
+told_next tree before edits more joined is was = told_append tree edits more joined is ∙ ap (λ (x : Option Files). edited_told more x) was
 
-pub follows_none : (means : Means) (tree : Option Files) (fuel : ℕ) (history : List Entry) → AreFollows means tree fuel history [] []
-follows_none means None fuel history = refl
-follows_none means (Some files) fuel history = tt
+pub after_next : (tree : Option Files) (rounds : List Round) (i : ℕ) (round : Round) → i < length rounds → round ≡ get_or rounds i round → edited_told round.edits (files_after tree (take i rounds)) ≡ files_after tree (take (i + 1) rounds)
+after_next tree rounds i round low at = sym (after_more tree (take i rounds) round) ∙ ap (λ (r : List Round). files_after tree r) (sym (next_round rounds i round low at))
+
+-- the front of a list, and what stands behind it
+take_split : {A : Type 0} (n m : ℕ) (xs : List A) → take n xs ++ take m (drop n xs) ≡ take (n + m) xs
+take_split n m xs =
+    let low : n ≤ n + m = omega arith in
+    let front = take-take n (n + m) xs low in
+    let rest = drop-take n m xs in
+    ap (λ (ys : List _). ys ++ take m (drop n xs)) (sym front) ∙ (ap (λ (ys : List _). take n (take (n + m) xs) ++ ys) (sym rest) ∙ take-append-drop n (take (n + m) xs))
+
+-- a round has no more texts than all
+pub few_here : (n k some from : ℕ) (texts here : List (List ℕ)) → here ≡ slice_range texts from (from + some) → some ≡ n → from ≡ k → k + n ≤ length texts → length texts ≤ 16 → from + length here ≤ 16
+few_here n k some from texts here is count at fits few =
+    let size : (from + some) - from ≡ n = omega (arith, count) in
+    let part : length here ≡ length (take n (drop k texts)) = ap length is ∙ (ap (λ (m : ℕ). length (take m (drop from texts))) size ∙ ap (λ (m : ℕ). length (take n (drop m texts))) at) in
+    let left = length-drop k texts in
+    let whole = length-take-le n (drop k texts) (omega (arith, left, fits)) in
+    omega (arith, part, whole, at, fits, few)
+
+-- what holds behind a call that went well
+pub then_ok : {A E P Q : Type 0} (r : Result A E) → OnOk r P → (P → Q) → OnOk r Q
+then_ok (Ok x) holds then = then holds
+then_ok (Err e) holds then = tt
+
+pub always_ok : {A E P : Type 0} (r : Result A E) → P → OnOk r P
+always_ok (Ok x) holds = holds
+always_ok (Err e) holds = tt
+
+module _ (means : Means) (fuel : ℕ) (history : List Entry) where
+  -- one script more
+  follows_more : {t : ℕ} {trees : List (Option Files)} {texts : List (List ℕ)} {follows : List Follow} (n : ℕ) (tree : Option Files) (text : List ℕ) (follow : Follow) → n ≡ t + length texts
+      → AreFollows means fuel history t trees texts follows → IfSome tree (λ files. Answers files n (means n text) fuel (own n history) follow)
+      → AreFollows means fuel history t (trees ++ tree ∷ []) (texts ++ text ∷ []) (follows ++ follow ∷ [])
+  follows_more n tree text follow is (AreFollows.none t) here =
+      let same : n ≡ t = omega (arith, is) in
+      AreFollows.more t tree [] text [] follow [] (subst (λ (m : ℕ). IfSome tree (λ files. Answers files m (means m text) fuel (own m history) follow)) same here) (AreFollows.none (suc t))
+  follows_more n tree text follow is (AreFollows.more t x trees y texts z follows first rest) here =
+      AreFollows.more t x (trees ++ tree ∷ []) y (texts ++ text ∷ []) z (follows ++ follow ∷ []) first (follows_more {t = suc t} n tree text follow (omega (arith, is)) rest here)
+
+  -- as many answers as scripts
+  pub many_follows : {t : ℕ} {trees : List (Option Files)} {texts : List (List ℕ)} {follows : List Follow} → AreFollows means fuel history t trees texts follows → length follows ≡ length texts
+  many_follows (AreFollows.none t) = refl
+  many_follows (AreFollows.more t x trees y texts z follows first rest) = ap suc (many_follows {t = suc t} rest)
+
+  abbrev All : List (Option Files) → List (List ℕ) → List Follow → Type 0
+  All trees texts follows = AreFollows means fuel history 0 trees texts follows
+
+  -- of a round no script yet
+  pub round_none : (trees : List (Option Files)) (before texts : List (List ℕ)) (follows : List Follow) (tree : Option Files) → All trees before follows → All (trees ++ replicate 0 tree) (before ++ take 0 texts) follows
+  round_none trees before texts follows tree all =
+      subst (λ (x : List (Option Files)). All x (before ++ take 0 texts) follows) (sym (append-nil trees)) (subst (λ (x : List (List ℕ)). All trees x follows) (sym (append-nil before)) all)
+
+  -- one script more of a round
+  pub round_more : (n i : ℕ) (trees : List (Option Files)) (before texts : List (List ℕ)) (follows : List Follow) (tree : Option Files) (text seen : List ℕ) (follow : Follow) (more : List Follow) → n ≡ length before + i → i < length texts → text ≡ get_or texts i text → seen ≡ text
+      → more ≡ follows ++ follow ∷ [] → All (trees ++ replicate i tree) (before ++ take i texts) follows → IfSome tree (λ files. Answers files n (means n seen) fuel (own n history) follow)
+      → All (trees ++ replicate (i + 1) tree) (before ++ take (i + 1) texts) more
+  round_more n i trees before texts follows tree text seen follow more is low at same pushed all here =
+      let whole = length-append before (take i texts) in
+      let here_many = length-take-le i texts (omega (arith, low)) in
+      let count : n ≡ 0 + length (before ++ take i texts) = omega (arith, is, whole, here_many) in
+      let next : take (i + 1) texts ≡ take i texts ++ text ∷ [] = take_more texts i text low ∙ ap (λ z. take i texts ++ z ∷ []) (sym at) in
+      let ts : (before ++ take i texts) ++ text ∷ [] ≡ before ++ take (i + 1) texts = append_assoc before (take i texts) (text ∷ []) ∙ ap (λ (x : List (List ℕ)). before ++ x) (sym next) in
+      let fs : (trees ++ replicate i tree) ++ tree ∷ [] ≡ trees ++ replicate (i + 1) tree = append_assoc trees (replicate i tree) (tree ∷ []) ∙ ap (λ (x : List (Option Files)). trees ++ x) (replicate_more i tree) in
+      let there : IfSome tree (λ files. Answers files n (means n text) fuel (own n history) follow) = subst (λ (x : List ℕ). IfSome tree (λ files. Answers files n (means n x) fuel (own n history) follow)) same here in
+      subst (λ (x : List Follow). All (trees ++ replicate (i + 1) tree) (before ++ take (i + 1) texts) x) (sym pushed)
+      (subst (λ (x : List (Option Files)). All x (before ++ take (i + 1) texts) (follows ++ follow ∷ [])) fs
+      (subst (λ (x : List (List ℕ)). All ((trees ++ replicate i tree) ++ tree ∷ []) x (follows ++ follow ∷ [])) ts (follows_more {t = 0} n tree text follow count all there)))
+
+  -- the texts of a round are those that stand at its place
+  pub round_here : (n k some from : ℕ) (trees : List (Option Files)) (before texts here : List (List ℕ)) (seen tree : Option Files) (follows : List Follow) → here ≡ slice_range texts from (from + some) → some ≡ n → from ≡ k → k + n ≤ length texts → seen ≡ tree
+      → All (trees ++ replicate (length here) seen) (before ++ here) follows → All (trees ++ replicate n tree) (before ++ take n (drop k texts)) follows
+  round_here n k some from trees before texts here seen tree follows is count at fits same all =
+      let size : (from + some) - from ≡ n = omega (arith, count) in
+      let part : here ≡ take n (drop k texts) = is ∙ (ap (λ (m : ℕ). take m (drop from texts)) size ∙ ap (λ (m : ℕ). take n (drop m texts)) at) in
+      let left = length-drop k texts in
+      let whole = length-take-le n (drop k texts) (omega (arith, left, fits)) in
+      let many : length here ≡ n = ap length part ∙ whole in
+      subst (λ (x : Option Files). All (trees ++ replicate n x) (before ++ take n (drop k texts)) follows) same
+      (subst (λ (m : ℕ). All (trees ++ replicate m seen) (before ++ take n (drop k texts)) follows) many
+      (subst (λ (x : List (List ℕ)). All (trees ++ replicate (length here) seen) (before ++ x) follows) part all))
+
+  -- so many texts so far
+  pub front_many : (k n : ℕ) (texts : List (List ℕ)) → k + n ≤ length texts → k ≡ length (take k texts)
+  front_many k n texts fits = sym (length-take-le k texts (omega (arith, fits)))
+
+  -- one round more
+  module _ (tree : Option Files) (rounds : List Round) (i : ℕ) (round : Round) (low : i < length rounds) (at : round ≡ get_or rounds i round) (texts : List (List ℕ)) (k : ℕ) (many : k ≡ length (scripts_of (take i rounds)))
+      (fits : k + length round.scripts ≤ length texts) (after : Option Files) (same : after ≡ edited_told round.edits (files_after tree (take i rounds))) (follows : List Follow) where
+    more : All (told_in tree (take i rounds) ++ replicate (length round.scripts) after) (take k texts ++ take (length round.scripts) (drop k texts)) follows → All (told_in tree (take (i + 1) rounds)) (take (k + length round.scripts) texts) follows
+    more all =
+        let fs : told_in tree (take i rounds) ++ replicate (length round.scripts) after ≡ told_in tree (take (i + 1) rounds) =
+        ap (λ (x : Option Files). told_in tree (take i rounds) ++ replicate (length round.scripts) x) same
+        ∙ (sym (told_more tree (take i rounds) round) ∙ ap (λ (r : List Round). told_in tree r) (sym (next_round rounds i round low at))) in
+        subst (λ (x : List (Option Files)). All x (take (k + length round.scripts) texts) follows) fs
+        (subst (λ (x : List (List ℕ)). All (told_in tree (take i rounds) ++ replicate (length round.scripts) after) x follows) (take_split k (length round.scripts) texts) all)
+
+    count : All (told_in tree (take (i + 1) rounds)) (take (k + length round.scripts) texts) follows → length follows ≡ k + length round.scripts
+    count all = many_follows {t = 0} all ∙ length-take-le (k + length round.scripts) texts fits
+
+    pub rounds_more : All (told_in tree (take i rounds) ++ replicate (length round.scripts) after) (take k texts ++ take (length round.scripts) (drop k texts)) follows
+        → (length follows ≡ length (scripts_of (take (i + 1) rounds))) × All (told_in tree (take (i + 1) rounds)) (take (length follows) texts) follows
+    rounds_more all =
+        let next = more all in
+        let here = count next in
+        let scripts : length (scripts_of (take (i + 1) rounds)) ≡ length (scripts_of (take i rounds)) + length round.scripts =
+        ap (λ (r : List Round). length (scripts_of r)) (next_round rounds i round low at) ∙ many_more (take i rounds) round in
+        (omega (arith, here, many, scripts), subst (λ (m : ℕ). All (told_in tree (take (i + 1) rounds)) (take m texts) follows) (sym here) next)
+
+  -- behind the last round all scripts were compared
+  pub whole_rounds : (tree : Option Files) (rounds : List Round) (i : ℕ) (texts : List (List ℕ)) (follows : List Follow) → length rounds ≤ i → length texts ≡ length (scripts_of rounds) → length follows ≡ length (scripts_of (take i rounds))
+      → All (told_in tree (take i rounds)) (take (length follows) texts) follows → All (told_in tree rounds) texts follows
+  whole_rounds tree rounds i texts follows high all many each =
+      let last : take i rounds ≡ rounds = take_all i rounds high in
+      let scripts : length (scripts_of (take i rounds)) ≡ length (scripts_of rounds) = ap (λ (r : List Round). length (scripts_of r)) last in
+      subst (λ (r : List Round). All (told_in tree r) texts follows) last
+      (subst (λ (x : List (List ℕ)). All (told_in tree (take i rounds)) x follows) (take_all (length follows) texts (omega (arith, all, many, scripts))) each)
+
+-- the verdict on the entries of a trace
+pub entries_judged : (means : Means) (tree : Option Files) (plan : RunPlan) (rounds seen : List Round) (texts heard : List (List ℕ)) (history : List Entry) (verdict : Verdict) (machine : State) (replayed : Replayed) (follows told : List Follow)
+    → machine ≡ opening_in plan rounds texts → seen ≡ rounds → heard ≡ texts → told ≡ follows → Replays machine history replayed → AreFollows means plan.fuel history 0 (told_in tree seen) heard follows → Judges history replayed told verdict
+    → JudgesEntries means tree plan rounds texts history verdict
+entries_judged means tree plan rounds seen texts heard history verdict machine replayed follows told opened same_rounds same_texts same replays are judges = record {
+  replayed = replayed;
+  replays = subst (λ (s : State). Replays s history replayed) opened replays;
+  follows = follows;
+  are = subst (λ (r : List Round). AreFollows means plan.fuel history 0 (told_in tree r) texts follows) same_rounds
+      (subst (λ (t : List (List ℕ)). AreFollows means plan.fuel history 0 (told_in tree seen) t follows) same_texts are);
+  judges = subst (λ (f : List Follow). Judges history replayed f verdict) same judges;
+}

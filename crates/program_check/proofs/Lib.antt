@@ -1,3 +1,4 @@
 mod Following
+mod Fitting
 mod Verdicts
 mod Saying

@@ -1,3 +1,4 @@
 pub mod Judge
+pub mod Opened
 pub mod Lines
 pub mod Checking

@@ -1,22 +1,24 @@
 //! The call that judges a stored trace.
-ghost use Rattle.std.specs.Prelude.{◌≡◌, ◌≤◌, [], length, None, Some, IfOk};
+ghost use Rattle.std.specs.Prelude.{◌≡◌, ◌≤◌, [], None, Some, IfOk};
 ghost use Rattle.import_words.specs.declared.plan.Plan.TheVariants as plans;
-ghost use Rattle.program_run.specs.Scripts.{AreFew, EachOpens};
+ghost use Rattle.program_run.specs.Scripts.{AreFew};
 ghost use Rattle.program_run.specs.Sinks.{at, moment, status_by, Gets, Leaves, Moment, Passes};
 ghost use Rattle.program_run.specs.Statuses.{sink_fault};
 ghost use Rattle.program_check.specs.Lines.{verdict_line, status_of};
 ghost use Rattle.program_check.specs.Checking.{Checks, ChecksText, Says, Unmade};
+ghost use Rattle.program_check.specs.Opened.{Fit, Opens};
 
 use crate::followed::Followed;
 use crate::lines::{status_of, verdict_line};
+use crate::opened::{Opened, open_scripts};
 use crate::text::{Said, judge};
-use base_types::{Seq, Text};
+use base_types::Text;
 use import_words::{Plan, RunPlan};
 use machine_desk::Flow;
 use program_convert::open_trace;
 use program_run::{
-    REFUSAL, Report, SINK_FAULT, TREE_FAULT, Unopened, WANT_OF_MEMORY, joined, open_all, say_line,
-    tell, without_run,
+    REFUSAL, Report, SINK_FAULT, TREE_FAULT, Unopened, WANT_OF_MEMORY, joined, say_line, tell,
+    without_run,
 };
 use std::alloc::Global;
 use tree_files::{Grove, Sink, TreeFault};
@@ -77,13 +79,13 @@ fn check_text<F: Followed, T: Grove, O: Sink, K: Sink>(
     bytes: &[u8],
     run: RunPlan,
     trace_file: Text,
-    texts: &Seq<Seq<u8>>,
+    it: &Opened,
     tree: &mut T,
     out: &mut O,
     err: &mut K,
 ) -> Report
-    requires few { AreFew run.scripts }
-    requires opened { EachOpens (T.files tree.old) run.scripts texts.now }
+    requires opened { Opens (T.files tree.old) run it.now.rounds it.now.texts }
+    requires fit { Fit it.now.rounds it.now.texts }
     ensures answers { ChecksText F.means bytes.now run
         (moment T.files T.faults T.lists tree.old (at O.written O.faults out.old) (at K.written K.faults err.old))
         (moment T.files T.faults T.lists tree.new (at O.written O.faults out.new) (at K.written K.faults err.new))
@@ -94,7 +96,7 @@ fn check_text<F: Followed, T: Grove, O: Sink, K: Sink>(
         (moment T.files T.faults T.lists tree.old (at O.written O.faults out.old) (at K.written K.faults err.old))
         (moment T.files T.faults T.lists tree.new (at O.written O.faults out.new) (at K.written K.faults err.new)) }
 {
-    let judged = judge::<F, T>(alloc, &run, texts, tree, bytes);
+    let judged = judge::<F, T>(alloc, &run, it, tree, bytes);
     let plan = plan_of(run, trace_file);
     match judged {
         Ok(said) => say(alloc, &said, plan, out),
@@ -103,7 +105,7 @@ fn check_text<F: Followed, T: Grove, O: Sink, K: Sink>(
     }
 }
 
-/// Opens the scripts of a run, and judges the text of a trace.
+/// Opens the rounds file of a plan, where there is one, and the scripts, and judges the text of a trace.
 fn check_opened<F: Followed, T: Grove, O: Sink, K: Sink>(
     alloc: Global,
     bytes: &[u8],
@@ -113,7 +115,7 @@ fn check_opened<F: Followed, T: Grove, O: Sink, K: Sink>(
     out: &mut O,
     err: &mut K,
 ) -> Report
-    requires few { AreFew run.scripts }
+    requires few { run.rounds ≡ None → AreFew run.scripts }
     ensures answers { ChecksText F.means bytes.now run
         (moment T.files T.faults T.lists tree.old (at O.written O.faults out.old) (at K.written K.faults err.old))
         (moment T.files T.faults T.lists tree.new (at O.written O.faults out.new) (at K.written K.faults err.new))
@@ -124,17 +126,16 @@ fn check_opened<F: Followed, T: Grove, O: Sink, K: Sink>(
         (moment T.files T.faults T.lists tree.old (at O.written O.faults out.old) (at K.written K.faults err.old))
         (moment T.files T.faults T.lists tree.new (at O.written O.faults out.new) (at K.written K.faults err.new)) }
 {
-    match open_all(alloc, tree, run.scripts.as_slice()) {
-        Ok(texts) => {
-            check_text::<F, T, O, K>(alloc, bytes, run, trace_file, &texts, tree, out, err)
-        }
+    match open_scripts(alloc, tree, &run) {
+        Ok(it) => check_text::<F, T, O, K>(alloc, bytes, run, trace_file, &it, tree, out, err),
         Err(why) => unopened(alloc, why, plan_of(run, trace_file), err),
     }
 }
 
-/// Judges the trace that a word names in a tree against the scripts of a run, and writes one line to
-/// `out`: that it is a history of the machine which each script follows, with its counts, or the first
-/// line that is wrong. What cannot be opened is told in a line on `err`.
+/// Judges the trace that a word names in a tree against the scripts of a plan, each over the files of its
+/// own round, and writes one line to `out`: that it is a history of the machine which each script
+/// follows, with its counts, or the first line that is wrong. What cannot be opened is told in a line on
+/// `err`.
 pub fn check<F: Followed, T: Grove, O: Sink, K: Sink>(
     alloc: Global,
     run: RunPlan,
@@ -143,7 +144,7 @@ pub fn check<F: Followed, T: Grove, O: Sink, K: Sink>(
     out: &mut O,
     err: &mut K,
 ) -> Report
-    requires few { AreFew run.scripts }
+    requires few { run.rounds ≡ None → AreFew run.scripts }
     ensures answers { Checks F.means trace_file run
         (moment T.files T.faults T.lists tree.old (at O.written O.faults out.old) (at K.written K.faults err.old))
         (moment T.files T.faults T.lists tree.new (at O.written O.faults out.new) (at K.written K.faults err.new))

@@ -7,6 +7,7 @@ mod entries;
 mod followed;
 mod laws;
 mod lines;
+mod opened;
 mod text;
 
 pub use call::check;

@@ -1,13 +1,13 @@
 //! The verdict on the text of a trace.
-ghost use Rattle.std.specs.Prelude.{◌≡◌, ◌≤◌, ℕ, List, Ok, length, IfOk, IsErrOf};
+ghost use Rattle.std.specs.Prelude.{◌≡◌, ◌≤◌, ℕ, List, Ok, IfOk, IsErrOf};
 ghost use Rattle.tree_files.specs.Count.{Rose};
 ghost use Rattle.trace_read.specs.Reading.{trace_in, format_and_entries};
-ghost use Rattle.program_run.specs.Scripts.{AreFew};
 ghost use Rattle.program_check.specs.Judge.{Judge};
+ghost use Rattle.program_check.specs.Opened.{Fit};
 
 use crate::entries::judge_entries;
 use crate::followed::Followed;
-use base_types::Seq;
+use crate::opened::Opened;
 use import_words::RunPlan;
 use std::alloc::Global;
 use trace_check::{Verdict, Why};
@@ -44,14 +44,14 @@ fn no_trace(line: u32) -> Said
 fn judge_trace<F: Followed, T: Grove>(
     alloc: Global,
     run: &RunPlan,
-    texts: &Seq<Seq<u8>>,
+    it: &Opened,
     tree: &mut T,
     trace: &Trace,
 ) -> Result<Said, TreeFault>
-    requires few { AreFew run.now.scripts }
-    requires texts { length texts.now ≡ length run.now.scripts }
+    requires fit { Fit it.now.rounds it.now.texts }
     ensures judges { (bytes : List ℕ) → trace_in bytes ≡ Ok (format_and_entries trace.now)
-        → IfOk result (λ it. Judge F.means (T.files tree.old) run.now texts.now bytes it.entries it.verdict) }
+        → IfOk result (λ said. Judge F.means (T.files tree.old) run.now it.now.rounds it.now.texts bytes
+        said.entries said.verdict) }
     ensures failed { IsErrOf result TreeFault.Failed → Rose (T.faults tree.old) (T.faults tree.new) }
     ensures files_stay { T.files tree.new ≡ T.files tree.old }
     ensures faults_grow { T.faults tree.old ≤ T.faults tree.new }
@@ -60,7 +60,7 @@ fn judge_trace<F: Followed, T: Grove>(
         return Ok(no_trace(FORMAT_LINE));
     }
     let entries = trace.entries.as_slice();
-    let verdict = judge_entries::<F, T>(alloc, run, texts, tree, entries)?;
+    let verdict = judge_entries::<F, T>(alloc, run, it, tree, entries)?;
     Ok(Said {
         entries: entries.len(),
         verdict,
@@ -71,20 +71,19 @@ fn judge_trace<F: Followed, T: Grove>(
 pub fn judge<F: Followed, T: Grove>(
     alloc: Global,
     run: &RunPlan,
-    texts: &Seq<Seq<u8>>,
+    it: &Opened,
     tree: &mut T,
     bytes: &[u8],
 ) -> Result<Said, TreeFault>
-    requires few { AreFew run.now.scripts }
-    requires texts { length texts.now ≡ length run.now.scripts }
-    ensures judges { IfOk result (λ it. Judge F.means (T.files tree.old) run.now texts.now bytes.now
-        it.entries it.verdict) }
+    requires fit { Fit it.now.rounds it.now.texts }
+    ensures judges { IfOk result (λ said. Judge F.means (T.files tree.old) run.now it.now.rounds it.now.texts
+        bytes.now said.entries said.verdict) }
     ensures failed { IsErrOf result TreeFault.Failed → Rose (T.faults tree.old) (T.faults tree.new) }
     ensures files_stay { T.files tree.new ≡ T.files tree.old }
     ensures faults_grow { T.faults tree.old ≤ T.faults tree.new }
 {
     match read_trace(alloc, bytes) {
-        Ok(trace) => judge_trace::<F, T>(alloc, run, texts, tree, &trace),
+        Ok(trace) => judge_trace::<F, T>(alloc, run, it, tree, &trace),
         Err(TraceError::At { line, cause }) => {
             drop(cause);
             Ok(no_trace(line))

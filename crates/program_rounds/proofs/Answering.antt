@@ -14,6 +14,7 @@ use Rattle.tree_overlay.specs.Told.{edited_told}
 use Rattle.words_rounds.specs.Grammar.{IsFile, IsRound, IsEdit, OnLines, AreRounds, scripts_in}
 use Rattle.words_rounds.specs.declared.rounds.Round.{Round}
 use Rattle.machine_events.specs.declared.event.Entry.{Entry}
+use Rattle.machine_laws.specs.Begun.{HaveScripts}
 use Rattle.meaning_solo.specs.Made.{Turn}
 use Rattle.import_words.specs.Words.{Word}
 use Rattle.import_words.specs.Plans.{plan_of}
@@ -34,10 +35,11 @@ use Rattle.program_run.specs.declared.open.Unopened.{Unopened}
 use Rattle.program_run.specs.declared.open.Unopened.TheVariants as unopened
 use Rattle.program_run.specs.declared.report.Report.{Report}
 use Rattle.program_run.specs.declared.report.Left.{Left}
+use Rattle.program_run.proofs.Answering.{act_since}
 use Rattle.program_rounds.specs.Answers.{Answers, Asks, IsLater, Tells, in_rounds, rounds_plan}
 use Rattle.program_rounds.specs.Opened.{HasRounds, WantsRounds, EachRoundOpens, StopsIn}
-use Rattle.program_rounds.specs.Rounds.{AreBelowRoot, AreFew, AreSingle, is_single, scripts_of, opening_in}
-use Rattle.program_rounds.specs.Runs.{IsRun, HasRun, Gives}
+use Rattle.program_rounds.specs.Rounds.{AreBelowRoot, AreSingle, CanRun, is_single, scripts_of, sizes_of, opening_in}
+use Rattle.program_rounds.specs.Runs.{IsRun, EachActs, RunOver, HasRun, Gives}
 
 -- ---- what the words ask for
 
@@ -87,10 +89,6 @@ below_from (round ∷ rounds) text are = (below_lines round.edits are.2.edits ar
 pub below_by : {tree : Option Files} {file : Word} {rounds : List Round} → HasRounds tree file rounds → AreBelowRoot rounds
 below_by {tree} {file} {rounds} has = below_from rounds has.spells.text has.spells.are_rounds
 
-single_in : (rounds : List Round) → AreSingle rounds → scripts_in rounds ≡ length rounds
-single_in [] single = refl
-single_in (round ∷ rounds) single = let one : length round.scripts ≡ 1 = single.0 in let rest = single_in rounds single.1 in omega (arith, one, rest)
-
 one_script : (n : ℕ) → (n == 1) ≡ true → n ≡ 1
 one_script n is = omega (arith, eqb-true n 1 is)
 
@@ -110,29 +108,41 @@ several_by (round ∷ rounds) is single = by (is_single round) refl is (λ rest.
     by true one rest behind = behind rest
     by false one rest behind = eqb-false (length round.scripts) 1 one single.0
 
-pub few_by : {tree : Option Files} {file : Word} {rounds : List Round} → HasRounds tree file rounds → AreSingle rounds → AreFew rounds
-few_by {tree} {file} {rounds} has single =
-    let some = has.spells.some in
-    let few = has.spells.few in
-    let same = single_in rounds single in
-    (some, omega (arith, few, same))
+scripts_all : (rounds : List Round) → scripts_in rounds ≡ length (scripts_of rounds)
+scripts_all [] = refl
+scripts_all (round ∷ rounds) = let rest = scripts_all rounds in let whole = length-append round.scripts (scripts_of rounds) in omega (arith, rest, whole)
 
--- as many texts as rounds of one script each
-one_each : (tree : Option Files) (scripts : List Word) (texts : List (List ℕ)) → EachOpens tree scripts texts → length texts ≡ length scripts
+each_some : (rounds : List Round) (text : List ℕ) → AreRounds rounds text → HaveScripts (sizes_of rounds)
+each_some [] text are = tt
+each_some (round ∷ rounds) text are = (are.2.some, each_some rounds are.1 are.3)
+
+some_script : (rounds : List Round) → 1 ≤ length rounds → HaveScripts (sizes_of rounds) → 1 ≤ length (scripts_of rounds)
+some_script [] some each = absurd (omega (arith, some))
+some_script (round ∷ rounds) some each = let one = each.0 in let whole = length-append round.scripts (scripts_of rounds) in omega (arith, one, whole)
+
+pub can_by : {tree : Option Files} {file : Word} {rounds : List Round} → HasRounds tree file rounds → CanRun rounds
+can_by {tree} {file} {rounds} has =
+    let few = has.spells.few in
+    let all = scripts_all rounds in
+    let each = each_some rounds has.spells.text has.spells.are_rounds in
+    record { some = some_script rounds has.spells.some each; few = omega (arith, few, all); each = each }
+
+-- as many texts as scripts
+pub one_each : (tree : Option Files) (scripts : List Word) (texts : List (List ℕ)) → EachOpens tree scripts texts → length texts ≡ length scripts
 one_each tree [] [] each = refl
 one_each tree [] (x ∷ texts) each = absurd each
 one_each tree (w ∷ scripts) [] each = absurd each
 one_each tree (w ∷ scripts) (x ∷ texts) each = ap suc (one_each tree scripts texts each.1)
 
-pub many_texts : (tree : Option Files) (rounds : List Round) (texts : List (List ℕ)) → AreSingle rounds → EachRoundOpens tree rounds texts → length texts ≡ length rounds
-many_texts tree [] texts single opens = ap length opens
-many_texts tree (round ∷ rounds) texts single opens =
-    let one : length round.scripts ≡ 1 = single.0 in
+pub many_texts : (tree : Option Files) (rounds : List Round) (texts : List (List ℕ)) → EachRoundOpens tree rounds texts → length texts ≡ length (scripts_of rounds)
+many_texts tree [] texts opens = ap length opens
+many_texts tree (round ∷ rounds) texts opens =
     let here = one_each (edited_told round.edits tree) round.scripts opens.0 opens.2 in
-    let rest = many_texts (edited_told round.edits tree) rounds opens.1 single.1 opens.3 in
+    let rest = many_texts (edited_told round.edits tree) rounds opens.1 opens.3 in
     let all : length texts ≡ length (opens.0 ++ opens.1) = ap length opens.4 in
     let sum = length-append opens.0 opens.1 in
-    omega (arith, one, here, rest, all, sum)
+    let scripts = length-append round.scripts (scripts_of rounds) in
+    omega (arith, here, rest, all, sum, scripts)
 
 -- ---- since an earlier moment
 
@@ -152,10 +162,19 @@ module _ (means : Means) (plan : RunPlan) (rounds : List Round) (texts : List (L
   run_since files first old new f (IsRun.whole turns are causes solo) = IsRun.whole turns are (causes_since turns first old new f causes) solo
   run_since files first old new f (IsRun.part turns rest six are causes solo) = IsRun.part turns rest six are (causes_since turns first old new f causes) solo
 
-  by_since : (tree : Option Files) (first old new : ℕ) → first ≤ old → IfSome tree (λ files. IsRun means (setting files plan.fuel old new status) (opening_in plan rounds texts) rounds texts h)
-      → IfSome tree (λ files. IsRun means (setting files plan.fuel first new status) (opening_in plan rounds texts) rounds texts h)
+  -- where each has several scripts too
+  acts_since : (files : Files) (first old new : ℕ) → first ≤ old → {t : ℕ} {trees : List Files} {some : List (List ℕ)} → EachActs means (setting files plan.fuel old new status) h t trees some → EachActs means (setting files plan.fuel first new status) h t trees some
+  acts_since files first old new f (EachActs.none t) = EachActs.none t
+  acts_since files first old new f (EachActs.more t it trees text some act rest) = EachActs.more t it trees text some (act_since first old new f act) (acts_since files first old new f {t = suc t} rest)
+
+  over_since : (files : Files) (first old new : ℕ) → first ≤ old → RunOver means (setting files plan.fuel old new status) (opening_in plan rounds texts) rounds texts h → RunOver means (setting files plan.fuel first new status) (opening_in plan rounds texts) rounds texts h
+  over_since files first old new f (RunOver.alone single run) = RunOver.alone single (run_since files first old new f run)
+  over_since files first old new f (RunOver.together several acts) = RunOver.together several (acts_since files first old new f acts)
+
+  by_since : (tree : Option Files) (first old new : ℕ) → first ≤ old → IfSome tree (λ files. RunOver means (setting files plan.fuel old new status) (opening_in plan rounds texts) rounds texts h)
+      → IfSome tree (λ files. RunOver means (setting files plan.fuel first new status) (opening_in plan rounds texts) rounds texts h)
   by_since None first old new f r = tt
-  by_since (Some files) first old new f r = run_since files first old new f r
+  by_since (Some files) first old new f r = over_since files first old new f r
 
   run_from : (first old new : Moment) → IsLater first old → HasRun means plan rounds texts old new (finished h status) → HasRun means plan rounds texts first new (finished h status)
   run_from first old new since run =
@@ -164,7 +183,7 @@ module _ (means : Means) (plan : RunPlan) (rounds : List Round) (texts : List (L
       let reads = run.reads in
       record {
         legal = run.legal;
-        runs = subst (λ (x : Option Files). IfSome x (λ files. IsRun means (setting files plan.fuel first.faults new.faults status) (opening_in plan rounds texts) rounds texts h)) since.files (by_since old.files first.faults old.faults new.faults later run.runs);
+        runs = subst (λ (x : Option Files). IfSome x (λ files. RunOver means (setting files plan.fuel first.faults new.faults status) (opening_in plan rounds texts) rounds texts h)) since.files (by_since old.files first.faults old.faults new.faults later run.runs);
         reads = omega (arith, later, reads);
         lists = λ ended. (let bound = run.lists ended in omega (arith, bound, fewer));
         leaves = leaves_from (status_of (length (scripts_of rounds)) h) (out_text plan.trace h) (err_text (scripts_of rounds) h) run.leaves;
@@ -211,17 +230,17 @@ ends_unopened means words first old new report run file rounds unopened.NoMemory
 
 -- the scripts were opened, and then run
 module _ (means : Means) (words : List Word) (first old new : Moment) (run : RunPlan) (file : Word) (rounds : List Round) (texts : List (List ℕ)) (since : IsLater first old) (report : Report) (asks : Asks words report run file)
-    (has : HasRounds first.files file rounds) (single : AreSingle rounds) (opens : EachRoundOpens old.files rounds texts) where
+    (has : HasRounds first.files file rounds) (opens : EachRoundOpens old.files rounds texts) where
   played : (status : ℕ) (history : Option (List Entry)) → report.status ≡ status → report.history ≡ history → Gives means run rounds texts old new (record { status = status; history = history }) → Answers means words first new report
   played status None s h gives =
       let same = gives.1 in
       Answers.short run file asks h (s ∙ gives.0) (ap (λ (m : Moment). m.out) same ∙ since.out) (ap (λ (m : Moment). m.err) same ∙ since.err)
   played status (Some history) s h gives =
-      Answers.ran run file rounds texts history asks h has single (subst (λ (x : Option Files). EachRoundOpens x rounds texts) since.files opens)
+      Answers.ran run file rounds texts history asks h has (subst (λ (x : Option Files). EachRoundOpens x rounds texts) since.files opens)
       (run_from means run rounds texts history report.status first old new since (subst (λ (n : ℕ). HasRun means run rounds texts old new (finished history n)) (sym s) gives))
 
 pub played_by : (means : Means) (words : List Word) (first old new : Moment) (run : RunPlan) (file : Word) (rounds : List Round) (texts : List (List ℕ)) → IsLater first old → (ran : Left) (r : Report) → r ≡ record { status = ran.status; plan = Some (plans.Run run); history = ran.history }
-    → rounds_plan (plan_of words) ≡ Some run → run.rounds ≡ Some file → HasRounds first.files file rounds → AreSingle rounds → EachRoundOpens old.files rounds texts → Gives means run rounds texts old new ran → Answers means words first new r
-played_by means words first old new run file rounds texts since ran r e is names has single opens gives =
+    → rounds_plan (plan_of words) ≡ Some run → run.rounds ≡ Some file → HasRounds first.files file rounds → EachRoundOpens old.files rounds texts → Gives means run rounds texts old new ran → Answers means words first new r
+played_by means words first old new run file rounds texts since ran r e is names has opens gives =
     let plan_is : r.plan ≡ Some (plans.Run run) = ap (λ (x : Report). x.plan) e in
-    played means words first old new run file rounds texts since r (record { run_is = is; file_is = names; plan = plan_is }) has single opens ran.status ran.history (ap (λ (x : Report). x.status) e) (ap (λ (x : Report). x.history) e) gives
+    played means words first old new run file rounds texts since r (record { run_is = is; file_is = names; plan = plan_is }) has opens ran.status ran.history (ap (λ (x : Report). x.status) e) (ap (λ (x : Report). x.history) e) gives

@@ -44,7 +44,7 @@ use Rattle.program_run.proofs.Counting.{faults_in, lists_counted, reads_from, li
 use Rattle.program_run.proofs.Lone.{begun_by}
 use Rattle.program_run.proofs.Threads.{many_mean, many_ran, ended_ran}
 use Rattle.program_rounds.specs.Rounds.{AreSingle, scripts_of, sizes_of, edits_of, trees_of, opening_in}
-use Rattle.program_rounds.specs.Runs.{IsRun, HasRun, meanings}
+use Rattle.program_rounds.specs.Runs.{IsRun, RunOver, HasRun, meanings}
 use Rattle.program_rounds.proofs.Begun.{each_one, many_scripts, many_sizes}
 
 -- ---- rounds of one script each
@@ -219,9 +219,9 @@ module _ (means : Means) (safe : (t : ℕ) (text : List ℕ) → Safe (shown_fir
       (told_by told faults lists files (edits_of rounds) olds forks) (safe_by run means safe texts programs mean) legal
       (rises told faults lists plan.fuel h old.faults new.faults (trees.total faults news) (are_new told faults lists (Some files) (edits_of rounds) olds forks) (omega arith) took played) played))
 
-  by_told : (tree : Option Files) → trees.AreForks told faults lists tree (edits_of rounds) olds → IfSome tree (λ files. IsRun means (setting files plan.fuel old.faults new.faults status) (opening_in plan rounds texts) rounds texts h)
+  by_told : (tree : Option Files) → trees.AreForks told faults lists tree (edits_of rounds) olds → IfSome tree (λ files. RunOver means (setting files plan.fuel old.faults new.faults status) (opening_in plan rounds texts) rounds texts h)
   by_told None forks = tt
-  by_told (Some files) forks = over files forks
+  by_told (Some files) forks = RunOver.alone single (over files forks)
 
   pub has_run : trees.AreForks told faults lists old.files (edits_of rounds) olds → Leaves (status_by (status_of (length (scripts_of rounds)) h) sink_fault) (out_text plan.trace h) (err_text (scripts_of rounds) h) old new status
       → HasRun means plan rounds texts old new (finished h status)

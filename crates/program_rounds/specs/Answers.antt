@@ -5,7 +5,6 @@ use Rattle.words_rounds.specs.declared.rounds.Round.{Round}
 use Rattle.machine_events.specs.declared.event.Entry.{Entry}
 use Rattle.import_words.specs.Words.{Word}
 use Rattle.import_words.specs.Plans.{plan_of}
-use Rattle.import_words.specs.Usage.{usage_of}
 use Rattle.import_words.specs.declared.plan.Plan.{Plan}
 use Rattle.import_words.specs.declared.plan.Plan.TheVariants as plans
 use Rattle.import_words.specs.declared.plan.RunPlan.{RunPlan}
@@ -19,7 +18,6 @@ use Rattle.program_run.specs.declared.open.Unopened.{Unopened}
 use Rattle.program_run.specs.declared.open.Unopened.TheVariants as why
 use Rattle.program_run.specs.declared.report.Report.{Report}
 use Rattle.program_rounds.specs.Opened.{HasRounds, HasNoRounds, EachRoundOpens, IsRefusedIn}
-use Rattle.program_rounds.specs.Rounds.{AreSingle}
 use Rattle.program_rounds.specs.Runs.{HasRun}
 
 -- a run that names a rounds file
@@ -44,8 +42,8 @@ Tells why.Unread old new status =
     Leaves (status_by tree_fault sink_fault) [] (codes "pyimport: file fault" ++ 10 ∷ []) old new status
 Tells why.NoMemory old new status = (status ≡ want_of_memory) × (new.out ≡ old.out) × (new.err ≡ old.err)
 
--- between these moments calls of the tree may have failed, and its count of lists, where it stood past the greatest u64,
--- may have been cut to that; nothing else has changed
+-- between these moments calls of the tree may have failed, and its count of lists, where it stood past the greatest
+-- u64, may have been cut to that; nothing else has changed
 pub record IsLater (first now : Moment) : Type 0 where
   pub files : now.files ≡ first.files
   pub faults : first.faults ≤ now.faults
@@ -56,7 +54,8 @@ pub record IsLater (first now : Moment) : Type 0 where
 -- how a call ends that was made with these words, from one moment to a later one
 pub data Answers (means : Means) (words : List Word) (old new : Moment) (report : Report) : Type 0 where
   -- no rounds file is named
-  plain : rounds_plan (plan_of words) ≡ None → alone.Answers means words old new report → Answers means words old new report
+  plain : rounds_plan (plan_of words) ≡ None → alone.Answers means words old new report
+      → Answers means words old new report
   -- it is no file at a tree path, too long, or spells no rounds: a line about it
   no_rounds : (run : RunPlan) (file : Word) (line : List ℕ) → Asks words report run file → report.history ≡ None
       → HasNoRounds old.files file line → Leaves (status_by refusal refusal) [] line old new report.status
@@ -66,18 +65,16 @@ pub data Answers (means : Means) (words : List Word) (old new : Moment) (report 
       → report.history ≡ None → HasRounds old.files file rounds → IsRefusedIn old.files rounds line
       → Leaves (status_by refusal refusal) [] line old new report.status → Answers means words old new report
   -- a call of the tree failed before all scripts were read: a line about it
-  unread : (run : RunPlan) (file : Word) → Asks words report run file → report.history ≡ None → Rose old.faults new.faults
+  unread : (run : RunPlan) (file : Word) → Asks words report run file → report.history ≡ None
+      → Rose old.faults new.faults
       → Leaves (status_by tree_fault sink_fault) [] (codes "pyimport: file fault" ++ 10 ∷ []) old new report.status
       → Answers means words old new report
   -- the scripts ran, round after round
-  ran : (run : RunPlan) (file : Word) (rounds : List Round) (texts : List (List ℕ)) (history : List Entry) → Asks words report run file
-      → report.history ≡ Some history → HasRounds old.files file rounds → AreSingle rounds → EachRoundOpens old.files rounds texts
+  ran : (run : RunPlan) (file : Word) (rounds : List Round) (texts : List (List ℕ)) (history : List Entry)
+      → Asks words report run file
+      → report.history ≡ Some history → HasRounds old.files file rounds → EachRoundOpens old.files rounds texts
       → HasRun means run rounds texts old new (finished history report.status) → Answers means words old new report
-  -- a round has several scripts, which is not done yet: the usage line
-  several : (run : RunPlan) (file : Word) (rounds : List Round) → Asks words report run file → report.history ≡ None
-      → HasRounds old.files file rounds → (AreSingle rounds → ⊥)
-      → Leaves (status_by refusal refusal) [] (usage_of words ++ 10 ∷ []) old new report.status
-      → Answers means words old new report
   -- memory was wanted before the history was begun: nothing is written
-  short : (run : RunPlan) (file : Word) → Asks words report run file → report.history ≡ None → report.status ≡ want_of_memory
+  short : (run : RunPlan) (file : Word) → Asks words report run file → report.history ≡ None
+      → report.status ≡ want_of_memory
       → new.out ≡ old.out → new.err ≡ old.err → Answers means words old new report

@@ -2,3 +2,4 @@ pub mod Rounds
 pub mod Runs
 pub mod Opened
 pub mod Answers
+pub mod Course

@@ -22,7 +22,8 @@ refusal_of file (opened.Text bytes) = None
 
 -- the line about the first line at which no rounds file goes on
 abbrev pub line_refused : Word → ℕ → List ℕ
-line_refused file line = codes "pyimport: rounds '" ++ (file ++ (codes "' line " ++ (decimal line ++ codes " is refused\n")))
+line_refused file line = codes "pyimport: rounds '" ++
+    (file ++ (codes "' line " ++ (decimal line ++ codes " is refused\n")))
 
 -- the word names a file, and its bytes spell these rounds
 pub record HasRounds (tree : Option Files) (file : Word) (rounds : List Round) : Type 0 where
@@ -51,7 +52,8 @@ files_after tree (round ∷ rounds) = files_after (edited_told round.edits tree)
 abbrev pub EachRoundOpens : Option Files → List Round → List (List ℕ) → Type 0
 EachRoundOpens tree [] texts = texts ≡ []
 EachRoundOpens tree (round ∷ rounds) texts = (here : List (List ℕ)) × (rest : List (List ℕ))
-    × EachOpens (edited_told round.edits tree) round.scripts here × EachRoundOpens (edited_told round.edits tree) rounds rest
+    × EachOpens (edited_told round.edits tree) round.scripts here
+    × EachRoundOpens (edited_told round.edits tree) rounds rest
     × (texts ≡ here ++ rest)
 
 -- the scripts of one round have texts in these files, which stand behind those that there were
@@ -69,7 +71,8 @@ pub record ReachedRound (tree : Option Files) (rounds : List Round) (round : Rou
   pub opened : EachRoundOpens tree before texts
 
 -- the files of the round that was reached
-abbrev pub files_at : {tree : Option Files} {rounds : List Round} {round : Round} → ReachedRound tree rounds round → Option Files
+abbrev pub files_at : {tree : Option Files} {rounds : List Round} {round : Round} → ReachedRound tree rounds round
+    → Option Files
 files_at {tree} {rounds} {round} reached = edited_told round.edits (files_after tree reached.before)
 
 -- the first script without a text, in its own round's files, is no file at a tree path, or too long: the line about it

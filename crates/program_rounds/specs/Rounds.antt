@@ -8,6 +8,7 @@ use Rattle.tree_overlay.specs.Kinds.{IsBelowRoot}
 use Rattle.words_rounds.specs.declared.rounds.Round.{Round}
 use Rattle.machine_spec.specs.declared.state.State.{State}
 use Rattle.machine_spec.specs.Opening.{opening}
+use Rattle.machine_laws.specs.Begun.{HaveScripts}
 use Rattle.import_words.specs.Words.{Word}
 use Rattle.import_words.specs.declared.plan.RunPlan.{RunPlan}
 
@@ -39,6 +40,12 @@ AreBelowRoot rounds = AllByRecursion (λ round. IsBelowRoot round.edits) rounds
 -- a run has 1 to 16 rounds of one script each
 abbrev pub AreFew : List Round → Type 0
 AreFew rounds = (1 ≤ length rounds) × (length rounds ≤ 16)
+
+-- a run has 1 to 16 scripts in all, and at least one in each round
+pub record CanRun (rounds : List Round) : Type 0 where
+  pub some : 1 ≤ length (scripts_of rounds)
+  pub few : length (scripts_of rounds) ≤ 16
+  pub each : HaveScripts (sizes_of rounds)
 
 -- for each script the files of its round: those after all edits of all rounds up to its own, in order
 abbrev pub trees_of : Files → List Round → List Files

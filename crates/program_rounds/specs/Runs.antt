@@ -1,10 +1,11 @@
 -- What a run of rounds leaves: its history, and what both sinks have got.
-use Rattle.std.specs.Prelude.{◌≡◌, ℕ, List, [], ◌∷◌, ◌++◌, map, IfSome, MatchOption, length}
+use Rattle.std.specs.Prelude.{◌≡◌, ℕ, suc, List, [], ◌∷◌, ◌++◌, map, IfSome, MatchOption, length}
 use Rattle.tree_files.specs.Files.{Files}
 use Rattle.words_rounds.specs.declared.rounds.Round.{Round}
 use Rattle.machine_events.specs.declared.event.Entry.{Entry}
 use Rattle.machine_spec.specs.declared.state.State.{State}
 use Rattle.machine_spec.specs.Legal.{IsLegal}
+use Rattle.machine_shown.specs.Own.{own}
 use Rattle.meaning_runs.specs.Runs.{Run}
 use Rattle.meaning_solo.specs.Made.{Turn}
 use Rattle.meaning_solo.specs.Solo.{IsSolo}
@@ -16,9 +17,10 @@ use Rattle.program_run.specs.Sinks.{Moment, Leaves, status_by}
 use Rattle.program_run.specs.Counts.{ReadsBy, ListsBy}
 use Rattle.program_run.specs.Alone.{Means, Setting, setting}
 use Rattle.program_run.specs.Runs.{Finished, finished}
+use Rattle.program_run.specs.Together.{Acts}
 use Rattle.program_run.specs.declared.report.Left.{Left}
 use Rattle.drive_rounds.specs.Solo.{AreTurns, HaveCauses}
-use Rattle.program_rounds.specs.Rounds.{scripts_of, trees_of, opening_in}
+use Rattle.program_rounds.specs.Rounds.{AreSingle, scripts_of, trees_of, opening_in}
 
 -- what scripts of these texts mean, whatever their numbers
 abbrev pub meanings : Means → List (List ℕ) → List (ℕ → Run)
@@ -26,7 +28,8 @@ meanings means texts = map (λ text t. means t text) texts
 
 -- the one history of rounds of one script each, each over the files of its own round, with stops only where a call of
 -- the tree failed; at want of memory a beginning of such a one
-pub data IsRun (means : Means) (under : Setting) (opened : State) (rounds : List Round) (texts : List (List ℕ)) (history : List Entry)
+pub data IsRun (means : Means) (under : Setting) (opened : State) (rounds : List Round) (texts : List (List ℕ))
+    (history : List Entry)
     : Type 0 where
   whole : (turns : List Turn) → AreTurns (trees_of under.files rounds) 0 (meanings means texts) turns
       → HaveCauses turns under.old_faults under.new_faults → IsSolo opened turns under.fuel history
@@ -36,13 +39,36 @@ pub data IsRun (means : Means) (under : Setting) (opened : State) (rounds : List
       → HaveCauses turns under.old_faults under.new_faults → IsSolo opened turns under.fuel (history ++ rest)
       → IsRun means under opened rounds texts history
 
--- the scripts of these rounds, one in each, were run with these texts, from one moment to a later one
+-- what a script runs under, over the files of its own round
+abbrev pub over_files : Setting → Files → Setting
+over_files under files = record under { files = files }
+
+-- scripts of these texts, of which the first has the number t, each act by their meaning over files of their own
+pub data EachActs (means : Means) (under : Setting) (history : List Entry) : ℕ → List Files → List (List ℕ)
+    → Type 0 where
+  none : (t : ℕ) → EachActs means under history t [] []
+  more : (t : ℕ) (files : Files) (trees : List Files) (text : List ℕ) (texts : List (List ℕ))
+      → Acts (over_files under files) t (means t text) (own t history)
+      → EachActs means under history (suc t) trees texts
+      → EachActs means under history t (files ∷ trees) (text ∷ texts)
+
+-- the scripts of rounds, over these files as they are edited before each round: where each round has one, they have the
+-- history that they have alone; else each acts by its meaning over the files of its own round
+pub data RunOver (means : Means) (under : Setting) (opened : State) (rounds : List Round) (texts : List (List ℕ))
+    (history : List Entry)
+    : Type 0 where
+  alone : AreSingle rounds → IsRun means under opened rounds texts history
+      → RunOver means under opened rounds texts history
+  together : (AreSingle rounds → ⊥) → EachActs means under history 0 (trees_of under.files rounds) texts
+      → RunOver means under opened rounds texts history
+
+-- the scripts of these rounds were run with these texts, from one moment to a later one
 pub record HasRun (means : Means) (plan : RunPlan) (rounds : List Round) (texts : List (List ℕ)) (old new : Moment)
     (ran : Finished) : Type 0 where
   -- the machine allows the history
   pub legal : IsLegal (opening_in plan rounds texts) ran.history
-  -- where the tree tells its files, the history is the only one that these scripts have
-  pub runs : IfSome old.files (λ files. IsRun means (setting files plan.fuel old.faults new.faults ran.status)
+  -- where the tree tells its files, the scripts' own events are those that they mean
+  pub runs : IfSome old.files (λ files. RunOver means (setting files plan.fuel old.faults new.faults ran.status)
       (opening_in plan rounds texts) rounds texts ran.history)
   -- no more scripts ended by a failed call of the tree than there were such calls
   pub reads : ReadsBy (length (scripts_of rounds)) ran.history old.faults new.faults

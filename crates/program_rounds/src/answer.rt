@@ -1,24 +1,22 @@
 //! A call of the program that may name a rounds file.
 ghost use Rattle.std.specs.Prelude.{◌≡◌, ◌≤◌, ◌∷◌, ◌++◌, [], List, None, Some, true, IfOk, IfErr, map};
-ghost use Rattle.std.specs.List.{list_all};
 ghost use Rattle.std.specs.String.{string_bytes};
 ghost use Rattle.import_words.specs.Plans.{plan_of};
 ghost use Rattle.import_words.specs.declared.plan.Plan.TheVariants as plans;
-ghost use Rattle.import_words.specs.Usage.{usage_of};
 ghost use Rattle.import_words.specs.Words.{Word};
 ghost use Rattle.program_run.specs.Sinks.{at, moment, Leaves, Moment, Passes, status_by};
 ghost use Rattle.program_run.specs.Statuses.{refusal};
 ghost use Rattle.program_rounds.specs.Answers.{Answers, IsLater, Tells, in_rounds, rounds_plan};
 ghost use Rattle.program_rounds.specs.Opened.{HasRounds, EachRoundOpens};
-ghost use Rattle.program_rounds.specs.Rounds.{AreBelowRoot, AreFew, AreSingle, is_single};
+ghost use Rattle.program_rounds.specs.Rounds.{AreBelowRoot, CanRun};
 
 use crate::open::{open_rounds, rounds_of};
-use crate::solo::run_rounds_alone;
+use crate::together::run_rounds;
 use base_types::Seq;
 use drive_round::Gate;
-use import_words::{Plan, Round, RunPlan, usage_line};
+use import_words::{Plan, Round, RunPlan};
 use program_run::{
-    REFUSAL, Report, Scripts, Unopened, WANT_OF_MEMORY, call as call_plain, joined, tell, unread,
+    REFUSAL, Report, Scripts, Unopened, WANT_OF_MEMORY, call as call_plain, tell, unread,
     with_plan, without_run,
 };
 use std::alloc::Global;
@@ -49,19 +47,6 @@ fn rounds_plan(plan: Option<Plan>) -> Result<RunPlan, Option<Plan>>
     }
 }
 
-fn is_single(round: &Round) -> bool
-    ensures { result ≡ is_single round.now }
-{
-    round.scripts.len() == 1
-}
-
-/// Whether each round has one script.
-fn are_single(rounds: &[Round]) -> bool
-    ensures { result ≡ list_all is_single rounds.now }
-{
-    rounds.iter().all(|round| is_single(round))
-}
-
 /// Says why there are no rounds, or no texts.
 fn tell_why<K: Sink>(alloc: Global, run: RunPlan, why: Unopened, err: &mut K) -> Report
     ensures leaves { (old new : Moment) → new.out ≡ old.out
@@ -78,22 +63,9 @@ fn tell_why<K: Sink>(alloc: Global, run: RunPlan, why: Unopened, err: &mut K) ->
     }
 }
 
-/// Says that a round has several scripts, which is not done yet: the usage line.
-fn tell_several<K: Sink>(alloc: Global, words: &[String], run: RunPlan, err: &mut K) -> Report
-    ensures leaves { (old new : Moment) → new.out ≡ old.out
-        → old.err ≡ at K.written K.faults err.old → new.err ≡ at K.written K.faults err.new
-        → Leaves (status_by refusal refusal) [] (usage_of (map string_bytes words.now) ++ 10 ∷ [])
-        old new result.status }
-    ensures plan { result.plan ≡ Some (plans.Run run) }
-    ensures history { result.history ≡ None }
-    ensures faults_grow { K.faults err.old ≤ K.faults err.new }
-{
-    let line = joined(alloc, usage_line(words), "", "");
-    tell(err, line, Some(Plan::Run(run)), REFUSAL, REFUSAL)
-}
-
 /// Runs the scripts of rounds that were opened.
-fn play<S: Scripts, T: Grove, K: Sink>(
+fn play<S: Scripts + Send, R: Threads + Wait + Sync, T: Grove, K: Sink + Send, G: Gate + Sync>(
+    rt: &R,
     alloc: Global,
     run: RunPlan,
     rounds: &[Round],
@@ -101,9 +73,9 @@ fn play<S: Scripts, T: Grove, K: Sink>(
     tree: &mut T,
     out: &mut K,
     err: &mut K,
+    gate: &G,
 ) -> Report
-    requires few { AreFew rounds.now }
-    requires single { AreSingle rounds.now }
+    requires can_run { CanRun rounds.now }
     requires below { AreBelowRoot rounds.now }
     requires texts { EachRoundOpens (T.files tree.old) rounds.now texts }
     ensures answers { (words : List Word) (file : Word) (first : Moment) → rounds_plan (plan_of words) ≡ Some run
@@ -118,21 +90,22 @@ fn play<S: Scripts, T: Grove, K: Sink>(
         (moment T.files T.faults T.lists tree.new (at K.written K.faults out.new) (at K.written K.faults err.new)) }
     ensures lists { result.history ≡ None → T.lists tree.new ≡ T.lists tree.old }
 {
-    let ran = run_rounds_alone::<S, T, K, K>(alloc, &run, rounds, texts, tree, out, err);
+    let ran = run_rounds::<S, R, T, K, K, G>(rt, alloc, &run, rounds, texts, tree, out, err, gate);
     with_plan(ran, Some(Plan::Run(run)))
 }
 
 /// Opens the scripts of rounds, and runs them.
-fn run_list<S: Scripts, T: Grove, K: Sink>(
+fn run_list<S: Scripts + Send, R: Threads + Wait + Sync, T: Grove, K: Sink + Send, G: Gate + Sync>(
+    rt: &R,
     alloc: Global,
     run: RunPlan,
     rounds: &[Round],
     tree: &mut T,
     out: &mut K,
     err: &mut K,
+    gate: &G,
 ) -> Report
-    requires few { AreFew rounds.now }
-    requires single { AreSingle rounds.now }
+    requires can_run { CanRun rounds.now }
     requires below { AreBelowRoot rounds.now }
     ensures answers { (words : List Word) (file : Word) (first : Moment) → rounds_plan (plan_of words) ≡ Some run
         → run.rounds ≡ Some file → HasRounds first.files file rounds.now
@@ -147,23 +120,24 @@ fn run_list<S: Scripts, T: Grove, K: Sink>(
     ensures lists { result.history ≡ None → T.lists tree.new ≤ T.lists tree.old }
 {
     match open_rounds(alloc, tree, rounds) {
-        Ok(texts) => play::<S, T, K>(alloc, run, rounds, texts, tree, out, err),
+        Ok(texts) => { play::<S, R, T, K, G>(rt, alloc, run, rounds, texts, tree, out, err, gate) }
         Err(why) => tell_why(alloc, run, why, err),
     }
 }
 
 /// Reads a rounds file, and runs its rounds.
-fn run_file<S: Scripts, T: Grove, K: Sink>(
+fn run_file<S: Scripts + Send, R: Threads + Wait + Sync, T: Grove, K: Sink + Send, G: Gate + Sync>(
+    rt: &R,
     alloc: Global,
-    words: &[String],
     run: RunPlan,
     tree: &mut T,
     out: &mut K,
     err: &mut K,
+    gate: &G,
 ) -> Report
     requires rounds { in_rounds run ≡ true }
-    ensures answers { rounds_plan (plan_of (map string_bytes words.now)) ≡ Some run
-        → Answers S.means (map string_bytes words.now)
+    ensures answers { (words : List Word) → rounds_plan (plan_of words) ≡ Some run
+        → Answers S.means words
         (moment T.files T.faults T.lists tree.old (at K.written K.faults out.old) (at K.written K.faults err.old))
         (moment T.files T.faults T.lists tree.new (at K.written K.faults out.new) (at K.written K.faults err.new))
         result }
@@ -179,10 +153,7 @@ fn run_file<S: Scripts, T: Grove, K: Sink>(
         Ok(rounds) => rounds.list,
         Err(why) => return tell_why(alloc, run, why, err),
     };
-    if !are_single(rounds.as_slice()) {
-        return tell_several(alloc, words, run, err);
-    }
-    run_list::<S, T, K>(alloc, run, rounds.as_slice(), tree, out, err)
+    run_list::<S, R, T, K, G>(rt, alloc, run, rounds.as_slice(), tree, out, err, gate)
 }
 
 /// Does what words of the command line ask for whose plan was read, over a tree, and writes what is to
@@ -209,7 +180,7 @@ pub fn call<S: Scripts + Send, R: Threads + Wait + Sync, T: Grove, K: Sink + Sen
     ensures lists_stay { rounds_plan plan ≡ None → result.history ≡ None → T.lists tree.new ≡ T.lists tree.old }
 {
     match rounds_plan(plan) {
-        Ok(run) => run_file::<S, T, K>(alloc, words, run, tree, out, err),
+        Ok(run) => run_file::<S, R, T, K, G>(rt, alloc, run, tree, out, err, gate),
         Err(plan) => call_plain::<S, R, T, K, G>(rt, alloc, words, plan, tree, out, err, gate),
     }
 }

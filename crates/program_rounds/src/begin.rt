@@ -3,7 +3,7 @@ ghost use Rattle.std.specs.Prelude.{◌≡◌, ◌≤◌, [], ◌++◌, ℕ, IfO
 ghost use Rattle.machine_book.specs.Bound.{opened, CanOpen};
 ghost use Rattle.program_run.specs.Together.{Mean};
 ghost use Rattle.drive_rounds.specs.Played.{AreShort};
-ghost use Rattle.program_rounds.specs.Rounds.{AreFew, AreSingle, edits_of, opening_in, scripts_of, sizes_of};
+ghost use Rattle.program_rounds.specs.Rounds.{AreFew, AreSingle, CanRun, edits_of, opening_in, scripts_of, sizes_of};
 
 use base_types::{Exact, NoMemory, Seq, Text, Texts};
 use import_machine::Machine;
@@ -13,8 +13,15 @@ use program_run::{Came, Scripts, programs_of};
 use std::alloc::Global;
 use tree_files::Edit;
 
-/// What rounds run on: the machine and what it was opened with, the scripts, and room for what comes
-/// of each.
+/// The machine that rounds run on, and what it was opened with.
+#[derive(Drop)]
+pub struct Ground {
+    pub opening: Opening,
+    pub machine: Machine,
+}
+
+/// What rounds of one script each run on: the machine and what it was opened with, the scripts, and
+/// room for what comes of each.
 #[derive(Drop)]
 pub(crate) struct Begun<S: Scripts> {
     pub(crate) opening: Opening,
@@ -66,14 +73,22 @@ pub(crate) fn edits_of(alloc: Global, rounds: &[Round]) -> Result<Seq<Seq<Edit>>
     Ok(edits)
 }
 
+/// How many scripts a round has.
+fn size_of(round: &Round) -> u32
+    requires { length round.now.scripts ≤ 16 }
+    ensures { result ≡ length round.now.scripts }
+{
+    round.scripts.len() as u32
+}
+
 /// How many scripts each round has.
 fn sizes_of(alloc: Global, rounds: &[Round]) -> Result<Seq<u32>, NoMemory>
-    requires { AreSingle rounds.now }
+    requires { CanRun rounds.now }
     ensures { IfOk result (λ sizes. sizes ≡ sizes_of rounds.now) }
 {
     let mut sizes = Seq::new(alloc);
-    for _ in 0..rounds.len() {
-        sizes.push(1)?;
+    for round in rounds {
+        sizes.push(size_of(round))?;
     }
     Ok(sizes)
 }
@@ -90,7 +105,32 @@ fn room_for(alloc: Global, count: usize) -> Result<Vec<Came>, NoMemory>
     Ok(results)
 }
 
-/// The machine for the scripts of rounds of one script each.
+/// The machine for the scripts of rounds, and what it was opened with.
+pub fn ground_for(
+    alloc: Global,
+    plan: &RunPlan,
+    rounds: &[Round],
+    texts: Seq<Seq<u8>>,
+) -> Result<Ground, NoMemory>
+    requires can_run { CanRun rounds.now }
+    requires texts { length texts ≡ length (scripts_of rounds.now) }
+    ensures opening { IfOk result (λ it. opened it.opening ≡ opening_in plan.now rounds.now texts) }
+    ensures machine { IfOk result (λ it. it.machine ≡ opened it.opening) }
+    ensures can_open { IfOk result (λ it. CanOpen it.opening) }
+    ensures scripts { IfOk result (λ it. it.opening.scripts ≡ scripts_of rounds.now) }
+    ensures rounds { IfOk result (λ it. it.opening.rounds ≡ sizes_of rounds.now) }
+{
+    let opening = Opening {
+        scripts: scripts_of(alloc, rounds)?,
+        texts,
+        path: plan.path.copy()?,
+        rounds: sizes_of(alloc, rounds)?,
+    };
+    let machine = opening.machine()?;
+    Ok(Ground { opening, machine })
+}
+
+/// What rounds of one script each run on.
 pub(crate) fn begin<S: Scripts>(
     alloc: Global,
     plan: &RunPlan,
@@ -109,13 +149,7 @@ pub(crate) fn begin<S: Scripts>(
     ensures results { IfOk result (λ it. AreShort it.results.items × (length it.results.items ≡ length rounds.now)) }
 {
     let programs = programs_of(alloc, texts.as_slice())?;
-    let opening = Opening {
-        scripts: scripts_of(alloc, rounds)?,
-        texts,
-        path: plan.path.copy()?,
-        rounds: sizes_of(alloc, rounds)?,
-    };
-    let machine = opening.machine()?;
+    let Ground { opening, machine } = ground_for(alloc, plan, rounds, texts)?;
     Ok(Begun {
         opening,
         machine,

@@ -46,11 +46,7 @@ fn refusal(alloc: Global, file: &str, line: u32) -> Result<Vec<u8>, NoMemory>
 }
 
 /// The rounds that a file spells.
-pub(crate) fn rounds_of<T: Tree>(
-    alloc: Global,
-    tree: &mut T,
-    file: &Text,
-) -> Result<Rounds, Unopened>
+pub fn rounds_of<T: Tree>(alloc: Global, tree: &mut T, file: &Text) -> Result<Rounds, Unopened>
     ensures ok { IfOk result (λ rounds. HasRounds (T.files tree.old) file.now rounds.list) }
     ensures err { IfErr result (WantsRounds (T.files tree.old) file.now (T.faults tree.old) (T.faults tree.new)) }
     ensures files_stay { T.files tree.new ≡ T.files tree.old }
@@ -132,7 +128,7 @@ fn open_over<T: Tree>(
 }
 
 /// The texts of all scripts, each read from the files of its own round, over one fork of the tree.
-pub(crate) fn open_rounds<T: Grove>(
+pub fn open_rounds<T: Grove>(
     alloc: Global,
     tree: &mut T,
     rounds: &[Round],

@@ -20,7 +20,7 @@ use Rattle.program_module.specs.Modules.{AreNames}
 use Rattle.program_run.specs.Answers.{run_if}
 use Rattle.program_rounds.specs.Answers.{rounds_plan}
 use Rattle.pyimport.specs.Answers.{ReadsItself}
-use Rattle.pyimport.specs.Tasks.{check_by, modules_by, runs_by, task_of}
+use Rattle.pyimport.specs.Tasks.{modules_by, runs_by, task_of}
 use Rattle.pyimport.specs.declared.task.Task.{Task}
 use Rattle.pyimport.specs.declared.task.Task.TheVariants as tasks
 
@@ -148,14 +148,10 @@ plan_fits (word ∷ words) = if_not (list_any is_refused (word ∷ words)) (plan
 -- what a plan that was read gives for what is to be done
 abbrev pub FitsTask : Task → Type 0
 FitsTask (tasks.Make it) = (1 ≤ it.modules) × ((1 ≤ it.scripts) × (it.scripts ≤ 16))
-FitsTask (tasks.Check it) = AreFew it.run.scripts
+FitsTask (tasks.Check it) = it.run.rounds ≡ None → AreFew it.run.scripts
 FitsTask (tasks.Modules run) = AreFew run.scripts × AreNames run.scripts
 FitsTask (tasks.ModulesInBundles run) = AreFew run.scripts × AreNames run.scripts
 FitsTask task = Unit {0}
-
-check_task : (b : Bool) (run : RunPlan) (file : Word) → (b ≡ false → AreFew run.scripts) → FitsTask (check_by b run file)
-check_task true run file fits = tt
-check_task false run file fits = fits refl
 
 modules_task : (b : Bool) (run : RunPlan) → AreFew run.scripts × AreNames run.scripts → FitsTask (modules_by b run)
 modules_task true run fits = fits
@@ -169,7 +165,7 @@ task_fits : (plan : Option Plan) → Fits plan → FitsTask (task_of plan)
 task_fits None fits = tt
 task_fits (Some (plans.Run run)) fits = runs_task run.bundles run
 task_fits (Some (plans.Gen seed modules scripts)) fits = fits
-task_fits (Some (plans.Check run file)) fits = check_task (is_some run.rounds) run file fits
+task_fits (Some (plans.Check run file)) fits = λ none. fits (ap is_some none)
 task_fits (Some (plans.Convert file)) fits = tt
 task_fits (Some (plans.Module run)) fits = modules_task run.bundles run fits
 task_fits (Some (plans.Report path dir)) fits = tt
@@ -182,16 +178,13 @@ fits_of words plan is task found = subst FitsTask found (task_fits plan (subst F
 abbrev pub plan_behind : Task → Option Plan
 plan_behind (tasks.Make it) = Some (plans.Gen it.seed it.modules it.scripts)
 plan_behind (tasks.Convert file) = Some (plans.Convert file)
+plan_behind (tasks.Report it) = Some (plans.Report it.path it.dir)
 plan_behind (tasks.Bundle dir) = Some (plans.Bundle dir)
 plan_behind (tasks.Check it) = Some (plans.Check it.run it.trace_file)
 plan_behind (tasks.Modules run) = Some (plans.Module run)
 plan_behind (tasks.ModulesInBundles run) = Some (plans.Module run)
 plan_behind (tasks.RunInBundles run) = Some (plans.Run run)
 plan_behind (tasks.Run plan) = plan
-
-check_behind : (b : Bool) (run : RunPlan) (file : Word) → plan_behind (check_by b run file) ≡ Some (plans.Check run file)
-check_behind true run file = refl
-check_behind false run file = refl
 
 modules_behind : (b : Bool) (run : RunPlan) → plan_behind (modules_by b run) ≡ Some (plans.Module run)
 modules_behind true run = refl
@@ -205,7 +198,7 @@ behind_task : (plan : Option Plan) → plan_behind (task_of plan) ≡ plan
 behind_task None = refl
 behind_task (Some (plans.Run run)) = runs_behind run.bundles run
 behind_task (Some (plans.Gen seed modules scripts)) = refl
-behind_task (Some (plans.Check run file)) = check_behind (is_some run.rounds) run file
+behind_task (Some (plans.Check run file)) = refl
 behind_task (Some (plans.Convert file)) = refl
 behind_task (Some (plans.Module run)) = modules_behind run.bundles run
 behind_task (Some (plans.Report path dir)) = refl
@@ -222,15 +215,11 @@ IsDirect (tasks.ModulesInBundles run) = ⊥
 IsDirect (tasks.RunInBundles run) = ⊥
 IsDirect task = Unit {0}
 
-direct_check : (b : Bool) (run : RunPlan) (file : Word) → IsDirect (check_by b run file)
-direct_check true run file = tt
-direct_check false run file = tt
-
 direct_task : (plan : Option Plan) → ReadsItself plan → IsDirect (task_of plan)
 direct_task None reads = tt
 direct_task (Some (plans.Run run)) reads = subst (λ (b : Bool). IsDirect (runs_by b run)) (sym reads.1) tt
 direct_task (Some (plans.Gen seed modules scripts)) reads = tt
-direct_task (Some (plans.Check run file)) reads = direct_check (is_some run.rounds) run file
+direct_task (Some (plans.Check run file)) reads = tt
 direct_task (Some (plans.Convert file)) reads = tt
 direct_task (Some (plans.Module run)) reads = subst (λ (b : Bool). IsDirect (modules_by b run)) (sym reads) tt
 direct_task (Some (plans.Report path dir)) reads = tt

@@ -20,16 +20,19 @@ use Rattle.program_convert.specs.Converting.{Converts}
 use Rattle.program_bundle.specs.Bundling.{Bundles}
 use Rattle.program_bundled.specs.Bundled.{expanded, GivesInBundles}
 use Rattle.program_check.specs.Checking.{Checks}
+use Rattle.program_report.specs.Reporting.{Reports}
 use Rattle.pyimport.specs.declared.task.Numbers.{Numbers}
 use Rattle.pyimport.specs.declared.task.Stored.{Stored}
+use Rattle.pyimport.specs.declared.task.Reported.{Reported}
 use Rattle.pyimport.specs.declared.task.Task.TheVariants as tasks
 use Rattle.pyimport.specs.Tasks.{task_of}
 
--- the plan is not that of a call that lists folders and has no history to tell of it: one that judges a stored trace, or
--- writes a bundle
+-- the plan is not that of a call that lists folders and has no history to tell of it: one that judges a stored trace,
+-- writes a bundle, or reports imports
 abbrev pub ReadsNoFolder : Option Plan → Type 0
 ReadsNoFolder (Some (plans.Check run file)) = ⊥
 ReadsNoFolder (Some (plans.Bundle dir)) = ⊥
+ReadsNoFolder (Some (plans.Report path dir)) = ⊥
 ReadsNoFolder plan = Unit {0}
 
 -- the tree that was handed in is read itself, and not a fork of it whose counts are added in the end: no rounds file is
@@ -57,6 +60,10 @@ pub data Answers (words : List Word) (old new : Moment) (report : Report) : Type
   -- the files below a folder were written as a bundle, or a line about them
   bundled : (dir : Word) → task_of (plan_of words) ≡ tasks.Bundle dir → report.plan ≡ Some (plans.Bundle dir)
       → report.history ≡ None → Bundles dir old new report.status → Answers words old new report
+  -- the imports of the files below a folder were reported, or the line about what cannot be opened
+  reported : (it : Reported) → task_of (plan_of words) ≡ tasks.Report it
+      → report.plan ≡ Some (plans.Report it.path it.dir) → report.history ≡ None → Reports it.dir it.path old new report.status
+      → Answers words old new report
   -- modules were run as programs, each in the thread of its place: the machine opened as for scripts of these names with
   -- empty texts
   modules : (run : RunPlan) → task_of (plan_of words) ≡ tasks.Modules run → report.plan ≡ Some (plans.Module run)

@@ -22,7 +22,7 @@ pub fn judge<T: Grove, K: Sink>(
     out: &mut K,
     err: &mut K,
 ) -> Report
-    requires few { AreFew it.run.scripts }
+    requires few { it.run.rounds ≡ None → AreFew it.run.scripts }
     ensures answers { Checks (meaning sources) it.trace_file it.run
         (moment T.files T.faults T.lists tree.old (at K.written K.faults out.old) (at K.written K.faults err.old))
         (moment T.files T.faults T.lists tree.new (at K.written K.faults out.new) (at K.written K.faults err.new))

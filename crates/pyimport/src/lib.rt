@@ -15,5 +15,5 @@ pub use entry::run_program;
 pub use laws::each_script_has_a_history;
 pub use module::Module;
 pub use program_run::{Out, Report};
-pub use run::{pyimport, run_all, solo, solo_rounds};
+pub use run::{pyimport, run_all, run_rounds, solo, solo_rounds};
 pub use script::Script;

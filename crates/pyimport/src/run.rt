@@ -5,7 +5,7 @@ ghost use Rattle.import_words.specs.Plans.{plan_of};
 ghost use Rattle.program_run.specs.Answers.{left_of};
 ghost use Rattle.program_run.specs.Runs.{Gives};
 ghost use Rattle.program_run.specs.Sinks.{at, moment, Passes};
-ghost use Rattle.program_rounds.specs.Rounds.{AreBelowRoot, AreFew, AreSingle};
+ghost use Rattle.program_rounds.specs.Rounds.{AreBelowRoot, AreFew, AreSingle, CanRun, scripts_of};
 ghost use Rattle.program_rounds.specs.Runs as in_rounds;
 ghost use Rattle.meaning_script.specs.Meaning.{meaning};
 ghost use Rattle.step_calls.specs.Sources.{sources};
@@ -15,7 +15,7 @@ use crate::judged::judge;
 use crate::made::run_made;
 use crate::module::Module;
 use crate::script::Script;
-use crate::task::{Task, task_of};
+use crate::task::{Reported, Task, task_of};
 use base_types::Seq;
 use drive_round::Gate;
 use import_words::{Round, RunPlan};
@@ -23,7 +23,8 @@ use program_bundle::bundle;
 use program_bundled::{call_bundled, run_modules_bundled};
 use program_convert::convert;
 use program_module::run_modules;
-use program_rounds::{call, run_rounds_alone};
+use program_report::report_imports;
+use program_rounds::{call, run_rounds as run_in_rounds, run_rounds_alone};
 use program_run::{
     Report, WANT_OF_MEMORY, plan_for, run_alone, run_together, with_plan, without_run,
 };
@@ -116,13 +117,46 @@ pub fn run_all<R: Threads + Wait + Sync, T: Grove, K: Sink + Send, G: Gate + Syn
     with_plan(ran, None)
 }
 
+/// Runs rounds of one or more scripts over a tree that is edited before each. A round begins when all
+/// scripts of the rounds before it have ended, however they ended; its scripts run each in a thread of its
+/// own, over a fork of the tree with all edits so far, and pass the gate before each event. Where each
+/// round has one script, they run as in `solo_rounds`. What they print goes to `out` as it is printed, and
+/// a line for each end that is not normal to `err`, in the order of the scripts. The report has no plan.
+pub fn run_rounds<R: Threads + Wait + Sync, T: Grove, K: Sink + Send, G: Gate + Sync>(
+    rt: &R,
+    alloc: Global,
+    plan: &RunPlan,
+    rounds: &[Round],
+    texts: Seq<Seq<u8>>,
+    tree: &mut T,
+    out: &mut K,
+    err: &mut K,
+    gate: &G,
+) -> Report
+    requires can_run { CanRun rounds.now }
+    requires below { AreBelowRoot rounds.now }
+    requires texts { length texts ≡ length (scripts_of rounds.now) }
+    ensures run { in_rounds.Gives (meaning sources) plan.now rounds.now texts
+        (moment T.files T.faults T.lists tree.old (at K.written K.faults out.old) (at K.written K.faults err.old))
+        (moment T.files T.faults T.lists tree.new (at K.written K.faults out.new) (at K.written K.faults err.new))
+        (left_of result) }
+    ensures plan { result.plan ≡ None }
+    ensures passes { Passes
+        (moment T.files T.faults T.lists tree.old (at K.written K.faults out.old) (at K.written K.faults err.old))
+        (moment T.files T.faults T.lists tree.new (at K.written K.faults out.new) (at K.written K.faults err.new)) }
+{
+    let ran = run_in_rounds::<Script, R, T, K, K, G>(
+        rt, alloc, plan, rounds, texts, tree, out, err, gate,
+    );
+    with_plan(ran, None)
+}
+
 /// Runs what the words of the command line ask for, over a tree, and writes what is to be written to
 /// the two sinks.
 ///
-/// A rounds file with several scripts in a round, `check` with a rounds file, and `report` are not built
-/// yet, and are refused with the usage line. One script or module runs as in `solo`, several as in
-/// `run_all`, and rounds as in `solo_rounds`. With `--bundles` the tree is forked once, and all is done over
-/// that fork, in which bundles are folders. A made workload leaves the tree alone.
+/// One script or module runs as in `solo`, several as in `run_all`, and rounds as in `run_rounds`. With
+/// `--bundles` the tree is forked once, and all is done over that fork, in which bundles are folders. A
+/// made workload leaves the tree alone.
 pub fn pyimport<R: Threads + Wait + Sync, T: Grove, K: Sink + Send, G: Gate + Sync>(
     rt: &R,
     alloc: Global,
@@ -147,6 +181,9 @@ pub fn pyimport<R: Threads + Wait + Sync, T: Grove, K: Sink + Send, G: Gate + Sy
         Ok(plan) => match task_of(plan) {
             Task::Make(it) => run_made(rt, alloc, it, out, err, gate),
             Task::Convert(file) => convert(alloc, file, tree, out, err),
+            Task::Report(Reported { path, dir }) => {
+                report_imports(alloc, path, dir, tree, out, err)
+            }
             Task::Bundle(dir) => bundle(alloc, dir, tree, out, err),
             Task::Check(it) => judge(alloc, it, tree, out, err),
             Task::Modules(run) => {

@@ -1,8 +1,8 @@
 //! Which call does what the words ask for.
 ghost use Rattle.std.specs.Prelude.{◌≡◌};
-ghost use Rattle.pyimport.specs.Tasks.{check_of, modules_by, runs_by, task_of};
+ghost use Rattle.pyimport.specs.Tasks.{modules_by, runs_by, task_of};
 
-use base_types::Text;
+use base_types::{Text, Texts};
 use import_words::{Plan, RunPlan};
 
 /// The numbers of a made workload.
@@ -20,6 +20,13 @@ pub struct Stored {
     pub trace_file: Text,
 }
 
+/// The folder whose imports are reported, and the path on which their names are searched.
+#[derive(Drop)]
+pub struct Reported {
+    pub path: Texts,
+    pub dir: Text,
+}
+
 /// What is to be done for a plan.
 #[derive(Drop)]
 pub enum Task {
@@ -27,6 +34,8 @@ pub enum Task {
     Make(Numbers),
     /// The trace in this file is written anew.
     Convert(Text),
+    /// The imports of the files below a folder are reported.
+    Report(Reported),
     /// The files below this folder are written as a bundle.
     Bundle(Text),
     /// A stored trace is judged.
@@ -39,16 +48,6 @@ pub enum Task {
     RunInBundles(RunPlan),
     /// Scripts run over the tree, or the words are refused.
     Run(Option<Plan>),
-}
-
-/// A stored trace is judged against scripts of one round; with a rounds file the words are refused.
-fn check_of(run: RunPlan, trace_file: Text) -> Task
-    ensures { result ≡ check_of run trace_file }
-{
-    if run.rounds.is_some() {
-        return Task::Run(Some(Plan::Check { run, trace_file }));
-    }
-    Task::Check(Stored { run, trace_file })
 }
 
 /// Modules run as programs, by whether bundles are folders.
@@ -88,8 +87,9 @@ pub fn task_of(plan: Option<Plan>) -> Task
             scripts,
         }),
         Some(Plan::Convert { trace_file }) => Task::Convert(trace_file),
+        Some(Plan::Report { path, dir }) => Task::Report(Reported { path, dir }),
         Some(Plan::Bundle { dir }) => Task::Bundle(dir),
-        Some(Plan::Check { run, trace_file }) => check_of(run, trace_file),
+        Some(Plan::Check { run, trace_file }) => Task::Check(Stored { run, trace_file }),
         Some(Plan::Module(run)) => modules_of(run),
         Some(Plan::Run(run)) => runs_of(run),
         other => Task::Run(other),

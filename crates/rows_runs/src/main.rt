@@ -5,6 +5,7 @@
 
 mod budgets;
 mod calls;
+mod failing;
 mod outcomes;
 mod runs;
 mod schedules;

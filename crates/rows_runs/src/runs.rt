@@ -1,7 +1,7 @@
 //! The rows, and what each does.
 
 use crate::calls::{Call, Holding, Outcome, put_all};
-use crate::{budgets, outcomes, schedules};
+use crate::{budgets, failing, outcomes, schedules};
 use base_types::{Seq, Text};
 use rows_words::{Answered, Row, RowError};
 use std::alloc::Global;
@@ -119,6 +119,12 @@ impl Runs {
     ) -> Answered {
         if row.takes("with each room of err") {
             return Ok(Some(outcomes::each_room(rt, alloc, &self.call)?));
+        }
+        if row.takes("with each room of out") {
+            return Ok(Some(failing::each_room(rt, alloc, &self.call)?));
+        }
+        if row.takes("with each failing call") {
+            return Ok(Some(failing::each_failing(rt, alloc, &self.call)?));
         }
         if row.takes("with each budget") {
             return Ok(Some(budgets::each_budget(rt, alloc, &self.call)?));

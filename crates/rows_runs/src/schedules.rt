@@ -40,15 +40,23 @@ fn texts_of(alloc: Global, call: &Call, scripts: &Texts) -> Result<Seq<Seq<u8>>,
     Ok(texts)
 }
 
+/// The texts of as many modules that run as programs: each is empty at first.
+fn no_texts(alloc: Global, count: usize) -> Result<Seq<Seq<u8>>, RowError> {
+    let mut texts = Seq::new(alloc);
+    for _ in 0..count {
+        texts.push(Seq::new(alloc))?;
+    }
+    Ok(texts)
+}
+
 /// The machine before the first event of a run.
-fn machine_of(alloc: Global, call: &Call, run: &RunPlan) -> Result<Machine, RowError> {
-    let texts = texts_of(alloc, call, &run.scripts)?;
+fn machine_of(run: &RunPlan, texts: &Seq<Seq<u8>>) -> Result<Machine, RowError> {
     let count = run.scripts.len();
     if count < 1 || count > MOST_SCRIPTS || texts.len() != count {
         return Err(RowError::Unknown);
     }
     let rounds = [count as u32];
-    Ok(Machine::new(&run.scripts, &texts, &run.path, &rounds)?)
+    Ok(Machine::new(&run.scripts, texts, &run.path, &rounds)?)
 }
 
 /// Whether the machine takes the event of an entry, and gives the reply that stands there.
@@ -62,8 +70,13 @@ fn is_given(machine: &mut Machine, entry: &Entry) -> Result<bool, RowError> {
 }
 
 /// Whether a trace is read, and the machine gives each of its replies once more.
-fn is_replayed(alloc: Global, call: &Call, run: &RunPlan, trace: &[u8]) -> Result<bool, RowError> {
-    let mut machine = machine_of(alloc, call, run)?;
+fn is_replayed(
+    alloc: Global,
+    run: &RunPlan,
+    texts: &Seq<Seq<u8>>,
+    trace: &[u8],
+) -> Result<bool, RowError> {
+    let mut machine = machine_of(run, texts)?;
     let Ok(trace) = read_trace(alloc, trace) else {
         return Ok(false);
     };
@@ -118,13 +131,21 @@ fn left_of(
     out: &[u8],
     err: &[u8],
 ) -> Result<Option<Outcome>, RowError> {
-    let Some(Plan::Run(run)) = &report.plan else {
-        return Ok(None);
-    };
     let Some(history) = &report.history else {
         return Ok(None);
     };
-    if !is_replayed(alloc, call, run, out)? {
+    let is_replayed = match &report.plan {
+        Some(Plan::Run(run)) => {
+            let texts = texts_of(alloc, call, &run.scripts)?;
+            is_replayed(alloc, run, &texts, out)?
+        }
+        Some(Plan::Module(run)) => {
+            let texts = no_texts(alloc, run.scripts.len())?;
+            is_replayed(alloc, run, &texts, out)?
+        }
+        _ => false,
+    };
+    if !is_replayed {
         return Ok(None);
     }
     outcome_of(alloc, report.status, history.as_slice(), err)

@@ -6,3 +6,4 @@ pub mod Leading
 pub mod Trees
 pub mod Told
 pub mod Slices
+pub mod Ascending

@@ -1,5 +1,5 @@
 -- What an index says of a path below its bundle.
-use Rattle.std.specs.Prelude.{◌≡◌, ◌≤◌, ◌<◌, ◌+◌, ◌^◌, ◌++◌, ℕ, List, length, take, drop, [], ◌∷◌, Option, Some, None, if◌then◌else◌}
+use Rattle.std.specs.Prelude.{◌≡◌, ◌≤◌, ◌<◌, ◌+◌, ◌^◌, ◌++◌, ℕ, List, length, take, drop, slice_get, [], ◌∷◌, Option, Some, None, if◌then◌else◌}
 use Rattle.std.specs.Ordering.{nat_cmp}
 use Rattle.std.specs.List.{list_any}
 use Rattle.std.specs.List.Sorted.{IsStrictlySortedBy}
@@ -10,6 +10,7 @@ use Rattle.tree_files.specs.Files.{has_name, IsRead}
 use Rattle.tree_files.specs.declared.tree.Stamp.{Stamp}
 use Rattle.tree_files.specs.declared.tree.Stamp.TheVariants as stamp
 use Rattle.tree_overlay.specs.Fates.{is_same}
+use Rattle.bundle_hook.specs.Spelling.{Before}
 use Rattle.bundle_hook.specs.declared.bundle.Item.{Item}
 use Rattle.bundle_hook.specs.declared.bundle.Index.{Index}
 
@@ -19,10 +20,18 @@ pub data Thing : Type 0 where
   Folder : Thing
   AFile : (item : Item) → Thing
 
+-- the file where the path is that of the file, a folder where the path is on the way to it, and else what is found further on
+abbrev pub thing_of : Item → Path → Thing → Thing
+thing_of item path further = if is_same item.path path then AFile item else (if is_within path item.path then Folder else further)
+
 -- a file where the path is that of one, and a folder where the path is on the way to one
 abbrev pub thing_among : List Item → Path → Thing
 thing_among [] path = Nothing
-thing_among (item ∷ items) path = if is_same item.path path then AFile item else (if is_within path item.path then Folder else thing_among items path)
+thing_among (item ∷ items) path = thing_of item path (thing_among items path)
+
+-- the paths ascend strictly, and none is a prefix of another
+abbrev pub AscendItems : List Item → Type 0
+AscendItems items = (i j : ℕ) (first later : Item) → i < j → slice_get items i ≡ Some first → slice_get items j ≡ Some later → Before first.path later.path
 
 -- the bundle itself is a folder
 abbrev pub thing_at : List Item → Path → Thing

@@ -5,7 +5,7 @@ ghost use Rattle.tree_files.specs.Count.{Rose};
 ghost use Rattle.tree_files.specs.Files.{IsFileAt, IsRead, node_at, bytes_of};
 ghost use Rattle.tree_bundles.specs.Indexes.{index_at};
 ghost use Rattle.tree_bundles.specs.Things as things;
-ghost use Rattle.tree_bundles.specs.Things.{AreNames, ReadsThing, thing_by, stamp_of_thing};
+ghost use Rattle.tree_bundles.specs.Things.{AreNames, AscendItems, ReadsThing, thing_by, stamp_of_thing};
 ghost use Rattle.tree_bundles.specs.Seen.{thing_in};
 
 use crate::indexes::index_at;
@@ -44,6 +44,7 @@ pub fn stamp_of(inner: Inner<'_>) -> Stamp
 
 /// The names in a folder of a bundle, and none where no folder stands there.
 fn names_of(alloc: Global, items: &[Item], folder: &[Text]) -> Result<Texts, NoMemory>
+    requires { AscendItems items.now }
     ensures folder { IfOk result (λ names. things.thing_at items.now folder.now ≡ things.Folder
         → AreNames items.now folder.now names) }
     ensures wrong_kind { IfOk result (λ names. ¬ (things.thing_at items.now folder.now ≡ things.Folder) → names ≡ []) }

@@ -6,6 +6,7 @@ ghost use Rattle.tree_files.specs.Files.{IsFileAt, node_at, bytes_of, stamp_of};
 ghost use Rattle.tree_files.specs.declared.tree.Stamp.TheVariants as stamp;
 ghost use Rattle.bundle_hook.specs.Spelling.{most_front};
 ghost use Rattle.bundle_hook.specs.Files.{index_in};
+ghost use Rattle.tree_bundles.specs.Things.{AscendItems};
 
 use crate::kept::Kept;
 use base_types::{Exact, TreePath};
@@ -81,6 +82,7 @@ fn read_the_index<T: Tree>(
     requires { ForSome (T.files tree.old) (λ f. IsFileAt f file.now) }
     ensures told { IfOk result (λ index. IfSome (T.files tree.old) (λ f. length (bytes_of (node_at f file.now)) ≡ size
         → index ≡ index_in (bytes_of (node_at f file.now)))) }
+    ensures ascend { IfOk result (λ o. IfSome o (λ index. AscendItems index.items)) }
     ensures failed { IsErrOf result TreeFault.Failed → Rose (T.faults tree.old) (T.faults tree.new) }
     ensures faults_stay { OnOk result (T.faults tree.new ≡ T.faults tree.old) }
     ensures files_stay { T.files tree.new ≡ T.files tree.old }

@@ -7,6 +7,7 @@ ghost use Rattle.tree_files.specs.Count.{Rose};
 ghost use Rattle.tree_files.specs.Files.{Files, node_at, bytes_of, stamp_of};
 ghost use Rattle.tree_files.specs.declared.tree.Stamp.TheVariants as stamp;
 ghost use Rattle.bundle_hook.specs.Files.{index_in};
+ghost use Rattle.tree_bundles.specs.Things.{AscendItems};
 ghost use Rattle.tree_bundles.specs.Indexes.{IsRight, AreRight, index_at};
 
 use crate::front::read_kept;
@@ -30,7 +31,8 @@ fn place_of(kept: &Seq<Kept>, path: &TreePath) -> Option<usize>
 
 /// The index at a place.
 pub fn index_at(kept: &Seq<Kept>, at: usize) -> Option<&Index>
-    ensures { option_copied result ≡ index_at kept.now at }
+    ensures value { option_copied result ≡ index_at kept.now at }
+    ensures ascend { IfSome result (λ it. AscendItems it.now.items) }
 {
     match kept.get(at) {
         Some(it) => it.index.as_ref(),

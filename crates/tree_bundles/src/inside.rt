@@ -1,15 +1,16 @@
 //! What an index says of a path below its bundle.
-ghost use Rattle.std.specs.Prelude.{◌≡◌, ◌++◌, ◌∷◌, [], IfOk, OnOk, ℕ, List, ◌||◌};
+ghost use Rattle.std.specs.Prelude.{◌≡◌, ◌++◌, ◌∷◌, [], IfOk, IfSome, OnOk, ℕ, List, ◌||◌, false, drop, slice_get};
 ghost use Rattle.std.specs.Option.{option_copied};
-ghost use Rattle.std.specs.Ordering.{nat_cmp};
+ghost use Rattle.std.specs.Ordering.{is_lt, nat_cmp};
 ghost use Rattle.std.specs.List.{list_any};
 ghost use Rattle.std.specs.List.Sorted.{IsStrictlySortedBy};
 ghost use Rattle.std.specs.Cmp.Lexicographic.{slice_cmp};
+ghost use Rattle.base_types.specs.Path.{path_cmp};
 ghost use Rattle.tree_files.specs.Edits.{is_within};
 ghost use Rattle.tree_overlay.specs.Gathered.{holds};
 ghost use Rattle.tree_overlay.specs.Names.{part_after};
 ghost use Rattle.tree_bundles.specs.Things as things;
-ghost use Rattle.tree_bundles.specs.Things.{AreNames};
+ghost use Rattle.tree_bundles.specs.Things.{AreNames, AscendItems};
 ghost use Rattle.tree_bundles.specs.Seen.{thing_in};
 
 use base_types::{Exact, NoMemory, Text, Texts, TreePath};
@@ -26,25 +27,62 @@ pub enum Inner<'a> {
     File(&'a Item),
 }
 
-/// What stands at a path among files.
-#[tactic(auto, using(tree_overlay::proofs::Within::within_taken))]
-fn thing_among<'a>(items: &'a [Item], path: &[Text]) -> Inner<'a>
-    ensures { thing_in result ≡ things.thing_among items.now path.now }
+/// Whether a file stands before a path.
+fn is_before(item: &Item, path: &[Text]) -> bool
+    ensures { result ≡ is_lt (path_cmp item.now.path path.now) }
 {
-    for item in items {
-        let parts = item.path.parts().as_slice();
-        if parts == path {
-            return Inner::File(item);
+    item.path.parts().as_slice() < path
+}
+
+/// How many files stand before a path. It looks at few of them: their paths ascend.
+fn count_before(items: &[Item], path: &[Text]) -> usize
+    requires { AscendItems items.now }
+    ensures before { things.thing_among (drop result items.now) path.now ≡ things.thing_among items.now path.now }
+    ensures reached { IfSome (slice_get items.now result) (λ item. is_lt (path_cmp item.path path.now) ≡ false) }
+{
+    let mut count = 0;
+    let mut left = items.len();
+    while left > 0 {
+        let half = left / 2;
+        if is_before(&items[count + half], path) {
+            count += half + 1;
+            left -= half + 1;
+        } else {
+            left = half;
         }
-        if parts.starts_with(path) {
-            return Inner::Folder;
-        }
+    }
+    count
+}
+
+/// What stands at a path, by the first of the files that do not stand before it.
+#[tactic(auto, using(tree_overlay::proofs::Within::within_taken))]
+fn thing_by<'a>(item: &'a Item, path: &[Text]) -> Inner<'a>
+    ensures { thing_in result ≡ things.thing_of item.now path.now things.Nothing }
+{
+    let parts = item.path.parts().as_slice();
+    if parts == path {
+        return Inner::File(item);
+    }
+    if parts.starts_with(path) {
+        return Inner::Folder;
     }
     Inner::Nothing
 }
 
+/// What stands at a path among files.
+fn thing_among<'a>(items: &'a [Item], path: &[Text]) -> Inner<'a>
+    requires { AscendItems items.now }
+    ensures { thing_in result ≡ things.thing_among items.now path.now }
+{
+    match items.get(count_before(items, path)) {
+        Some(item) => thing_by(item, path),
+        None => Inner::Nothing,
+    }
+}
+
 /// What stands at a path below a bundle of these files.
 pub fn thing_at<'a>(items: &'a [Item], path: &[Text]) -> Inner<'a>
+    requires { AscendItems items.now }
     ensures { thing_in result ≡ things.thing_at items.now path.now }
 {
     if path.is_empty() {

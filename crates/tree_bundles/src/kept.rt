@@ -1,4 +1,7 @@
 //! What is kept of a file that may be a bundle.
+ghost use Rattle.std.specs.Option.{ForSome};
+ghost use Rattle.tree_bundles.specs.Things.{AscendItems};
+
 use base_types::TreePath;
 use bundle_hook::Index;
 
@@ -10,4 +13,5 @@ pub struct Kept {
     pub size: u64,
     /// Its index; None where it was no bundle.
     pub index: Option<Index>,
+    ghost ascend: { ForSome index (λ it. AscendItems it.items) },
 }

@@ -61,7 +61,7 @@ pub fn edited_forks<T: Grove>(
 }
 
 /// Takes in what a fork counted.
-fn absorb_fork<T: Grove>(tree: &mut T, fork: Overlay<T>)
+pub fn absorb_fork<T: Grove>(tree: &mut T, fork: Overlay<T>)
     ensures files_stay { T.files tree.new ≡ T.files tree.old }
     ensures faults_grow { T.faults tree.old ≤ T.faults tree.new }
     ensures faults { Absorbed (T.faults tree.old) (⟦<Overlay<T> as Tree>⟧.faults fork) (T.faults tree.new) }

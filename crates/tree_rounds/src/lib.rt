@@ -4,5 +4,5 @@
 mod forks;
 mod laws;
 
-pub use forks::{absorb_forks, add_edits, edited_fork, edited_forks};
+pub use forks::{absorb_fork, absorb_forks, add_edits, edited_fork, edited_forks};
 pub use laws::forks_tell_their_rounds;

@@ -14,7 +14,7 @@ returns-in-Ok-clause-answers g c =
     let run = c.args.run in
     let status = c.check_opened.result.status in
     Checks.opened c.in-Ok.bytes c.in-Ok.ensures.ok
-    (text_since first old new (record { files = opened.files_stay; faults = opened.faults_grow; lists = opened.lists_stay; out = refl; err = refl }) means c.in-Ok.bytes run status
+    (text_since first old new (record { files = opened.files_stay; faults = opened.faults_grow; out = refl; err = refl }) means c.in-Ok.bytes run status
     (subst (λ (bytes : List ℕ). ChecksText means bytes run old new status) c.as_slice.ensures c.check_opened.ensures.answers))
 
 pub returns-in-Err-clause-answers : goal.returns-in-Err-clause-answers

@@ -8,7 +8,7 @@ pub returns-in-Ok-clause-answers : goal.returns-in-Ok-clause-answers
 returns-in-Ok-clause-answers g c =
     let old : Moment = moment g.T.Tree.files g.T.Tree.faults g.T.Tree.lists c.args.tree.now (at g.O.Sink.written g.O.Sink.faults c.args.out.now) (at g.K.Sink.written g.K.Sink.faults c.args.err.now) in
     let new : Moment = moment g.T.Tree.files g.T.Tree.faults g.T.Tree.lists c.judge-judged.new.tree (at g.O.Sink.written g.O.Sink.faults c.say.new.out) (at g.K.Sink.written g.K.Sink.faults c.args.err.now) in
-    ChecksText.judged c.args.texts.now c.in-Ok.said.entries c.in-Ok.said.verdict c.requires.opened c.in-Ok.ensures.judges (c.say.ensures.says old new refl refl refl)
+    ChecksText.judged c.args.it.now.rounds c.args.it.now.texts c.in-Ok.said.entries c.in-Ok.said.verdict c.requires.opened c.in-Ok.ensures.judges (c.say.ensures.says old new refl refl refl)
 
 pub returns-in-Err-Failed-clause-answers : goal.returns-in-Err-Failed-clause-answers
 returns-in-Err-Failed-clause-answers g c =

@@ -1,39 +1,9 @@
-use Rattle.std.proofs.Common.{◌≡◌, length, ap, arith}
-use Rattle.program_rounds.proofs.Begun.{can_open}
+use Rattle.std.proofs.Common.{◌≡◌, ◌∙◌, sym}
+use Rattle.program_rounds.proofs.Begun.{can_run, many_scripts}
 use Rattle.program_rounds.proofs.begin.begin.Goals as goal
 
-pub returns-clause-can_open : goal.returns-clause-can_open
-returns-clause-can_open g c =
-    let many = c.requires.texts in
-    let same = ap length c.texts.view_is in
-    can_open c.args.rounds.now _ c.requires.single c.requires.few c.in_ok-scripts_of.ensures (omega (arith, many, same)) c.in_ok-sizes_of.ensures
+pub ground_for-requires-clause-can_run : goal.ground_for-requires-clause-can_run
+ground_for-requires-clause-can_run g c = can_run c.args.rounds.now c.requires.single c.requires.few
 
-pub machine-requires-clause-some : goal.machine-requires-clause-some
-machine-requires-clause-some g c =
-    let many = c.requires.texts in
-    let same = ap length c.texts.view_is in
-    (can_open c.args.rounds.now (record { scripts = c.in_ok-scripts_of.field-0; texts = c.texts.inside.items.items; path = c.in_ok-copy.field-0; rounds = c.in_ok-sizes_of.field-0 }) c.requires.single c.requires.few c.in_ok-scripts_of.ensures (omega (arith, many, same)) c.in_ok-sizes_of.ensures).some
-
-pub machine-requires-clause-few : goal.machine-requires-clause-few
-machine-requires-clause-few g c =
-    let many = c.requires.texts in
-    let same = ap length c.texts.view_is in
-    (can_open c.args.rounds.now (record { scripts = c.in_ok-scripts_of.field-0; texts = c.texts.inside.items.items; path = c.in_ok-copy.field-0; rounds = c.in_ok-sizes_of.field-0 }) c.requires.single c.requires.few c.in_ok-scripts_of.ensures (omega (arith, many, same)) c.in_ok-sizes_of.ensures).few
-
-pub machine-requires-clause-texts : goal.machine-requires-clause-texts
-machine-requires-clause-texts g c =
-    let many = c.requires.texts in
-    let same = ap length c.texts.view_is in
-    (can_open c.args.rounds.now (record { scripts = c.in_ok-scripts_of.field-0; texts = c.texts.inside.items.items; path = c.in_ok-copy.field-0; rounds = c.in_ok-sizes_of.field-0 }) c.requires.single c.requires.few c.in_ok-scripts_of.ensures (omega (arith, many, same)) c.in_ok-sizes_of.ensures).texts
-
-pub machine-requires-clause-each : goal.machine-requires-clause-each
-machine-requires-clause-each g c =
-    let many = c.requires.texts in
-    let same = ap length c.texts.view_is in
-    (can_open c.args.rounds.now (record { scripts = c.in_ok-scripts_of.field-0; texts = c.texts.inside.items.items; path = c.in_ok-copy.field-0; rounds = c.in_ok-sizes_of.field-0 }) c.requires.single c.requires.few c.in_ok-scripts_of.ensures (omega (arith, many, same)) c.in_ok-sizes_of.ensures).each
-
-pub machine-requires-clause-rounds : goal.machine-requires-clause-rounds
-machine-requires-clause-rounds g c =
-    let many = c.requires.texts in
-    let same = ap length c.texts.view_is in
-    (can_open c.args.rounds.now (record { scripts = c.in_ok-scripts_of.field-0; texts = c.texts.inside.items.items; path = c.in_ok-copy.field-0; rounds = c.in_ok-sizes_of.field-0 }) c.requires.single c.requires.few c.in_ok-scripts_of.ensures (omega (arith, many, same)) c.in_ok-sizes_of.ensures).rounds
+pub ground_for-requires-clause-texts : goal.ground_for-requires-clause-texts
+ground_for-requires-clause-texts g c = c.requires.texts ∙ sym (many_scripts c.args.rounds.now c.requires.single)

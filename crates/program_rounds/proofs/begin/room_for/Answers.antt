@@ -1,4 +1,4 @@
-use Rattle.std.proofs.Common.{◌≡◌, ◌∙◌, ◌+◌, ℕ, sym, ap, subst, arith, length}
+use Rattle.std.proofs.Common.{sym, ap, subst, arith, length}
 use Rattle.std.proofs.lemmas.List.{length-append}
 use Rattle.drive_rounds.specs.Played.{AreShort}
 use Rattle.program_rounds.proofs.Begun.{short_more}

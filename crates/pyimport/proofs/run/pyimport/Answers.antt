@@ -60,6 +60,11 @@ returns-in-Bundle-clause-answers g c =
     let asked = ap task_of (sym c.in-Ok.ensures) ∙ (sym c.task_of.ensures ∙ c.in-Bundle.is) in
     Answers.bundled c.in-Bundle.dir asked c.bundle.ensures.plan c.bundle.ensures.history c.bundle.ensures.answers
 
+pub returns-in-Report-clause-answers : goal.returns-in-Report-clause-answers
+returns-in-Report-clause-answers g c =
+    let asked = ap task_of (sym c.in-Ok.ensures) ∙ (sym c.task_of.ensures ∙ c.in-Report.is) in
+    Answers.reported _ asked c.report_imports.ensures.plan c.report_imports.ensures.history c.report_imports.ensures.answers
+
 pub returns-in-Check-clause-answers : goal.returns-in-Check-clause-answers
 returns-in-Check-clause-answers g c =
     let asked = ap task_of (sym c.in-Ok.ensures) ∙ (sym c.task_of.ensures ∙ c.in-Check.is) in
@@ -95,6 +100,12 @@ returns-in-Bundle-clause-lists g c = λ none reads. absurd (subst ReadsNoFolder 
 
 pub returns-in-Bundle-clause-lists_stay : goal.returns-in-Bundle-clause-lists_stay
 returns-in-Bundle-clause-lists_stay g c = λ itself none reads. absurd (subst ReadsNoFolder c.bundle.ensures.plan reads)
+
+pub returns-in-Report-clause-lists : goal.returns-in-Report-clause-lists
+returns-in-Report-clause-lists g c = λ none reads. absurd (subst ReadsNoFolder c.report_imports.ensures.plan reads)
+
+pub returns-in-Report-clause-lists_stay : goal.returns-in-Report-clause-lists_stay
+returns-in-Report-clause-lists_stay g c = λ itself none reads. absurd (subst ReadsNoFolder c.report_imports.ensures.plan reads)
 
 pub returns-in-Check-clause-lists : goal.returns-in-Check-clause-lists
 returns-in-Check-clause-lists g c = λ none reads. absurd (subst ReadsNoFolder c.judge.ensures.plan reads)
