@@ -18,13 +18,14 @@ import tempfile
 
 import examples
 import plain_judge
+import plain_rounds
 import plain_thread
 import rows_in_cpython
 
 CALL = re.compile(
     r"(?:#.*\n)*row (?P<name>.*)\n(?P<files>(?:(?:file|dir|pieces) .*\n|[|/].*\n)*)words run (?P<words>.*)\n(?:run|allow)"
 )
-OPTIONS = ("--path", "--fuel")
+OPTIONS = ("--path", "--fuel", "--rounds")
 TRACE = "its trace"
 LONGEST = 4_000
 SCRIPTS, MODULES = 16, 12
@@ -35,8 +36,17 @@ def rows():
     for block in (rows_in_cpython.CRATES / "rows_runs" / "stdin").read_text().split("\n\n"):
         parts = CALL.match(block + "\n")
         words = parts["words"].split(" ") if parts else []
-        if words and not {"--rounds", "--bundles"} & set(words):
+        if words and "--bundles" not in words:
             yield parts["name"], parts["files"], [word for word in words if word != "--trace"]
+
+
+def plant(folder, files):
+    """Makes the folders and files of a row."""
+    for kind, path, given in rows_in_cpython.edits_of(files):
+        place = folder / path
+        (place if kind == "dir" else place.parent).mkdir(parents=True, exist_ok=True)
+        if kind == "file":
+            place.write_bytes(given)
 
 
 def set_times(folder, files=""):
@@ -47,14 +57,26 @@ def set_times(folder, files=""):
         os.utime(path, (time, time))
 
 
-def split(words):
-    """The search path or None, the budget, and the scripts that words name."""
-    at = 0
-    while at < len(words) and words[at] in OPTIONS:
-        at += 2
-    options = dict(zip(words[:at:2], words[1:at:2]))
-    path = options["--path"].split(":") if "--path" in options else None
-    return path, int(options.get("--fuel", 1_000_000)), words[at:]
+class Words:
+    """The words behind `run`: its options with what they name, and the scripts."""
+
+    def __init__(self, words):
+        at = 0
+        while at < len(words) and words[at] in OPTIONS:
+            at += 2
+        self.options, self.scripts = words[:at], words[at:]
+        given = dict(zip(words[:at:2], words[1:at:2]))
+        self.path = given["--path"].split(":") if "--path" in given else None
+        self.fuel, self.rounds = int(given.get("--fuel", 1_000_000)), given.get("--rounds")
+
+    def case(self, folder):
+        """What a trace is judged against by the plain judge."""
+        files = plain_thread.Files.below(folder)
+        files.found[(TRACE,)] = b""
+        if self.rounds is None:
+            return plain_judge.Case(files, self.scripts, self.path, self.fuel)
+        rounds = plain_rounds.rounds_of(files, (folder / self.rounds).read_text())
+        return plain_judge.Case.in_rounds(rounds, self.path, self.fuel)
 
 
 class Checks:
@@ -68,7 +90,7 @@ class Checks:
 
     def check(self, name, folder, words, files=""):
         """Runs scripts in a folder and judges their trace. The status of the run."""
-        path, fuel, scripts = split(words)
+        given = Words(words)
         # (the trace stands in the folder from the beginning, so listings have it before and behind the run)
         (folder / TRACE).touch()
         set_times(folder, files)
@@ -77,11 +99,12 @@ class Checks:
             return None
         (folder / TRACE).write_bytes(done.stdout)
         set_times(folder, files)
-        said = self.call(folder, "check", *words[: len(words) - len(scripts)], TRACE, *scripts)
-        self.compare(name, folder, plain_judge_of(folder, scripts, path, fuel, done.stdout), said)
+        said = self.call(folder, "check", *given.options, TRACE, *given.scripts)
+        is_short = done.stdout.count(b"\n") <= LONGEST
+        self.compare(name, plain_judge.judged(given.case(folder), done.stdout) if is_short else None, said)
         return done.returncode
 
-    def compare(self, name, folder, plain, said):
+    def compare(self, name, plain, said):
         told = said.stdout.decode().removesuffix("\n") or said.stderr.decode()
         self.traces += 1
         self.plain += plain is not None
@@ -93,20 +116,11 @@ class Checks:
         print(f"{title}: {self.traces} traces, {self.plain} of them judged twice, {self.refused} told otherwise", flush=True)
 
 
-def plain_judge_of(folder, scripts, path, fuel, data):
-    """What the plain judge says of a trace, or None where it is long."""
-    if data.count(b"\n") > LONGEST:
-        return None
-    files = plain_thread.Files.below(folder)
-    files.found[(TRACE,)] = b""
-    return plain_judge.judged(plain_judge.Case(files, scripts, path, fuel), data)
-
-
 def check_rows(checks):
     for name, files, words in rows():
         with tempfile.TemporaryDirectory() as place:
             folder = pathlib.Path(place).resolve()
-            rows_in_cpython.plant(folder, files)
+            plant(folder, files)
             fuel = 0
             if name.startswith("units of"):
                 while checks.check(f"{name}, {fuel + 1} units", folder, ["--fuel", str(fuel + 1), *words], files) == 3:
@@ -117,7 +131,7 @@ def check_rows(checks):
 def check_examples(checks):
     for path in sorted((examples.ROOT / "examples").glob("*/trace.txt")):
         words = examples.words_of(path.parent) or sorted(it.name for it in path.parent.glob("s*.py"))
-        if words and "--rounds" not in words:
+        if words:
             with tempfile.TemporaryDirectory() as place:
                 folder = pathlib.Path(place).resolve()
                 subprocess.run(["cp", "-r", f"{path.parent}/.", folder], check=True)

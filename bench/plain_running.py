@@ -429,7 +429,6 @@ class Running(plain_imports.Imports):
         return self.attribute(value, name)
 
     def attribute(self, value, name):
-        value = self.plain(value)
         if isinstance(value, values.Error) and name == "name" and values.is_kind(value.kind, "ImportError"):
             return value.name
         if not isinstance(value, values.Module):
@@ -484,7 +483,6 @@ class Running(plain_imports.Imports):
         return self.call_method(owner, method, arguments) if owner else self.call(value, arguments)
 
     def call(self, value, arguments):
-        value = self.plain(value)
         if isinstance(value, values.Func):
             return self.call_function(value, arguments)
         if isinstance(value, values.Kind):
@@ -518,7 +516,6 @@ class Running(plain_imports.Imports):
         self.add_entry(None, value)
 
     def method_insert(self, index, value):
-        index = self.plain(index)
         if not values.is_number(index):
             values.raises("TypeError", "indices must be integers")
         self.add_entry(int(index), value)

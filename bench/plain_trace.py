@@ -79,7 +79,7 @@ REPLIES = {
     "ready": (),
     "done": (),
 }
-# The words of the replies that each event can get.
+# The words of the replies that each event can get; `reloadend` gets one by whether it has a load.
 FITTING = {
     "ask": "module cycle halted missing deadlock wait",
     "take": "module cycle halted mine deadlock wait",
@@ -101,14 +101,18 @@ FITTING = {
     "tabdel": "was fixed",
     "reloadbegin": "begun busy notthere fixed sleeping",
     "reloadtake": "load wait deadlock notthere",
-    "reloadend": "done kept lost",
     "rouse": "ready wait cycle deadlock yours",
 }
 
 
 def fits(event, reply):
     """Whether a reply is of a word that its event can get."""
-    return reply[0] in FITTING.get(event[0], "done").split()
+    word, answer = event[0], reply[0]
+    if word == "reloadend":
+        return answer == "done" if event[2] is None else answer in ("kept", "lost")
+    if (word == "finish" and event[2] == "bad" and answer != "kept") or (answer == "sleeping" and event[-1] == "raw"):
+        return False
+    return answer in FITTING.get(word, "done").split()
 
 
 @dataclasses.dataclass(frozen=True)

@@ -265,7 +265,7 @@ def joined(left, right):
 def repeated(text, times):
     if times > 0 and bytes_of(text) * times > MOST_BYTES:
         outside("text too long")
-    return text * max(times, 0)
+    return text * times if text and times > 0 else ""
 
 
 def binary(op, left, right):

@@ -246,7 +246,15 @@ CALL = re.compile(
     r"(?:out\n(?P<out>(?:[|/] .*\n)*)(?:err\n(?P<err>(?:[|/] .*\n)*))?status (?P<status>\d)\n)?(?:run with each .*\n)*\n*"
 )
 # Rows of which the kind of the error alone is compared, beside those below a note that says so: why.
-BY_KIND = {"a first script that fails": "the text of a division by zero (`docs/differences.md`)"}
+BY_KIND = dict.fromkeys(
+    (
+        "a first script that fails",
+        "one of two scripts fails, and the next round goes on",
+        "both scripts of a round fail in one module",
+        "the least script has the first line of the errors",
+    ),
+    "the text of a division by zero (`docs/differences.md`)",
+)
 
 
 def calls(table):

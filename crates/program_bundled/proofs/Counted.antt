@@ -142,6 +142,7 @@ module _ (files files' files'' : Option Files) (faults f lists l lists' : ℕ) (
     runs = told_by files _ _ (λ told. over_by told plan.fuel faults f status means plan texts h) run.runs;
     reads = reads_by faults f (reads_of (length plan.scripts) h) run.reads;
     lists = λ ended. lists_by (lists_of (length plan.scripts) h) (run.lists ended);
+    ends = run.ends;
     leaves = leaves_by run.leaves;
   }
 
@@ -151,6 +152,7 @@ module _ (files files' files'' : Option Files) (faults f lists l lists' : ℕ) (
     runs = told_by files _ _ (λ told. all_by told plan.fuel faults f status means (opening_in plan rounds texts) rounds texts h) run.runs;
     reads = reads_by faults f (reads_of (length (scripts_of rounds)) h) run.reads;
     lists = λ ended. lists_by (lists_of (length (scripts_of rounds)) h) (run.lists ended);
+    ends = run.ends;
     leaves = leaves_by run.leaves;
   }
 

@@ -186,6 +186,7 @@ module _ (means : Means) (plan : RunPlan) (rounds : List Round) (texts : List (L
         runs = subst (λ (x : Option Files). IfSome x (λ files. RunOver means (setting files plan.fuel first.faults new.faults status) (opening_in plan rounds texts) rounds texts h)) since.files (by_since old.files first.faults old.faults new.faults later run.runs);
         reads = omega (arith, later, reads);
         lists = λ ended. (let bound = run.lists ended in omega (arith, bound, fewer));
+        ends = run.ends;
         leaves = leaves_from (status_of (length (scripts_of rounds)) h) (out_text plan.trace h) (err_text (scripts_of rounds) h) run.leaves;
       }
     where

@@ -42,7 +42,7 @@ use Rattle.program_run.specs.Runs.{finished}
 use Rattle.program_run.specs.Together.{Mean}
 use Rattle.program_run.proofs.Counting.{faults_in, lists_counted, reads_from, lists_from}
 use Rattle.program_run.proofs.Lone.{begun_by}
-use Rattle.program_run.proofs.Threads.{many_mean, many_ran, ended_ran}
+use Rattle.program_run.proofs.Threads.{ends_by, many_mean, many_ran, ended_ran}
 use Rattle.program_rounds.specs.Rounds.{AreSingle, scripts_of, sizes_of, edits_of, trees_of, opening_in}
 use Rattle.program_rounds.specs.Runs.{IsRun, RunOver, HasRun, meanings}
 use Rattle.program_rounds.proofs.Begun.{each_one, many_scripts, many_sizes}
@@ -242,5 +242,6 @@ module _ (means : Means) (safe : (t : ℕ) (text : List ℕ) → Safe (shown_fir
             let same : lists_of (0 + length results) h ≡ lists_of (length (scripts_of rounds)) h = ap (λ (n : ℕ). lists_of n h) many in
             let bound = (lists_from None plan.fuel h 0 (map run programs) (counts_of told faults lists news) results all (subst (λ (n : ℕ). HaveEnds n h) (sym many) ended)).0 in
             omega (arith, same, bound, lsum, listed);
+        ends = ends_by status (length (scripts_of rounds)) results h (omega (arith, many)) (ended_ran None plan.fuel h 0 (map run programs) (counts_of told faults lists news) results all) w;
         leaves = leaves;
       }

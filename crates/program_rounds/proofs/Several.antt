@@ -28,7 +28,7 @@ use Rattle.program_run.specs.Alone.{Means, setting}
 use Rattle.program_run.specs.Results.{AllEnded, AreWhole}
 use Rattle.program_run.specs.Runs.{finished}
 use Rattle.program_run.proofs.Counting.{tree_counts, faults_in, lists_counted, reads_from, lists_from}
-use Rattle.program_run.proofs.Threads.{act_of, ended_ran, whole_rest}
+use Rattle.program_run.proofs.Threads.{act_of, ended_ran, ends_by, whole_rest}
 use Rattle.program_rounds.specs.Rounds.{AreSingle, scripts_of, trees_of, opening_in}
 use Rattle.program_rounds.specs.Opened.{files_after}
 use Rattle.program_rounds.specs.Runs.{EachActs, RunOver, HasRun, meanings}
@@ -152,6 +152,7 @@ has_run_together means plan rounds texts old new h status results items several 
           let same : lists_of (0 + length left.came) h ≡ lists_of (length (scripts_of rounds)) h = ap (λ (n : ℕ). lists_of n h) many in
           let bound = (lists_from None plan.fuel h 0 (meanings means texts) left.counts left.came all (subst (λ (n : ℕ). HaveEnds n h) (sym many) ended)).0 in
           omega (arith, same, bound, lsum, listed);
+      ends = ends_by status (length (scripts_of rounds)) left.came h (omega (arith, many)) (ended_ran None plan.fuel h 0 (meanings means texts) left.counts left.came all) (whole_left means old.files plan.fuel rounds texts (tree_counts old) (tree_counts new) h results items left status w);
       leaves = leaves;
     }
   where

@@ -16,6 +16,7 @@ use Rattle.program_run.specs.Ends.{err_text, status_of}
 use Rattle.program_run.specs.Sinks.{Moment, Leaves, status_by}
 use Rattle.program_run.specs.Counts.{ReadsBy, ListsBy}
 use Rattle.program_run.specs.Alone.{Means, Setting, setting}
+use Rattle.program_run.specs.Results.{EachHasEnd}
 use Rattle.program_run.specs.Runs.{Finished, finished}
 use Rattle.program_run.specs.Together.{Acts}
 use Rattle.program_run.specs.declared.report.Left.{Left}
@@ -73,6 +74,8 @@ pub record HasRun (means : Means) (plan : RunPlan) (rounds : List Round) (texts 
   -- no more scripts ended by a failed call of the tree than there were such calls
   pub reads : ReadsBy (length (scripts_of rounds)) ran.history old.faults new.faults
   pub lists : ListsBy (length (scripts_of rounds)) ran.history old.lists new.lists
+  -- unless memory was wanted, each script came to its End, whatever the tree tells
+  pub ends : (ran.status ≡ want_of_memory → ⊥) → EachHasEnd 0 (length (scripts_of rounds)) ran.history
   -- what was written, and the status
   pub leaves : Leaves (status_by (status_of (length (scripts_of rounds)) ran.history) sink_fault)
       (out_text plan.trace ran.history) (err_text (scripts_of rounds) ran.history) old new ran.status

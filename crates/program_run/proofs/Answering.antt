@@ -68,6 +68,7 @@ run_from means plan texts first old new h status since run =
       runs = subst (λ (x : Option Files). IfSome x (λ files. RunOver means (setting files plan.fuel first.faults new.faults status) plan texts h)) since.files (by_since means old.files plan texts first.faults old.faults new.faults status h later run.runs);
       reads = omega (arith, later, reads);
       lists = λ ended. subst (λ (n : ℕ). new.lists ≤ n + lists_of (length plan.scripts) h) since.lists (run.lists ended);
+      ends = run.ends;
       leaves = leaves_from (status_of (length plan.scripts) h) (out_text plan.trace h) (err_text plan.scripts h) run.leaves;
     }
   where

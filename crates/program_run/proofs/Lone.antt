@@ -39,7 +39,7 @@ use Rattle.program_run.specs.Together.{MeanFrom}
 use Rattle.program_run.specs.Runs.{RunOver, HasRun, Gives, finished}
 use Rattle.program_run.specs.declared.report.Left.{Left}
 use Rattle.program_run.proofs.Counting.{tree_counts, reads_one, lists_one}
-use Rattle.program_run.proofs.Threads.{one_mean}
+use Rattle.program_run.proofs.Threads.{ends_by, one_mean}
 
 -- what a machine of one script is begun with, and what the script means: its events show all that it asks for
 record IsOne (b : Begun) (run : Run) : Type 0 where
@@ -145,6 +145,7 @@ module _ (means : Means) (safe : AreSafe means) (plan : RunPlan) (texts : List (
     runs = runs_by run p came text texts_are same ran w old.files refl;
     reads = subst (λ (n : ℕ). ReadsBy n h old.faults new.faults) (sym one) (reads_one old.files (run p 0) plan.fuel h came (tree_counts old) (tree_counts new) ran);
     lists = subst (λ (n : ℕ). ListsBy n h old.lists new.lists) (sym one) (lists_one old.files (run p 0) plan.fuel h came (tree_counts old) (tree_counts new) ran);
+    ends = ends_by status (length plan.scripts) (came ∷ []) h (sym one) (ran.ended, tt) w;
     leaves = leaves;
   }
 

@@ -26,7 +26,7 @@ use Rattle.program_run.specs.Ends.{err_text, status_of}
 use Rattle.program_run.specs.Sinks.{Moment, Leaves, status_by}
 use Rattle.program_run.specs.Counts.{reads_of}
 use Rattle.program_run.specs.Alone.{Means, setting, opening_of}
-use Rattle.program_run.specs.Results.{Came, AreWhole, AllEnded}
+use Rattle.program_run.specs.Results.{Came, AreWhole, AllEnded, EachHasEnd}
 use Rattle.program_run.specs.Runs.{RunOver, HasRun, finished}
 use Rattle.program_run.specs.Together.{Mean, MeanFrom, Acts, AllAct, RanTogether}
 use Rattle.program_run.proofs.Counting.{tree_counts, faults_in, faults_rise, reads_by, lists_by, reads_none}
@@ -137,6 +137,16 @@ ended_ran tree fuel h t (run ∷ runs) [] results all = absurd all
 ended_ran tree fuel h t (run ∷ runs) (c ∷ counts) [] all = absurd all
 ended_ran tree fuel h t (run ∷ runs) (c ∷ counts) (r ∷ results) all = (all.0.ended, ended_ran tree fuel h (suc t) runs counts results all.1)
 
+-- so each came to its End, unless memory was wanted
+each_has_end : (t : ℕ) (results : List Came) (h : List Entry) → AreWhole results → AllEnded t results h → EachHasEnd t (length results) h
+each_has_end t [] h whole ended = tt
+each_has_end t (Ok ending ∷ results) h whole ended = ((outcome ending, ended.0), each_has_end (suc t) results h whole ended.1)
+each_has_end t (Err e ∷ results) h whole ended = absurd whole
+
+pub ends_by : (status n : ℕ) (results : List Came) (h : List Entry) → length results ≡ n → AllEnded 0 results h → (status ≡ want_of_memory) ⊎ AreWhole results → (status ≡ want_of_memory → ⊥) → EachHasEnd 0 n h
+ends_by status n results h many ended (inl six) unless = absurd (unless six)
+ends_by status n results h many ended (inr whole) unless = subst (λ (k : ℕ). EachHasEnd 0 k h) many (each_has_end 0 results h whole ended)
+
 -- on a new book all scripts of its one round may begin
 at_zero : (size t : ℕ) → t < size → slice_get (round_starts 0 (size ∷ [])) t ≡ Some 0
 at_zero size t low =
@@ -168,6 +178,7 @@ module _ (means : Means) (plan : RunPlan) (texts : List (List ℕ)) (old new : M
         runs = by_told old.files (λ files told. over_ran means old.files files told plan texts two (tree_counts old) (tree_counts new) status h run programs results mean ran w);
         reads = reads_by old.files plan.fuel h (map run programs) ran.counts results (tree_counts old) (tree_counts new) ran.threads ran.absorbs (length plan.scripts) many;
         lists = lists_by old.files plan.fuel h (map run programs) ran.counts results (tree_counts old) (tree_counts new) ran.threads ran.absorbs (length plan.scripts) many;
+        ends = ends_by status (length plan.scripts) results h many (ended_ran old.files plan.fuel h 0 (map run programs) ran.counts results ran.threads) w;
         leaves = leaves;
       }
     where
@@ -181,6 +192,7 @@ module _ (means : Means) (plan : RunPlan) (texts : List (List ℕ)) (old new : M
     runs = by_told old.files;
     reads = let none : reads_of (length plan.scripts) h ≡ 0 = ap (reads_of (length plan.scripts)) empty ∙ reads_none (length plan.scripts) in omega (arith, none, faults);
     lists = λ ended. omega (arith, lists);
+    ends = λ unless. absurd (unless six);
     leaves = leaves;
   }
     where

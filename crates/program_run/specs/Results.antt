@@ -1,7 +1,10 @@
 -- What came of scripts, as the lines about their ends and the number of the worst.
-use Rattle.std.specs.Prelude.{ℕ, suc, max, List, [], ◌∷◌, ◌++◌, Result, Ok, Err, IfOk}
+use Rattle.std.specs.Prelude.{ℕ, zero, suc, max, List, [], ◌∷◌, ◌++◌, Result, Ok, Err, IfOk}
 use Rattle.base_types.specs.declared.no_memory.NoMemory.{NoMemory}
+use Rattle.machine_events.specs.declared.event.Event.{Event}
+use Rattle.machine_events.specs.declared.event.Reply.{Reply}
 use Rattle.machine_events.specs.declared.event.Entry.{Entry}
+use Rattle.machine_events.specs.declared.event.Outcome.{Outcome}
 use Rattle.machine_shown.specs.Own.{own}
 use Rattle.drive_account.specs.declared.end.Ending.{Ending}
 use Rattle.drive_account.specs.Ending.{Ended, outcome}
@@ -43,3 +46,12 @@ AreWhole (Err e ∷ results) = ⊥
 abbrev pub AllEnded : ℕ → List Came → List Entry → Type 0
 AllEnded t [] history = Unit {0}
 AllEnded t (result ∷ results) history = IfOk result (λ ending. Ended (own t history) (outcome ending)) × AllEnded (suc t) results history
+
+-- a script's own events end with its End
+abbrev pub HasEnd : List (Event × Reply) → Type 0
+HasEnd mine = (outcome : Outcome) × Ended mine outcome
+
+-- so do those of so many scripts, of which the first has the number t
+abbrev pub EachHasEnd : ℕ → ℕ → List Entry → Type 0
+EachHasEnd t zero history = Unit {0}
+EachHasEnd t (suc n) history = HasEnd (own t history) × EachHasEnd (suc t) n history

@@ -9,6 +9,7 @@ use Rattle.program_run.specs.Ends.{err_text, status_of}
 use Rattle.program_run.specs.Sinks.{Moment, Leaves, status_by}
 use Rattle.program_run.specs.Counts.{ReadsBy, ListsBy}
 use Rattle.program_run.specs.Alone.{Means, Setting, setting, opening_of, IsRun}
+use Rattle.program_run.specs.Results.{EachHasEnd}
 use Rattle.program_run.specs.Together.{AllAct}
 use Rattle.program_run.specs.declared.report.Left.{Left}
 
@@ -38,6 +39,8 @@ pub record HasRun (means : Means) (plan : RunPlan) (texts : List (List ℕ)) (ol
   -- no more scripts ended by a failed call of the tree than there were such calls
   pub reads : ReadsBy (length plan.scripts) ran.history old.faults new.faults
   pub lists : ListsBy (length plan.scripts) ran.history old.lists new.lists
+  -- unless memory was wanted, each script came to its End, whatever the tree tells
+  pub ends : (ran.status ≡ want_of_memory → ⊥) → EachHasEnd 0 (length plan.scripts) ran.history
   -- what was written, and the status
   pub leaves : Leaves (status_by (status_of (length plan.scripts) ran.history) sink_fault)
       (out_text plan.trace ran.history) (err_text plan.scripts ran.history) old new ran.status

@@ -4,7 +4,7 @@ ghost use Rattle.std.specs.Option.{ForSome};
 ghost use Rattle.tree_files.specs.Count.{Rose};
 ghost use Rattle.tree_files.specs.Files.{node_at, is_dir, is_file};
 ghost use Rattle.path_finder.specs.Entries.{path_of};
-ghost use Rattle.path_finder.specs.Find.{find, answer};
+ghost use Rattle.path_finder.specs.Find.{find, answer, module_file};
 ghost use Rattle.report_names.specs.Meanings.{entries};
 ghost use Rattle.path_finder.specs.declared.words.Found.{Found};
 ghost use Rattle.report_names.specs.Seeking as spec;
@@ -114,6 +114,52 @@ fn module_at<T: Tree>(tree: &mut T, at: &TreePath) -> Result<Option<SpecKind>, T
     Ok(None)
 }
 
+/// The module that a directory has for what is wanted.
+fn module_in<T: Tree>(
+    tree: &mut T,
+    wanted: &Wanted,
+    dir: &TreePath,
+) -> Result<Option<SpecKind>, TreeFault>
+    ensures told { ForSome (T.files tree.old) (λ f. IfOk result
+        (λ it. it ≡ spec.module_at f (module_file dir.now wanted.now.part))) }
+    ensures failed { IsErrOf result TreeFault.Failed → Rose (T.faults tree.old) (T.faults tree.new) }
+    ensures faults_stay { OnOk result (T.faults tree.new ≡ T.faults tree.old) }
+    ensures files_stay { T.files tree.new ≡ T.files tree.old }
+    ensures faults_grow { T.faults tree.old ≤ T.faults tree.new }
+    ensures lists_stay { T.lists tree.new ≡ T.lists tree.old }
+{
+    let file = wanted.module_file(dir)?;
+    module_at(tree, &file)
+}
+
+/// What a directory has for what is wanted, where it has this as a folder: where that decides, no file is looked for.
+fn or_module<T: Tree>(
+    tree: &mut T,
+    wanted: &Wanted,
+    dir: &TreePath,
+    offer: Offer,
+) -> Result<Offer, TreeFault>
+    ensures told { ForSome (T.files tree.old) (λ f. IfOk result
+        (λ it. it ≡ spec.either offer (spec.module_at f (module_file dir.now wanted.now.part)))) }
+    ensures failed { IsErrOf result TreeFault.Failed → Rose (T.faults tree.old) (T.faults tree.new) }
+    ensures faults_stay { OnOk result (T.faults tree.new ≡ T.faults tree.old) }
+    ensures files_stay { T.files tree.new ≡ T.files tree.old }
+    ensures faults_grow { T.faults tree.old ≤ T.faults tree.new }
+    ensures lists_stay { T.lists tree.new ≡ T.lists tree.old }
+{
+    match offer {
+        Offer::Decides(kind) => Ok(Offer::Decides(kind)),
+        Offer::Portion(portion) => {
+            let found = module_in(tree, wanted, dir)?;
+            Ok(either(Offer::Portion(portion), found))
+        }
+        Offer::Nothing => {
+            let found = module_in(tree, wanted, dir)?;
+            Ok(either(Offer::Nothing, found))
+        }
+    }
+}
+
 /// What a directory has for what is wanted.
 fn offer_in<T: Tree>(tree: &mut T, wanted: &Wanted, dir: &TreePath) -> Result<Offer, TreeFault>
     ensures told { ForSome (T.files tree.old) (λ f. IfOk result (λ it. it ≡ spec.offer_in f wanted.now.part dir.now)) }
@@ -124,10 +170,8 @@ fn offer_in<T: Tree>(tree: &mut T, wanted: &Wanted, dir: &TreePath) -> Result<Of
     ensures lists_stay { T.lists tree.new ≡ T.lists tree.old }
 {
     let folder = wanted.folder(dir)?;
-    let file = wanted.module_file(dir)?;
     let offer = offer_of_folder(tree, &folder)?;
-    let found = module_at(tree, &file)?;
-    Ok(either(offer, found))
+    or_module(tree, wanted, dir, offer)
 }
 
 /// What a path has for what is wanted: only a directory is searched.

@@ -7,3 +7,4 @@ pub mod Trees
 pub mod Told
 pub mod Slices
 pub mod Ascending
+pub mod Answered

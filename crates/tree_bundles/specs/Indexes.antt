@@ -1,9 +1,9 @@
 -- The indexes that are kept of a tree's bundles.
-use Rattle.std.specs.Prelude.{◌≡◌, ◌<◌, ◌^◌, ℕ, List, length, take, slice_get, Option, Some, None}
+use Rattle.std.specs.Prelude.{◌≡◌, ◌∷◌, ◌++◌, ◌<◌, ◌^◌, [], ℕ, List, length, take, slice_get, Option, Some, None, is_some, IsTrue}
 use Rattle.std.specs.Option.{ForSome, option_and_then}
 use Rattle.std.specs.List.{All}
 use Rattle.base_types.specs.Path.{Path}
-use Rattle.tree_files.specs.Files.{Files, node_at, stamp_of, bytes_of}
+use Rattle.tree_files.specs.Files.{Files, IsDirAt, node_at, stamp_of, bytes_of}
 use Rattle.tree_files.specs.declared.tree.Stamp.TheVariants as stamp
 use Rattle.bundle_hook.specs.declared.bundle.Packed.{Packed}
 use Rattle.bundle_hook.specs.declared.bundle.Index.{Index}
@@ -19,6 +19,14 @@ IsRight f kept = stamp_of (node_at f kept.path) ≡ stamp.File kept.size → kep
 -- where files are told, each index is right
 abbrev pub AreRight : Option Files → List Kept → Type 0
 AreRight told kept = ForSome told (λ f. All (IsRight f) kept)
+
+-- what `IsTree` says of files, in the words of a field that is kept
+abbrev pub StandAsTree : Files → Type 0
+StandAsTree f = IsDirAt f [] × ((p : Path) (part : List ℕ) → IsTrue (is_some (node_at f (p ++ part ∷ []))) → IsDirAt f p)
+
+-- where something is kept, the tree inside has answered before: the files that it tells are a tree
+abbrev pub HasAnswered : Option Files → List Kept → Type 0
+HasAnswered told kept = 0 < length kept → ForSome told StandAsTree
 
 -- the index at a place
 abbrev pub index_at : List Kept → ℕ → Option Index

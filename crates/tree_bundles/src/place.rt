@@ -4,7 +4,7 @@ ghost use Rattle.std.specs.Option.{ForSome};
 ghost use Rattle.tree_files.specs.Count.{Rose};
 ghost use Rattle.tree_files.specs.Files.{IsTree, node_at};
 ghost use Rattle.tree_bundles.specs.Expand.{is_bundle_name, names_bundle, bundle_at};
-ghost use Rattle.tree_bundles.specs.Indexes.{AreRight, IsKeptAt, HasNoBundle};
+ghost use Rattle.tree_bundles.specs.Indexes.{AreRight, HasAnswered, IsKeptAt, HasNoBundle};
 ghost use Rattle.tree_bundles.specs.Places.{Leads, IsAlong};
 
 use crate::indexes::{index_at, kept_at};
@@ -120,9 +120,8 @@ fn bundle_on<T: Tree>(
     Ok(None)
 }
 
-/// Where a path leads. What stands there is asked first, so a path that leads to a folder of the tree inside costs one
-/// question.
-pub fn place_of<T: Tree>(
+/// Where a path leads, by what stands there and then by the bundles on the way. So the tree answers in any case.
+fn place_by_stamp<T: Tree>(
     tree: &mut T,
     kept: &mut Seq<Kept>,
     path: &TreePath,
@@ -145,5 +144,57 @@ pub fn place_of<T: Tree>(
     match bundle_on(tree, kept, path)? {
         Some(found) => Ok(Place::Inside(found)),
         None => Ok(Place::Outside(stamp)),
+    }
+}
+
+/// Where a path leads, by the bundles on the way. Only where there are none is it asked what stands at the path.
+fn place_by_bundles<T: Tree>(
+    tree: &mut T,
+    kept: &mut Seq<Kept>,
+    path: &TreePath,
+) -> Result<Place, TreeFault>
+    requires right { AreRight (T.files tree.old) kept.old }
+    ensures right { AreRight (T.files tree.old) kept.new }
+    ensures along { IfOk result (IsAlong path.now) }
+    ensures told { IfOk result (λ place. IfSome (T.files tree.old) (λ f. Leads f kept.new path.now place)) }
+    ensures failed { IsErrOf result TreeFault.Failed → Rose (T.faults tree.old) (T.faults tree.new) }
+    ensures faults_stay { OnOk result (T.faults tree.new ≡ T.faults tree.old) }
+    ensures files_stay { T.files tree.new ≡ T.files tree.old }
+    ensures faults_grow { T.faults tree.old ≤ T.faults tree.new }
+    ensures lists_stay { T.lists tree.new ≡ T.lists tree.old }
+{
+    match bundle_on(tree, kept, path)? {
+        Some(found) => Ok(Place::Inside(found)),
+        None => {
+            let stamp = tree.stamp(path)?;
+            Ok(Place::Outside(stamp))
+        }
+    }
+}
+
+/// Where a path leads. As long as nothing is kept, what stands at the path is asked first. Where something is kept, the
+/// tree has answered before, and a path into a bundle costs one question about the bundle.
+pub fn place_of<T: Tree>(
+    tree: &mut T,
+    kept: &mut Seq<Kept>,
+    path: &TreePath,
+) -> Result<Place, TreeFault>
+    requires right { AreRight (T.files tree.old) kept.old }
+    requires answered { HasAnswered (T.files tree.old) kept.old }
+    ensures right { AreRight (T.files tree.old) kept.new }
+    ensures answered { HasAnswered (T.files tree.old) kept.new }
+    ensures along { IfOk result (IsAlong path.now) }
+    ensures told { IfOk result (λ place. IfSome (T.files tree.old) (λ f. Leads f kept.new path.now place)) }
+    ensures is_tree { IfSome (T.files tree.old) IsTree }
+    ensures failed { IsErrOf result TreeFault.Failed → Rose (T.faults tree.old) (T.faults tree.new) }
+    ensures faults_stay { OnOk result (T.faults tree.new ≡ T.faults tree.old) }
+    ensures files_stay { T.files tree.new ≡ T.files tree.old }
+    ensures faults_grow { T.faults tree.old ≤ T.faults tree.new }
+    ensures lists_stay { T.lists tree.new ≡ T.lists tree.old }
+{
+    if kept.is_empty() {
+        place_by_stamp(tree, kept, path)
+    } else {
+        place_by_bundles(tree, kept, path)
     }
 }

@@ -4,7 +4,7 @@ ghost use Rattle.std.specs.Option.{ForSome};
 ghost use Rattle.tree_files.specs.Count.{Rose, raised};
 ghost use Rattle.tree_files.specs.Files.{IsTree, IsDirAt, IsFileAt, IsListing, IsRead, node_at, stamp_of, bytes_of};
 ghost use Rattle.tree_bundles.specs.Expand.{expand_told};
-ghost use Rattle.tree_bundles.specs.Indexes.{AreRight};
+ghost use Rattle.tree_bundles.specs.Indexes.{AreRight, HasAnswered};
 
 use crate::found::{inner_at, names_at, read_at, stamp_of};
 use crate::kept::Kept;
@@ -24,6 +24,7 @@ pub struct BundleTree<T: Tree> {
     /// How many lists were of folders in bundles, which stops at the greatest u64.
     more: u64,
     ghost right: { AreRight (T.files tree) kept },
+    ghost answered: { HasAnswered (T.files tree) kept },
 }
 
 impl<T: Tree> BundleTree<T> {

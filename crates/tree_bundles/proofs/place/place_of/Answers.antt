@@ -1,11 +1,14 @@
-use Rattle.tree_bundles.proofs.Leading.{dir_leads, none_leads}
+use Rattle.std.proofs.Common.{◌≡◌, ◌∙◌, sym, true, false}
+use Rattle.tree_bundles.proofs.Answered.{keeps_answer, answer_kept, some_kept}
 use Rattle.tree_bundles.proofs.place.place_of.Goals as goal
 
-pub returns-in-Dir-clause-told : goal.returns-in-Dir-clause-told
-returns-in-Dir-clause-told g c =
-    dir_leads (g.T.Tree.files c.args.tree.now) c.args.kept.now c.args.path.now c.in-Dir.field-0 c.in_ok-stamp.stamp c.in_ok-stamp.ensures.is_tree c.in_ok-stamp.ensures.told c.in-Dir.is
+pub returns-then-is_empty-clause-answered : goal.returns-then-is_empty-clause-answered
+returns-then-is_empty-clause-answered g c = keeps_answer (g.T.Tree.files c.args.tree.now) c.place_by_stamp.new.kept c.place_by_stamp.ensures.is_tree
 
-pub returns-in-None-clause-told : goal.returns-in-None-clause-told
-returns-in-None-clause-told g c =
-    none_leads (g.T.Tree.files c.args.tree.now) (g.T.Tree.files c.stamp.new.self) c.bundle_on.new.kept c.args.path.now c.in_ok-stamp.stamp c.in_ok-found.field-0
-    c.in_ok-stamp.ensures.files_stay c.in-None.is c.in_ok-found.ensures.told c.in_ok-stamp.ensures.told
+pub returns-else-is_empty-clause-is_tree : goal.returns-else-is_empty-clause-is_tree
+returns-else-is_empty-clause-is_tree g c =
+    answer_kept (g.T.Tree.files c.args.tree.now) c.args.kept.now c.requires.answered
+    (some_kept c.args.kept.now (λ none. (let bad : true ≡ false = sym (c.is_empty.ensures.1 none) ∙ c.if-is_empty.false in cc bad)))
+
+pub returns-else-is_empty-clause-answered : goal.returns-else-is_empty-clause-answered
+returns-else-is_empty-clause-answered g c = keeps_answer (g.T.Tree.files c.args.tree.now) c.place_by_bundles.new.kept (returns-else-is_empty-clause-is_tree g c)
