@@ -1,8 +1,8 @@
 -- Paths that ascend.
-use Rattle.std.proofs.Common.{◌≡◌, ◌∙◌, refl, sym, ap, subst, ℕ, ◌+◌, ◌-◌, ◌<◌, ◌≤◌, List, [], ◌∷◌, length, get_or, drop, true, false, Bool, not, ◌&&◌, nat_eq, arith}
-use Rattle.std.proofs.lemmas.Bool.{and_from, and_parts, and_left, not-true}
+use Rattle.std.proofs.Common.{◌≡◌, ◌∙◌, refl, sym, ap, subst, ℕ, ◌-◌, ◌≤◌, List, [], ◌∷◌, length, drop, true, false, Bool, not, ◌&&◌, nat_eq, arith}
+use Rattle.std.proofs.lemmas.Bool.{and_from, and_parts, not-true}
 use Rattle.std.proofs.lemmas.Cmp.{nat_list_cmp_total, lists_total}
-use Rattle.std.proofs.lemmas.List.{drop_more, length-drop}
+use Rattle.std.proofs.lemmas.List.{length-drop}
 use Rattle.std.specs.Cmp.Lexicographic.{pointwise, slice_cmp, texts_ties, bytes_decides}
 use Rattle.std.specs.List.{AllByRecursion, starts_with}
 use Rattle.std.specs.Ordering.{is_lt, is_eq, nat_cmp, ordering_then, ordering_reverse}
@@ -84,22 +84,6 @@ pub ascend_found : (es : List Entry) → Ascend es → ascending es ≡ true
 ascend_found [] h = refl
 ascend_found (e ∷ []) h = refl
 ascend_found (e ∷ f ∷ es) h = and_from (is_before e.path f.path) (ascending (f ∷ es)) (before_found e.path f.path h.0.0) (ascend_found (f ∷ es) h.1)
-
--- one neighbour after another
-
-two_more : (es : List Entry) (i : ℕ) (d e : Entry) → 1 ≤ i → i < length es → drop (i - 1) es ≡ get_or es (i - 1) d ∷ get_or es i e ∷ drop (i + 1) es
-two_more es i d e low high =
-    let near : i - 1 < length es = omega arith in
-    let next : i - 1 + 1 ≡ i = omega arith in
-    drop_more es (i - 1) d near ∙ ap (λ n. get_or es (i - 1) d ∷ drop n es) next ∙ ap (λ t. get_or es (i - 1) d ∷ t) (drop_more es i e high)
-
-pub not_ascending : (es : List Entry) (i : ℕ) (d e : Entry) → 1 ≤ i → i < length es → is_before (get_or es (i - 1) d).path (get_or es i e).path ≡ false → ascending (drop (i - 1) es) ≡ false
-not_ascending es i d e low high is = ap ascending (two_more es i d e low high) ∙ and_left _ (ascending (get_or es i e ∷ drop (i + 1) es)) is
-
-pub still_ascending : (es : List Entry) (i : ℕ) (d e : Entry) → 1 ≤ i → i < length es → is_before (get_or es (i - 1) d).path (get_or es i e).path ≡ true → ascending (drop (i - 1) es) ≡ ascending (drop (i + 1 - 1) es)
-still_ascending es i d e low high is =
-    let same : i + 1 - 1 ≡ i = omega arith in
-    ap ascending (two_more es i d e low high) ∙ ap (λ b. b && ascending (get_or es i e ∷ drop (i + 1) es)) is ∙ ap ascending (sym (drop_more es i e high)) ∙ ap (λ n. ascending (drop n es)) (sym same)
 
 short : (es : List Entry) → length es ≤ 1 → ascending es ≡ true
 short [] h = refl

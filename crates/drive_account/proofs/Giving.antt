@@ -4,17 +4,16 @@ use Rattle.machine_events.specs.declared.event.Event.{Event}
 use Rattle.machine_events.specs.declared.event.Event.TheVariants.{End}
 use Rattle.machine_events.specs.declared.event.Outcome.{Outcome}
 use Rattle.machine_events.specs.declared.event.Reply.{Reply}
-use Rattle.machine_shown.specs.Shown.{shown, shown_first}
-use Rattle.machine_shown.specs.Holdings.{Holding}
+use Rattle.machine_shown.specs.Shown.{shown}
 use Rattle.machine_shown.specs.Knowing.{IsShown}
 use Rattle.meaning_runs.specs.Lists.{lists_in}
-use Rattle.meaning_runs.specs.Runs.{gives, gives_up, keeps, Makes, Reaches, spend}
+use Rattle.meaning_runs.specs.Runs.{gives, keeps, Makes}
 use Rattle.meaning_runs.proofs.Stand.{may_give, gives_more, held_more, runs_more}
 use Rattle.drive_port.specs.View.{View, Stays, Gains}
 use Rattle.drive_account.specs.Holds.{holding_of, held_in}
 use Rattle.drive_account.specs.declared.held.Held.{Held}
 use Rattle.drive_account.specs.declared.held.Hold.{Hold}
-use Rattle.drive_account.specs.Ending.{Idle, Gave, RefusedGiving}
+use Rattle.drive_account.specs.Ending.{Idle, Gave}
 
 -- the innermost may be given up
 pub gives_shown : {S : Type 0} (v : View S) (h : Hold) (event : Event) (before after : Held) → event ≡ gives (holding_of h) → Idle v before → held_in before ≡ holding_of h ∷ held_in after
@@ -38,20 +37,6 @@ gave_given first old new h event reply before after is stays gains idle popped g
     let more : new.mine ≡ old.mine ++ (gives (holding_of h), reply) ∷ [] = subst (λ (event : Event). new.mine ≡ old.mine ++ (event, reply) ∷ []) is gains.mine in
     let held : (shown first.number old.mine).held ≡ holding_of h ∷ held_in after = subst (λ (t : ℕ). (shown t old.mine).held ≡ holding_of h ∷ held_in after) stays.number (sym idle.holds ∙ popped) in
     gives_more first.number whole budget (holding_of h) (held_in after) old.mine new.mine of_tree reply held more (gave files whole budget of_tree up)
-
--- where the port refuses the event that gives something up, whatever script was giving up stands at that event
-pub refused_given : {S : Type 0} (first old new : View S) (h : Hold) (event : Event) (before after : Held) → event ≡ gives (holding_of h) → Stays first old
-    → Idle old before → held_in before ≡ holding_of h ∷ held_in after → Gave first.number first.mine old.mine → new.mine ≡ old.mine → new.refuses event → RefusedGiving new first.number first.mine
-refused_given first old new h event before after is stays idle popped gave same refuses =
-    let held : (shown first.number old.mine).held ≡ holding_of h ∷ held_in after = subst (λ (t : ℕ). (shown t old.mine).held ≡ holding_of h ∷ held_in after) stays.number (sym idle.holds ∙ popped) in
-    record {
-      event = event;
-      refuses = refuses;
-      due = λ files whole budget of_tree up. (
-        λ _. gives_up of_tree (held_in after),
-        rw (same, is) (subst (λ (all : List Holding). Reaches files (spend budget (shown_first first.number) whole) 0 old.mine (gives_up of_tree all)) held (gave files whole budget of_tree up)),
-      );
-    }
 
 -- where nothing is held the End may be made
 pub end_idle : {S : Type 0} (v : View S) (held : Held) (outcome : Outcome) (paid : ℕ) → Idle v held → held_in held ≡ [] → IsShown (shown v.number v.mine) (End outcome paid)

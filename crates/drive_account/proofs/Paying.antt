@@ -5,10 +5,10 @@ use Rattle.tree_files.specs.Files.{Files}
 use Rattle.machine_events.specs.declared.event.Event.{Event}
 use Rattle.machine_events.specs.declared.event.Reply.{Reply}
 use Rattle.machine_events.specs.declared.event.Reply.TheVariants as r
-use Rattle.meaning_runs.specs.Runs.{Run, Pays, Stands, IsSpent, GivesUp}
-use Rattle.meaning_runs.proofs.Stand.{stands_paid, spent_gives_up}
+use Rattle.meaning_runs.specs.Runs.{Run, Pays, Stands}
+use Rattle.meaning_runs.proofs.Stand.{stands_paid}
 use Rattle.meaning_runs.specs.Costs.{reply_units, after_reply}
-use Rattle.drive_account.specs.At.{At, MayBeUnread, IsShort, told_of}
+use Rattle.drive_account.specs.At.{At, MayBeUnread, told_of}
 use Rattle.drive_account.specs.declared.purse.Purse.{Purse}
 
 -- each reply but a wait is paid for
@@ -73,9 +73,3 @@ at_paid {files = files} {whole} {fuel} {mine} old new units of_tree next enough 
   stands = subst (λ (b : ℕ). Stands files whole fuel mine b next) (sym left) (stands_paid enough a.stands);
   unread = subst (λ (r : Option ℕ). MayBeUnread files whole fuel mine r) (sym told) (told_unread old.budget units of_tree next enough a.stands);
 }
-
--- a script that stands at a payment that it cannot make is spent, and gives up what it holds
-pub short_gives_up : {files : Option Files} (t : ℕ) {whole : Run} {fuel : ℕ} {mine : List (Event × Reply)} {budget : ℕ} {of_tree : Bool} → IsShort files whole fuel mine budget of_tree → GivesUp files t whole fuel mine of_tree
-short_gives_up {files} t {whole} {fuel} {mine} {budget} {of_tree} s =
-    let spent : IsSpent files whole fuel mine budget = record { of_tree = of_tree; units = s.units; next = s.next; stands = s.stands; short = s.short } in
-    spent_gives_up t spent

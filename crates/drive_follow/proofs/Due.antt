@@ -59,9 +59,6 @@ one_ended a b is = cc is
 ended_spent : (a : Outcome) (b : Bool) → Ended a ≡ Spent b → ⊥
 ended_spent a b is = cc is
 
-one_spent : (a b : Bool) → Spent a ≡ Spent b → a ≡ b
-one_spent a b is = cc is
-
 end_of : (a b : Outcome) (m n : ℕ) → a ≡ b → m ≡ n → e.End a m ≡ e.End b n
 end_of a b m n p q = rw (p, q) refl
 
@@ -90,9 +87,3 @@ only_read fuel budget less o.Normal paid within ends = absurd (ended_spent o.Nor
 only_read fuel budget less (o.Raised error) paid within ends = absurd (ended_spent (o.Raised error) true (sym ends.0))
 only_read fuel budget less o.Fuel paid within ends = absurd (omega (arith, within, less))
 only_read fuel budget less o.Read paid within ends = end_of o.Read o.Read paid budget refl (sym within)
-
-pub none_spent : (fuel budget : ℕ) (of_tree : Bool) → (budget ≡ fuel → ⊥) → (of_tree ≡ true → budget < fuel → ⊥) → NoEnd fuel budget (Spent of_tree)
-none_spent fuel budget of_tree other late o.Normal paid within ends = ended_spent o.Normal of_tree (sym ends.0)
-none_spent fuel budget of_tree other late (o.Raised error) paid within ends = ended_spent (o.Raised error) of_tree (sym ends.0)
-none_spent fuel budget of_tree other late o.Fuel paid within ends = other within
-none_spent fuel budget of_tree other late o.Read paid within ends = late (one_spent of_tree true ends.0) (let less = ends.1 in omega (arith, within, less))

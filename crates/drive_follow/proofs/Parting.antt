@@ -212,30 +212,6 @@ parts_at f t run fuel own at stop safe within fit stops wrong = record {
   ];
 }
 
--- another event than the one that is due, or none
-pub parts_cut : (f : Files) (t : ℕ) (run : Run) (fuel : ℕ) (own : List (Event × Reply)) (at : ℕ) (event : Event) → Safe (shown_first t) run → at ≤ length own → AllFit (take at own)
-    → StopsBy f t run (budget_by fuel own) (take at own) (Cut event) → ((p : Event × Reply) → slice_get own at ≡ Some p → p.0 ≡ event → ⊥) → IsPart f t run fuel own at
-parts_cut f t run fuel own at event safe within fit stops other = parts_at f t run fuel own at (Cut event) safe within fit stops wrong
-  where
-    wrong : IsRightAt f t run fuel own at → ⊥
-    wrong right = elim right.due [
-      | inl cut ↦ other right.pair right.there (one_cut right.pair.0 event (one_stop cut stops))
-      | inr over ↦ cut_came event over.how (one_stop stops over.over)
-    ]
-
--- the run is over, and another event than each End that could be due stands there, or none
-pub parts_over : (f : Files) (t : ℕ) (run : Run) (fuel : ℕ) (own : List (Event × Reply)) (at : ℕ) (how : How) → Safe (shown_first t) run → at ≤ length own → AllFit (take at own)
-    → StopsBy f t run (budget_by fuel own) (take at own) (Came how)
-    → ((p : Event × Reply) (outcome : Outcome) (paid : ℕ) → slice_get own at ≡ Some p → p.0 ≡ e.End outcome paid → budget_by fuel own ≡ budget_of fuel outcome paid → Ends fuel outcome paid how → ⊥)
-    → IsPart f t run fuel own at
-parts_over f t run fuel own at how safe within fit stops other = parts_at f t run fuel own at (Came how) safe within fit stops wrong
-  where
-    wrong : IsRightAt f t run fuel own at → ⊥
-    wrong right = elim right.due [
-      | inl cut ↦ cut_came right.pair.0 how (one_stop cut stops)
-      | inr over ↦ other right.pair over.outcome over.paid right.there over.is over.within (subst (λ (h : How). Ends fuel over.outcome over.paid h) (one_came over.how how (one_stop over.over stops)) over.ends)
-    ]
-
 -- the event that is due stands there, with a reply of no kind for it: the next place parts
 pub parts_behind : (f : Files) (t : ℕ) (run : Run) (fuel : ℕ) (own : List (Event × Reply)) (at : ℕ) (stop : Stop) (p : Event × Reply) → AllFit (take at own) → StopsBy f t run (budget_by fuel own) (take at own) stop
     → slice_get own at ≡ Some p → IsDue f t run fuel (budget_by fuel own) (take at own) p.0 → (Fits p.0 p.1 → ⊥) → IsPart f t run fuel own (at + 1)

@@ -12,9 +12,7 @@ use Rattle.machine_events.specs.declared.event.Reply.{Reply}
 use Rattle.machine_events.specs.declared.event.Reply.TheVariants.{Done}
 use Rattle.machine_events.specs.declared.event.Outcome.{Outcome}
 use Rattle.machine_events.specs.declared.event.Entry.{Entry}
-use Rattle.machine_spec.specs.declared.state.State.{State}
-use Rattle.machine_shown.specs.Own.{own, HasEnded, IsEnd, Ready, IsLone}
-use Rattle.machine_allows.proofs.Grow.{at_some}
+use Rattle.machine_shown.specs.Own.{own, HasEnded, IsEnd}
 use Rattle.machine_book.specs.Bound.{BoundTo}
 use Rattle.machine_desk.specs.Histories.{OnlyOf}
 use Rattle.machine_desk.specs.Outgo.{Outgo, Pieces, Kept}
@@ -24,20 +22,11 @@ use Rattle.meaning_runs.specs.Runs.{Run}
 use Rattle.meaning_runs.specs.Follows.{IsPart}
 use Rattle.meaning_runs.specs.Lists.{ends_in}
 use Rattle.meaning_runs.proofs.Stand.{part, stands_start}
-use Rattle.meaning_solo.specs.Solo.{AreAlone}
 use Rattle.meaning_solo.proofs.Parts.{own_append, own_cons, own_other, ended_front}
 use Rattle.drive_account.specs.declared.end.Ending.{Ending}
 use Rattle.drive_account.specs.Ending.{Ended, in_run, outcome}
 use Rattle.drive_round.specs.Ran.{Pairs, RanOver, Results, Runs}
 use Rattle.drive_rounds.specs.Played.{AllPlayed, none, more, AreShort, NoneBegan, GoesOn}
-
--- ---- whose turn it is
-
-pub ready_at : (s : State) (h : List Entry) (t : ℕ) → AreAlone s → t < length s.rounds → ((u : ℕ) → u < t → HasEnded h u) → Ready s.rounds h t
-ready_at s h t alone low ended = let it = at_some s.rounds t low in record { first = t; round = it.1 ∙ ap Some (alone t it.0 it.1); ended = ended }
-
-pub lone_at : (s : State) (t : ℕ) → AreAlone s → t < length s.rounds → IsLone s.rounds t
-lone_at s t alone low = λ u same. let it = at_some s.rounds t low in let here : t ≡ u = sym (alone t it.0 it.1) ∙ alone u it.0 (same ∙ it.1) in sym here
 
 -- ---- what a thread leaves
 

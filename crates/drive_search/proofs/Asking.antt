@@ -1,10 +1,9 @@
 -- How what was asked of a tree adds up, one thing after another.
-use Rattle.std.proofs.Common.{◌≡◌, ◌≤◌, ℕ, List, Option, refl, ◌∙◌, arith}
+use Rattle.std.proofs.Common.{◌≤◌, ℕ, List, Option, refl, ◌∙◌, arith}
 use Rattle.tree_files.specs.Count.{Rose}
 use Rattle.tree_files.specs.Files.{Files}
 use Rattle.machine_events.specs.declared.event.Event.{Event}
 use Rattle.machine_events.specs.declared.event.Reply.{Reply}
-use Rattle.meaning_runs.specs.Lists.{lists_in}
 use Rattle.drive_search.specs.Asking.{Asked, AllKept}
 
 pub asked_refl : (files : Option Files) (faults : ℕ) → Asked files files faults faults
@@ -18,10 +17,6 @@ kept_refl lists mine = omega arith
 
 pub kept_trans : (lists lists' lists'' : ℕ) (mine mine' mine'' : List (Event × Reply)) → AllKept lists lists' mine mine' → AllKept lists' lists'' mine' mine'' → AllKept lists lists'' mine mine''
 kept_trans lists lists' lists'' mine mine' mine'' a b = omega (arith, a, b)
-
--- where nothing was listed
-pub kept_grown : (lists lists' : ℕ) (mine mine' : List (Event × Reply)) → lists' ≡ lists → lists_in mine ≤ lists_in mine' → AllKept lists lists' mine mine'
-kept_grown lists lists' mine mine' same grew = omega (arith, same, grew)
 
 pub rose_later : (old mid new : ℕ) → old ≤ mid → Rose mid new → Rose old new
 rose_later old mid new grew rose = omega (arith, grew, rose)

@@ -9,10 +9,8 @@ use Rattle.meaning_runs.specs.Costs.{after_reply}
 use Rattle.meaning_runs.specs.Lists.{lists_in}
 use Rattle.meaning_runs.specs.Runs.{Run, Makes, Pays, Safe, keeps}
 use Rattle.meaning_runs.proofs.Spends.{shown-snoc}
-use Rattle.path_finder.specs.Looking.{wants, Suits, CountsLists}
+use Rattle.path_finder.specs.Looking.{wants, CountsLists}
 use Rattle.path_finder.specs.Steps.{Search, Reads, here, stamped_at, listed_at}
-use Rattle.path_finder.specs.declared.look.Stage.{Stage}
-use Rattle.path_finder.specs.declared.look.Stage.TheVariants as stages
 use Rattle.path_finder.specs.declared.words.Found.{Found}
 use Rattle.path_finder.specs.declared.words.LookIn.{LookIn}
 use Rattle.path_finder.specs.declared.words.LookWant.{LookWant}
@@ -74,16 +72,9 @@ pub owed_names : {files : Option Files} {whole : Run} {fuel : ℕ} {mine : List 
     → At files whole fuel mine purse (Pays false units' next) → At files whole fuel mine purse (Pays false units next)
 owed_names units units' next is a = rw is a
 
-pub safe_names : (s : Shown) (units units' : ℕ) (next : Run) → Safe s (Pays false units' next) → Safe s (Pays false units next)
-safe_names s units units' next h = h
-
 -- a step that lists wants that listing kept
 pub counted : (want : LookWant) (old new : ℕ) (mine mine' : List (Event × Reply)) → CountsLists (Ok want) old new → lists_in mine + keeping want ≤ lists_in mine' → AllKept old new mine mine'
 counted (wanted.Pay of_tree) old new mine mine' counts kept = omega (arith, counts, kept)
 counted (wanted.DirGet dir part) old new mine mine' counts kept = omega (arith, counts, kept)
 counted (wanted.DirSet dir listing) old new mine mine' counts kept = omega (arith, counts, kept)
 counted (wanted.Done found) old new mine mine' counts kept = omega (arith, counts, kept)
-
--- a search that was refused stands nowhere
-pub suits_over : (stage : Stage) (f : Files) → stage ≡ stages.Over → Suits stage f
-suits_over stage f is = rw is tt

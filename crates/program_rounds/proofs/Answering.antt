@@ -1,6 +1,6 @@
 -- From what the parts of a call leave to how the call ends.
 use Rattle.std.proofs.Common.{◌≡◌, ◌≤◌, ◌&&◌, ℕ, suc, ◌+◌, Bool, true, false, not, List, [], ◌∷◌, ◌++◌, length, Option, Some, None, refl, sym, ap, subst, ◌∙◌, arith}
-use Rattle.std.specs.Prelude.{◌==◌, IfSome, is_some}
+use Rattle.std.specs.Prelude.{◌==◌, IfSome}
 use Rattle.std.specs.List.{list_all}
 use Rattle.std.proofs.lemmas.Bool.{eqb-true, eqb-false, ne_eqb}
 use Rattle.std.proofs.lemmas.List.{length-append}
@@ -51,9 +51,6 @@ pub names_rounds : (plan : Option Plan) (run : RunPlan) → rounds_plan plan ≡
 names_rounds None run is = absurd (cc is)
 names_rounds (Some (plans.Run it)) run is = if_in it run (in_rounds it) refl is
 names_rounds (Some plan) run is = absurd (cc is)
-
-pub some_file : (run : RunPlan) → in_rounds run ≡ true → run.rounds ≡ None → ⊥
-some_file run is none = let bad : false ≡ true = subst (λ (o : Option Word). is_some o ≡ true) none is in cc bad
 
 -- ---- what a rounds file says
 

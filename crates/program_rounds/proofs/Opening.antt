@@ -2,10 +2,9 @@
 use Rattle.std.proofs.Common.{◌≡◌, ◌<◌, ◌≤◌, ℕ, zero, suc, ◌+◌, List, [], ◌∷◌, ◌++◌, length, take, drop, get_or, Option, Some, None, Err, refl, sym, ap, subst, ◌∙◌, arith}
 use Rattle.std.proofs.lemmas.List.{append-nil, append_assoc, drop_more, take-append-drop}
 use Rattle.tree_files.specs.Files.{Files}
-use Rattle.tree_files.specs.Count.{Rose, raised}
+use Rattle.tree_files.specs.Count.{Rose}
 use Rattle.tree_overlay.specs.Kinds.{IsBelowRoot}
 use Rattle.tree_overlay.specs.Told.{edited_told}
-use Rattle.words_rounds.specs.Grammar.{IsFile}
 use Rattle.words_rounds.specs.Refusing.{IsRefusedAt, Says}
 use Rattle.words_rounds.specs.declared.rounds.Round.{Round}
 use Rattle.words_rounds.specs.declared.rounds.RoundsError.{RoundsError}
@@ -18,7 +17,7 @@ use Rattle.program_run.specs.declared.open.Unopened.{Unopened}
 use Rattle.program_run.specs.declared.open.Unopened.TheVariants as unopened
 use Rattle.program_rounds.specs.Rounds.{AreBelowRoot}
 use Rattle.program_rounds.proofs.Begun.{next_round}
-use Rattle.program_rounds.specs.Opened.{refusal_of, line_refused, HasRounds, HasNoRounds, WantsRounds, files_after, EachRoundOpens, OpensRound, StopsIn}
+use Rattle.program_rounds.specs.Opened.{refusal_of, line_refused, HasNoRounds, WantsRounds, files_after, EachRoundOpens, OpensRound, StopsIn}
 
 -- no edit changes nothing
 pub told_same : (tree : Option Files) → edited_told [] tree ≡ tree
@@ -30,10 +29,6 @@ pub wants_file : (tree : Option Files) (file : Word) (old new : ℕ) (it : Opene
 wants_file tree file old new it text opens is (unopened.Refused line) told = HasNoRounds.unopened it opens (is ∙ told)
 wants_file tree file old new it text opens is unopened.Unread told = absurd told
 wants_file tree file old new it text opens is unopened.NoMemory told = tt
-
--- its bytes spell rounds, or they do not
-pub spelled : (tree : Option Files) (file : Word) (bytes seen : List ℕ) (rounds : List Round) → Opens tree file (opened.Text bytes) → seen ≡ bytes → IsFile rounds seen → HasRounds tree file rounds
-spelled tree file bytes seen rounds opens same is = record { bytes = bytes; opens = opens; spells = subst (λ (b : List ℕ). IsFile rounds b) same is }
 
 pub unspelled : (tree : Option Files) (file : Word) (old new : ℕ) (bytes seen : List ℕ) (e : RoundsError) (line : ℕ) → Opens tree file (opened.Text bytes) → seen ≡ bytes → Says seen (Err e) → e ≡ error.At line → (why : Unopened) → IsLineOf (Some (line_refused file line)) why
     → WantsRounds tree file old new why
@@ -67,12 +62,6 @@ stops_in tree old mid new before behind round texts rounds (unopened.Refused lin
     record { round = round; reached = record { before = before; behind = behind; whole = whole; texts = texts; opened = opens }; refused = stop }
 stops_in tree old mid new before behind round texts rounds unopened.Unread later whole opens stop = let rose = stop.rose in omega (arith, later, rose)
 stops_in tree old mid new before behind round texts rounds unopened.NoMemory later whole opens stop = tt
-
--- of a tree that took in what its fork counted
-pub stops_up : (tree tree' : Option Files) (rounds : List Round) (n old new : ℕ) (why : Unopened) → tree ≡ tree' → new ≡ raised old n → StopsIn tree rounds 0 n why → StopsIn tree' rounds old new why
-stops_up tree tree' rounds n old new (unopened.Refused line) same took stop = subst (λ (t : Option Files). StopsIn t rounds old new (unopened.Refused line)) same stop
-stops_up tree tree' rounds n old new unopened.Unread same took stop = omega (arith, took, stop)
-stops_up tree tree' rounds n old new unopened.NoMemory same took stop = tt
 
 -- ---- at round number i
 

@@ -1,5 +1,5 @@
 -- The steps, at a seat as it stands.
-use Rattle.std.proofs.Common.{◌≡◌, ◌≢◌, ◌⊎◌, ⊎_elim, ℕ, zero, suc, ◌+◌, ◌-◌, ◌<◌, ◌≤◌, List, [], ◌∷◌, ◌++◌, length, get_or, Option, Some, None, append-nil, Bool, true, false, refl, sym, ap, ◌∙◌, subst, inl, arith, append_assoc}
+use Rattle.std.proofs.Common.{◌≡◌, ◌≢◌, ◌⊎◌, ⊎_elim, ℕ, zero, suc, ◌+◌, ◌-◌, ◌<◌, ◌≤◌, List, [], ◌∷◌, ◌++◌, length, get_or, Option, Some, None, append-nil, refl, sym, ap, ◌∙◌, subst, inl, arith, append_assoc}
 use Rattle.std.specs.Prelude.{◌==◌}
 use mathlib.Core.Option as m
 use prog.Atomic.{either}
@@ -16,18 +16,17 @@ use Rattle.machine_shown.specs.Own.{own, Ready as HasTurn}
 use Rattle.machine_shown.specs.Knowing.{Knows}
 use Rattle.machine_book.specs.Bound.{BoundTo}
 use Rattle.machine_desk.specs.Outgo.{Outgo, Pieces, Kept}
-use Rattle.machine_desk.specs.Sight.{Sight, Continues, Gains}
+use Rattle.machine_desk.specs.Sight.{Continues, Gains}
 use Rattle.machine_book.proofs.Histories.{own_snoc, allowed_here}
 use Rattle.machine_desk.proofs.Keeping.{kept_none, kept_next, continues_refl, ready_longer}
 use Rattle.trace_book.specs.declared.view.Base.{Base}
 use Rattle.trace_book.specs.declared.view.View.{View}
 use Rattle.trace_book.specs.declared.view.Phase.TheVariants.{Idle, New}
-use Rattle.trace_book.specs.Views.{Has, Within, AllWithin, Rounded, base_of, outgo_of, first_view, numbers_from, view, holding, idle, joined, new_view, longer, longer_if}
+use Rattle.trace_book.specs.Views.{Has, Within, AllWithin, Rounded, base_of, outgo_of, first_view, numbers_from, view, holding, idle, joined, new_view}
 use Rattle.trace_book.specs.Rule.{Sees, Shelved, Written}
 use Rattle.trace_book.specs.Plays.{Seated, Fills, Takes, Took, Notes, GivesBack, Merges, history_out}
 use Rattle.trace_book.specs.Seats.{Rests, Ready, Busy, MayMake, entry, longer_by, Made, Noted}
 use Rattle.trace_book.specs.Told.{TableId, Told, told, view_in, new_pass, new_passes, seat_sight}
-use Rattle.trace_book.specs.declared.place.Place.{Place}
 use Rattle.trace_book.proofs.Keeps.{takes_turn, notes_entry, gives_back, fills_slot}
 use Rattle.trace_book.proofs.Passes.{merges_in}
 
@@ -42,14 +41,6 @@ round_more o h h' e is round one = record {
   joined = sym (append_assoc o.first round.since (e ∷ [])) ∙ (ap (λ l. l ++ e ∷ []) round.joined ∙ sym is);
   each = within_more o round.since e round.each one;
 }
-
--- the longer of two beginnings is one of them
-longer_round : (o : Base) (xs ys : List Entry) (b : Bool) → Rounded o xs → Rounded o ys → Rounded o (longer_if b xs ys)
-longer_round o xs ys true p q = q
-longer_round o xs ys false p q = p
-
-pub round_longer : (o : Base) (xs ys : List Entry) → Rounded o xs → Rounded o ys → Rounded o (longer xs ys)
-round_longer o xs ys p q = longer_round o xs ys _ p q
 
 module _ {O : Type 0} (piece : Pieces) (out : O → Outgo) where
   abbrev At : Base → ℕ → ℕ → Seated O → ℕ → (ℕ → ℕ) → (ℕ → Seated O → Type 0) → Type 0
@@ -250,10 +241,6 @@ module _ {O : Type 0} (piece : Pieces) (out : O → Outgo) where
   pub looked_from : (z : TableId) (me took_me after : Seated O) (t : ℕ) → Ready me t → Took piece out me took_me
       → after ≡ (idle took_me.0 (history_out took_me.1), []) → Ready after t × Continues (seat_sight z t me.0) (seat_sight z t after.0) × (own t after.0.seen ≡ own t me.0.seen)
   looked_from z me took_me after t ready took gave = looked z me.0 took_me after t took.0 ready.0 took.1 took.2 took.3 gave
-
--- an event after more was seen
-pub gains_on : (a b c : Sight Place) (e : Event) (r : Reply) → b.mine ≡ a.mine → Gains b c e r → Gains a c e r
-gains_on a b c e r same gains = record { legal = gains.legal; entry = gains.entry; mine = gains.mine ∙ ap (λ l. l ++ (e, r) ∷ []) same; fits = gains.fits }
 
 pub numbers_above : (i k n : ℕ) → Has i (numbers_from k n) → k ≤ i
 numbers_above i k zero has = absurd has

@@ -37,10 +37,6 @@ first_by_line l w m v less = or_left (nat_lt l m) (l == m && nat_le (rank w) (ra
 first_by_cause : (l : ℕ) (w : Why) (m : ℕ) (v : Why) → l ≡ m → rank w ≤ rank v → is_first l w m v ≡ true
 first_by_cause l w m v same less = or_right (nat_lt l m) (l == m && nat_le (rank w) (rank v)) (and_from (l == m) (nat_le (rank w) (rank v)) (eq-eqb l m same) (le-leb (rank w) (rank v) less))
 
-first_from : (l : ℕ) (w : Why) (m : ℕ) (v : Why) → Before l w m v → is_first l w m v ≡ true
-first_from l w m v (inl less) = first_by_line l w m v less
-first_from l w m v (inr same) = first_by_cause l w m v same.0 same.1
-
 first_next : (l : ℕ) (w : Why) (m : ℕ) (v : Why) (n : ℕ) (u : Why) → is_first l w m v ≡ true → is_first m v n u ≡ true → is_first l w n u ≡ true
 first_next l w m v n u a b = elim (before l w m v a) [
   | inl less ↦ elim (before m v n u b) [

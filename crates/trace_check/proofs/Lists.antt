@@ -1,17 +1,13 @@
 -- Histories up to a place, and how many entries of a thread stand before it.
-use Rattle.std.proofs.Common.{◌≡◌, ◌<◌, ◌≤◌, ℕ, zero, suc, ◌+◌, List, [], ◌∷◌, ◌++◌, Bool, true, cond, Some, take, length, refl, sym, ap, subst, ◌∙◌, arith, ◌⊎◌, inl, inr}
+use Rattle.std.proofs.Common.{◌≡◌, ◌<◌, ◌≤◌, ℕ, zero, suc, ◌+◌, List, [], ◌∷◌, Bool, true, cond, Some, take, length, refl, sym, ap, subst, ◌∙◌, arith, ◌⊎◌, inl, inr}
 use Rattle.std.specs.Prelude.{slice_get, filter, ◌==◌}
 use Rattle.std.proofs.lemmas.Bool.{cases_lt, cases_eq, eq-eqb, ne_eqb}
-use Rattle.std.proofs.lemmas.List.{take_more, take-take, length-map}
+use Rattle.std.proofs.lemmas.List.{take-take, length-map}
 use Rattle.std.proofs.lemmas.List.Sums.{count_by_more_yes, sum_by-take-le, sum_by-cons, length-filter}
 use Rattle.std.proofs.lemmas.Option.{slice_get_within, get_or_from_slice_get}
 use Rattle.machine_events.specs.declared.event.Entry.{Entry}
 use Rattle.machine_shown.specs.Own.{own}
 use Rattle.trace_check.specs.Judge.{made, IsPlaceOf}
-
--- a history up to one place more
-pub take_there : (h : List Entry) (i : ℕ) (e : Entry) → slice_get h i ≡ Some e → take (i + 1) h ≡ take i h ++ e ∷ []
-take_there h i e there = take_more h i e (slice_get_within h i e there) ∙ ap (λ (x : Entry). take i h ++ x ∷ []) (get_or_from_slice_get h i e e there)
 
 -- what stands before a place stands in the history up to it
 pub slice_get_take : (h : List Entry) (n i : ℕ) → i < n → slice_get (take n h) i ≡ slice_get h i

@@ -30,9 +30,6 @@ pub record IsUpTo (first s : State) (h : List Entry) (at : ℕ) : Type 0 where
   pub legal : IsLegal first (take at h)
   pub state : s ≡ replay first (take at h)
 
-pub up_to_first : (s : State) (h : List Entry) → IsUpTo s s h 0
-up_to_first s h = record { legal = tt; state = refl }
-
 -- one more entry that is as the machine says
 pub up_to_more : (first s s' : State) (h : List Entry) (i : ℕ) (e : Entry) → IsUpTo first s h i → i < length h → e ≡ get_or h i e
     → Allowed s e.thread e.event → e.reply ≡ (step s e.thread e.event).0 → s' ≡ (step s e.thread e.event).1 → IsUpTo first s' h (i + 1)

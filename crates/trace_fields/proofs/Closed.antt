@@ -25,9 +25,6 @@ is_separator c (scan.Outside (suc n)) b h = cc
 is_separator c (scan.Quoted n) b h = cc
 is_separator c (scan.Escaped n) b h = cc
 
-joined_front : (c b : ℕ) (x : List ℕ) (xs : List (List ℕ)) → joined c (with_front (b ∷ []) (x ∷ xs)) ≡ b ∷ joined c (x ∷ xs)
-joined_front c b x xs = refl
-
 pub split_joins : (c : ℕ) (s : Scan) (text : List ℕ) → joined c (split_from c s text) ≡ text
 split_joins c s [] = refl
 split_joins c s (b ∷ rest) = elim (cases_Bool (separates c s b)) [

@@ -1,7 +1,7 @@
 -- A text piece by piece.
 use Rattle.std.proofs.Common.{◌≡◌, ◌∙◌, refl, sym, ap, ℕ, zero, suc, ◌+◌, ◌-◌, ◌<◌, ◌≤◌, List, [], ◌∷◌, ◌++◌, append_assoc, length, get_or, take, drop, Bool, true, false, ◌==◌, ◌||◌, arith, inl, inr, if◌then◌else◌}
 use Rattle.std.proofs.lemmas.Bool.{cases_Bool, cond-true, cond-false}
-use Rattle.std.proofs.lemmas.List.{append-nil, drop_more, take_more, get_or-drop, length-drop, drop_all, take_all}
+use Rattle.std.proofs.lemmas.List.{append-nil, drop_more, take_more, get_or-drop, length-drop}
 use Rattle.trace_fields.specs.declared.pieces.Scan.{Scan}
 use Rattle.trace_fields.specs.declared.pieces.Scan.TheVariants as scan
 use Rattle.trace_fields.specs.Splitting.{next_outside, next_quoted, next, depth, separates, with_front, split_from}
@@ -58,13 +58,6 @@ goes_on c s text from i done low high stays =
     ap (λ r. done ++ with_front (piece from i text) r) cut
     ∙ ap (λ r. done ++ r) (front_front (piece from i text) (b ∷ []) rest)
     ∙ ap (λ p. done ++ with_front p rest) (sym (piece_more from i text low high))
-
-pub at_end : (c : ℕ) (s : Scan) (text : List ℕ) (from i : ℕ) (done : List (List ℕ)) → from ≤ i → length text ≤ i → i ≤ length text →
-    done ++ with_front (piece from i text) (split_from c s (drop i text)) ≡ done ++ drop from text ∷ []
-at_end c s text from i done low high top =
-    let all : length (drop from text) ≤ i - from = omega (arith, length-drop from text) in
-    ap (λ t. done ++ with_front (piece from i text) (split_from c s t)) (drop_all i text high)
-    ∙ ap (λ p. done ++ p ∷ []) (append-nil (piece from i text) ∙ take_all (i - from) (drop from text) all)
 
 at_most : (b : Bool) (s t : Scan) (n : ℕ) → depth s ≤ n + 1 → depth t ≤ n + 1 → depth (if b then s else t) ≤ n + 1
 at_most true s t n f g = f

@@ -1,6 +1,6 @@
 -- Items one after the other.
-use Rattle.std.proofs.Common.{◌≡◌, ◌∙◌, refl, sym, ap, ℕ, ◌+◌, ◌<◌, ◌≤◌, List, [], ◌∷◌, ◌++◌, append_assoc, length, get_or, drop, map, Bor, Option, Some, None, arith}
-use Rattle.std.proofs.lemmas.List.{drop_more, drop_all, get_or-map, length-map, append-nil}
+use Rattle.std.proofs.Common.{◌≡◌, ◌∙◌, refl, sym, ap, ℕ, ◌+◌, ◌<◌, List, [], ◌∷◌, ◌++◌, append_assoc, length, get_or, drop, map, Bor, Option, Some, None, arith}
+use Rattle.std.proofs.lemmas.List.{drop_more, get_or-map, length-map}
 use Rattle.std.specs.Option.{option_map, option_and_then}
 use Rattle.trace_fields.specs.Splitting.{views}
 use Rattle.trace_fields.specs.Parts.{each}
@@ -9,10 +9,6 @@ use Rattle.trace_fields.specs.Parts.{each}
 abbrev pub with_items : {X : Type 0} → List X → Option (List X) → Option (List X)
 with_items done None = None
 with_items done (Some xs) = Some (done ++ xs)
-
-pub no_items : {X : Type 0} (o : Option (List X)) → with_items [] o ≡ o
-no_items None = refl
-no_items (Some xs) = refl
 
 one_more : {X : Type 0} (done : List X) (x : X) (o : Option (List X)) → with_items done (option_map (λ xs. x ∷ xs) o) ≡ with_items (done ++ x ∷ []) o
 one_more done x None = refl
@@ -37,8 +33,3 @@ stops read done i pieces default low is =
     let rest = each read (drop (i + 1) (views pieces)) in
     ap (λ ps. with_items done (each read ps)) (cut pieces i default low)
     ∙ ap (λ o. with_items done (option_and_then (λ y. option_map (λ ys. y ∷ ys) rest) o)) is
-
-pub at_end : {X : Type 0} (read : List ℕ → Option X) (done : List X) (i : ℕ) (pieces : List (Bor (List ℕ))) → length pieces ≤ i → with_items done (each read (drop i (views pieces))) ≡ Some done
-at_end read done i pieces high =
-    let all : length (views pieces) ≤ i = rw (length-map pieces (λ (x : Bor (List ℕ)). x.now)) high in
-    ap (λ ps. with_items done (each read ps)) (drop_all i (views pieces) all) ∙ ap Some (append-nil done)

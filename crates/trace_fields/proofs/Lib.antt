@@ -3,7 +3,6 @@ pub mod Closed
 pub mod Names
 pub mod Quoting
 pub mod Items
-pub mod ValuePieces
 pub mod Whole
 pub mod Signs
 pub mod Paths

@@ -43,9 +43,6 @@ arrow_told (field ∷ fields) rest h =
     let is : field ≡ codes "->" = (bytes_eq-Decides field (codes "->")).0 g.0 in
     (λ k. is k ∷ g.1 k)
 
-abbrev done_reply : Reply → Result Reply Cause
-done_reply x = Ok x
-
 last_told : (made : Reply) (rest : Fields) (reply : Reply) → last_reply made rest ≡ Ok reply → (rest ≡ []) × (made ≡ reply)
 last_told made [] reply h = (refl, ok_is made reply h)
 last_told made (field ∷ fields) reply h = cc

@@ -1,20 +1,16 @@
 -- Line by line.
 use Rattle.std.proofs.Common.{◌≡◌, ◌∙◌, refl, sym, ap, ℕ, suc, ◌+◌, ◌-◌, ◌<◌, ◌≤◌, List, [], ◌∷◌, ◌++◌, append_assoc, length, get_or, take, drop, Bor, Bool, Ok, Err, arith}
-use Rattle.std.proofs.lemmas.List.{drop_more, drop_all, take_more, take_all, map_push, get_or-map, length-map}
+use Rattle.std.proofs.lemmas.List.{drop_more, take_more, take_all, map_push, get_or-map, length-map}
 use Rattle.machine_events.specs.declared.event.Entry.{Entry}
 use Rattle.trace_fields.specs.declared.refusal.Cause.{Cause}
 use Rattle.trace_fields.specs.Splitting.{views}
 use Rattle.trace_entries.specs.Entries.{entry_in}
-use Rattle.trace_read.specs.Reading.{Read, behind, with_entry, last, entries_in, format_in, opened, lines_in}
+use Rattle.trace_read.specs.Reading.{Read, behind, with_entry, entries_in, format_in, opened, lines_in}
 
 -- the entries so far, and what is still read
 abbrev pub with_front : List Entry → Read (List Entry) → Read (List Entry)
 with_front front (Ok entries) = Ok (front ++ entries)
 with_front front (Err why) = Err why
-
-pub no_front : (read : Read (List Entry)) → with_front [] read ≡ read
-no_front (Ok entries) = refl
-no_front (Err why) = refl
 
 one_more : (front : List Entry) (entry : Entry) (read : Read (List Entry)) → with_front front (behind entry read) ≡ with_front (front ++ entry ∷ []) read
 one_more front entry (Ok entries) = ap Ok (sym (append_assoc front (entry ∷ []) entries))
@@ -44,11 +40,6 @@ pub stops : (old : Bool) (front : List Entry) (at i : ℕ) (why : Cause) (lines 
     with_front front (entries_in old at (drop i (views lines) ++ rest ∷ [])) ≡ Err (at, why)
 stops old front at i why lines rest default low is =
     ap (with_front front) (goes_on old at i lines rest default low ∙ ap (λ e. with_entry at e (entries_in old (at + 1) (drop (i + 1) (views lines) ++ rest ∷ []))) is)
-
-pub at_end : (old : Bool) (front : List Entry) (at i : ℕ) (lines : List (Bor (List ℕ))) (rest : List ℕ) → length lines ≤ i → with_front front (entries_in old at (drop i (views lines) ++ rest ∷ [])) ≡ with_front front (last at rest)
-at_end old front at i lines rest high =
-    let all : length (views lines) ≤ i = rw (length-map lines (λ (x : Bor (List ℕ)). x.now)) high in
-    ap (λ ls. with_front front (entries_in old at (ls ++ rest ∷ []))) (drop_all i (views lines) all)
 
 -- ---- the first line, those behind it, and what stands behind the last line end
 

@@ -88,10 +88,6 @@ expand-find f p = get-from_entries path_total (flat_map expanded (entries f)) p
 
 -- ---- paths in front of one another
 
-record Front (above path : Path) : Type 0 where
-  rest : Path
-  is : path ≡ above ++ rest
-
 abbrev Below : Path → Path → Type 0
 Below above path = (x : List ℕ) × (rest : Path) × (path ≡ above ++ x ∷ rest)
 
@@ -114,10 +110,6 @@ in_front (y ∷ a) (x ∷ q) r e =
       | inl b ↦ inl (b.0, b.1, ap (λ t. t ∷ q) (sym same) ∙ ap (λ t. y ∷ t) b.2)
       | inr b ↦ inr (b.0, ap (λ t. t ∷ a) same ∙ ap (λ t. x ∷ t) b.1)
     ]
-
-pub front_within : (q r : Path) → is_within q (q ++ r) ≡ true
-front_within [] r = refl
-front_within (x ∷ q) r = ap (λ b. b && is_within q (q ++ r)) ((bytes_decides x x).1 refl) ∙ front_within q r
 
 -- whatever something stands below is a directory
 pub above_is_dir : (f : Files) → IsTree f → (q : Path) (x : List ℕ) (rest : Path) → is_some (node_at f (q ++ x ∷ rest)) ≡ true → IsDirAt f q

@@ -1,14 +1,10 @@
 -- Reading the front of a file in pieces.
-use Rattle.std.proofs.Common.{◌≡◌, ◌∙◌, refl, sym, ap, ℕ, ◌+◌, ◌-◌, ◌≤◌, ◌<◌, List, ◌++◌, length, take, drop, min, Option, Some, None, IfSome, IsTrue, arith, length-take, length-drop, length-append}
+use Rattle.std.proofs.Common.{◌≡◌, ◌∙◌, sym, ap, ℕ, ◌+◌, ◌-◌, ◌≤◌, ◌<◌, List, ◌++◌, length, take, drop, min, Option, Some, None, IfSome, arith, length-take, length-drop, length-append}
 use Rattle.std.proofs.lemmas.List.{take_all, take_min, take-append-le}
 use Rattle.std.proofs.Math.Seq.{take-add, take-append_seam, drop-append_seam}
-use Rattle.std.specs.Option.{ForSome}
 use Rattle.base_types.specs.Path.{Path}
-use Rattle.tree_files.specs.Files.{Files, IsFileAt, IsRead, is_file, node_at, bytes_of, stamp_of}
+use Rattle.tree_files.specs.Files.{Files, IsRead, node_at, bytes_of}
 use Rattle.tree_files.specs.Reading.{IsRead-next}
-use Rattle.tree_files.specs.declared.tree.Node.{Node}
-use Rattle.tree_files.specs.declared.tree.Node.TheVariants.{File, Dir}
-use Rattle.tree_files.specs.declared.tree.Stamp.TheVariants as stamp
 use Rattle.bundle_hook.specs.declared.bundle.Index.{Index}
 use Rattle.bundle_hook.specs.Spelling.{most_front}
 use Rattle.bundle_hook.specs.Bundle.{Reads}
@@ -43,22 +39,3 @@ pub index_told : (told : Option Files) (p : Path) (front : List ℕ) (size : ℕ
     → IfSome told (λ f. length (bytes_of (node_at f p)) ≡ size → o ≡ index_in (bytes_of (node_at f p)))
 index_told None p front size o read reads = tt
 index_told (Some f) p front size o read reads = λ all. index_is (bytes_of (node_at f p)) front size o (read all, sym all) reads
-
--- a file of which so many bytes are not there
-pub no_index_told : (told : Option Files) (p : Path) (size : ℕ) → IfSome told (λ f. length (bytes_of (node_at f p)) ≡ size → ⊥) → IfSome told (λ f. length (bytes_of (node_at f p)) ≡ size → None ≡ index_in (bytes_of (node_at f p)))
-no_index_told None p size short = tt
-no_index_told (Some f) p size short = λ all. absurd (short all)
-
--- what has a file's stamp is a file
-file_stamp : (n : Option Node) (size : ℕ) → stamp_of n ≡ stamp.File size → IsTrue (is_file n) × (length (bytes_of n) ≡ size)
-file_stamp None size e = cc
-file_stamp (Some (File bytes)) size e = (refl, cc)
-file_stamp (Some (Dir time)) size e = cc
-
-pub is_file_told : (told : Option Files) (p : Path) (size : ℕ) → ForSome told (λ f. stamp_of (node_at f p) ≡ stamp.File size) → ForSome told (λ f. IsFileAt f p)
-is_file_told told p size h f is = (file_stamp (node_at f p) size (h f is)).0
-
-pub size_told : (told : Option Files) (p : Path) (size : ℕ) (o : Option Index) → ForSome told (λ f. stamp_of (node_at f p) ≡ stamp.File size) → IfSome told (λ f. length (bytes_of (node_at f p)) ≡ size → o ≡ index_in (bytes_of (node_at f p)))
-    → IfSome told (λ f. o ≡ index_in (bytes_of (node_at f p)))
-size_told None p size o h read = tt
-size_told (Some f) p size o h read = read (file_stamp (node_at f p) size (h f refl)).1

@@ -1,6 +1,5 @@
 -- Where a path leads, in told files.
-use Rattle.std.proofs.Common.{◌≡◌, ◌∙◌, refl, sym, ap, subst, ℕ, ◌+◌, ◌-◌, ◌≤◌, ◌<◌, zero, suc, List, [], ◌∷◌, ◌++◌, length, take, get_or, Bool, true, false, Option, Some, None, IfSome, MatchOption, is_some, arith, ltb, if◌then◌else◌, length-take, length-append}
-use Rattle.std.proofs.lemmas.Bool.{ltb-true, ltb-false}
+use Rattle.std.proofs.Common.{◌≡◌, ◌∙◌, refl, sym, ap, subst, ℕ, ◌+◌, ◌-◌, ◌≤◌, ◌<◌, zero, suc, List, [], ◌∷◌, ◌++◌, length, take, get_or, true, false, Option, Some, None, IfSome, MatchOption, is_some, arith, if◌then◌else◌, length-take, length-append}
 use Rattle.std.proofs.Math.Seq.{take-append_seam}
 use Rattle.base_types.specs.Path.{Path}
 use Rattle.tree_files.specs.Files.{Files, IsTree, is_dir, node_at, stamp_of}
@@ -33,12 +32,6 @@ named_by_last (x ∷ y ∷ path) (suc n) d low =
 
     some : (m : ℕ) → 0 < length (take (m + 1) (y ∷ path))
     some m = let l = length-take (m + 1) (y ∷ path) in omega (arith, l)
-
--- what is no file is no bundle
-pub no_file_no_bundle : (q : Path) (n : Option Node) → ((size : ℕ) → stamp_of n ≡ stamp.File size → ⊥) → bundle_in q n ≡ None
-no_file_no_bundle q None h = refl
-no_file_no_bundle q (Some (Dir time)) h = refl
-no_file_no_bundle q (Some (File bytes)) h = absurd (h (length bytes) refl)
 
 pub no_name_no_bundle : (q : Path) (n : Option Node) → names_bundle q ≡ false → bundle_in q n ≡ None
 no_name_no_bundle q None h = refl
@@ -92,27 +85,6 @@ named_by_part path (suc n) d low high =
 pub no_name_told : (told : Option Files) (path : Path) (parts : ℕ) → names_bundle (take parts path) ≡ false → IfSome told (λ f. bundle_at f (take parts path) ≡ None)
 no_name_told None path parts no_name = tt
 no_name_told (Some f) path parts no_name = no_name_no_bundle (take parts path) (node_at f (take parts path)) no_name
-
--- the root has no name, so it is no bundle
-pub root_none : (told : Option Files) (path : Path) → IfSome told (λ f. HasNoBundle f path 1)
-root_none None path = tt
-root_none (Some f) path = λ m low. at_root m low
-  where
-    at_root : (m : ℕ) → m < 1 → bundle_at f (take m path) ≡ None
-    at_root zero low = no_name_no_bundle [] (node_at f []) refl
-    at_root (suc m) low = absurd (omega arith)
-
--- one more of the first parts
-pub one_more : (told : Option Files) (path : Path) (n : ℕ) → IfSome told (λ f. HasNoBundle f path (n + 1)) → IfSome told (λ f. bundle_at f (take (n + 1) path) ≡ None) → IfSome told (λ f. HasNoBundle f path (n + 1 + 1))
-one_more None path n before here = tt
-one_more (Some f) path n before here = λ m low. by m low (ltb m (n + 1)) refl
-  where
-    by : (m : ℕ) → m < n + 1 + 1 → (b : Bool) → ltb m (n + 1) ≡ b → bundle_at f (take m path) ≡ None
-    by m low true is = before m (ltb-true m (n + 1) is)
-    by m low false is =
-        let high = ltb-false m (n + 1) is in
-        let same : n + 1 ≡ m = omega (arith, low, high) in
-        ap (λ k. bundle_at f (take k path)) (sym same) ∙ here
 
 -- what is asked of the path itself leads past all bundles where it is a directory
 pub dir_leads : (told : Option Files) (kept : List Kept) (p : Path) (time : ℕ) (s : Stamp) → IfSome told IsTree → IfSome told (λ f. s ≡ stamp_of (node_at f p)) → s ≡ stamp.Dir time → IfSome told (λ f. Leads f kept p (Outside s))

@@ -24,10 +24,6 @@ abbrev pub or_else : Option Node → Option Node → Option Node
 or_else None o = o
 or_else (Some x) o = Some x
 
-or_none : (o : Option Node) → or_else o None ≡ o
-or_none None = refl
-or_none (Some x) = refl
-
 step : (b : Bool) (x : Node) (o p : Option Node) → cond b (Some x) (or_else o p) ≡ or_else (cond b (Some x) o) p
 step true x o p = refl
 step false x o p = refl

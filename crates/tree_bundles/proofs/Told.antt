@@ -74,10 +74,6 @@ pub stamp_inside_told : (told : Option Files) (kept : List Kept) (found : Found)
 stamp_inside_told None kept found p s t leads is = tt
 stamp_inside_told (Some f) kept found p s t leads is = is ∙ stamp_here f t kept found p leads
 
-pub stamp_outside_told : (told : Option Files) (kept : List Kept) (p : Path) (s : Stamp) → IfSome told (λ f. Leads f kept p (Outside s)) → IfSome (expand_told told) (λ g. s ≡ stamp_of (node_at g p))
-stamp_outside_told None kept p s leads = tt
-stamp_outside_told (Some f) kept p s leads = leads.1 ∙ ap stamp_of (sym leads.0)
-
 -- ---- names in a bundle
 
 names_by : (s w rest : Bool) (file : Packed) (n : Option Node) → (s ≡ true → w ≡ true) → rest ≡ is_some n → w || rest ≡ is_some (if s then Some (File file.bytes) else (if w then Some (Dir 0) else n))

@@ -195,10 +195,6 @@ behind_of : (p : Path) (es : Things) → T (below_all path_cmp p es) → Behind 
 behind_of p [] h = tt
 behind_of p (e ∷ es) h = let two = both _ _ h in (less _ two.0, behind_of p es two.1)
 
-behind_more : (p q : Path) (es : Things) → path_cmp p q ≡ Less → Behind q es → Behind p es
-behind_more p q [] low h = tt
-behind_more p q (e ∷ es) low h = (path_total.trans p q e.0 low h.0, behind_more p q es low h.1)
-
 module _ {X : Type 0} (tell : Path × Node → List X) (q : Path) where
   abbrev told : Path × Node → List X
   told e = if is_within q e.0 then tell e else []

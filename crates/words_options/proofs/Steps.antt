@@ -29,10 +29,6 @@ pub fails_first : (a b : Kinds) → Fails a → Fails (or_else a b)
 fails_first [] b h = elim h [ ]
 fails_first (k ∷ ks) b h = tt
 
-pub fails_then : (a b : Kinds) → Fails b → Fails (or_else a b)
-fails_then [] b h = h
-fails_then (k ∷ ks) b h = tt
-
 -- ---- where a walk stands
 
 abbrev pub hold : List Row → Option (Text × List Text) → Held

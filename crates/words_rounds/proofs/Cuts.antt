@@ -3,7 +3,7 @@ use Rattle.std.proofs.Common.{◌≡◌, ◌∙◌, refl, sym, ap, subst, ℕ, z
 use Rattle.std.proofs.Math.Seq.{drop-append_seam, take-append_seam}
 use Rattle.std.proofs.lemmas.Bool.{and_from, and_parts, cond-true, not-true, lt-ltb, ltb-true, eqb-true}
 use Rattle.std.proofs.lemmas.List.{take-append-drop}
-use Rattle.std.proofs.lemmas.List.Splits.{slice_split_at, slice_split_none}
+use Rattle.std.proofs.lemmas.List.Splits.{slice_split_at}
 use Rattle.std.proofs.lemmas.Slice.Eq.{bytes_eq-Decides}
 use Rattle.std.specs.List.{list_all, onto_first, position_or_len}
 use Rattle.std.specs.Option.{option_map}
@@ -83,12 +83,6 @@ blank_before text name rest h is = parted name (subst (λ t. in_line t ≡ true)
         let more = parted name both.1 in
         (and_from (not (eqb b 10)) (in_line name) both.0 more.0, more.1)
 
-pub in_line_both : (a b : List ℕ) → in_line a ≡ true → in_line b ≡ true → in_line (a ++ b) ≡ true
-in_line_both [] b h k = k
-in_line_both (x ∷ a) b h k =
-    let both = and_parts (not (eqb x 10)) (in_line a) h in
-    and_from (not (eqb x 10)) (in_line (a ++ b)) both.0 (in_line_both a b both.1 k)
-
 -- pieces between line ends
 not_end : (line : List ℕ) → in_line line ≡ true → All (λ b. eqb b 10 ≡ false) line
 not_end [] h k d low = absurd (omega arith)
@@ -97,9 +91,6 @@ not_end (b ∷ line) h (suc k) d low = not_end line (and_parts (not (eqb b 10)) 
 
 pub pieces_line : (line rest : List ℕ) → in_line line ≡ true → pieces (line ++ 10 ∷ rest) ≡ line ∷ pieces rest
 pieces_line line rest h = slice_split_at (λ b. eqb b 10) line 10 rest (not_end line h) refl
-
-pub pieces_none : (line : List ℕ) → in_line line ≡ true → pieces line ≡ line ∷ []
-pieces_none line h = slice_split_none (λ b. eqb b 10) line (not_end line h)
 
 onto_clean : (b : ℕ) (parts : List (List ℕ)) → not (eqb b 10) ≡ true → list_all in_line parts ≡ true → list_all in_line (onto_first b parts) ≡ true
 onto_clean b [] h all = and_from (in_line (b ∷ [])) true (and_from (not (eqb b 10)) true h refl) refl

@@ -1,5 +1,4 @@
 mod Places
-mod Fronts
 mod Steps
 mod Cuts
 mod Sayings

@@ -60,9 +60,6 @@ read_is text (Some (x ∷ path)) h = elim h.1 [
   | inr e ↦ let bad = e.0 in cc
 ]
 
-pub without_parts : (path : Path) → path ≡ [] → None ≡ with_parts path
-without_parts path h = subst (λ p. None ≡ with_parts p) (sym h) refl
-
 pub has_parts : (path : Path) → ¬ (path ≡ []) → Some path ≡ with_parts path
 has_parts [] h = absurd (h refl)
 has_parts (part ∷ path) h = refl

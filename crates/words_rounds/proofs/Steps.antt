@@ -1,12 +1,11 @@
 -- Line by line.
-use Rattle.std.proofs.Common.{◌≡◌, ◌∙◌, refl, ap, ℕ, ◌+◌, ◌<◌, ◌≤◌, List, [], ◌∷◌, ◌++◌, length, get_or, drop, map, Bor, Some, None, Result, Err, sym}
-use Rattle.std.proofs.lemmas.List.{drop_more, drop_all, get_or-map, length-map}
-use Rattle.std.specs.Option.{ok_or}
+use Rattle.std.proofs.Common.{◌≡◌, ◌∙◌, refl, ap, ℕ, ◌+◌, ◌<◌, List, [], ◌∷◌, ◌++◌, length, get_or, drop, map, Bor, Some, None, Result, Err, sym}
+use Rattle.std.proofs.lemmas.List.{drop_more, get_or-map, length-map}
 use Rattle.words_rounds.specs.declared.draft.Draft.{Draft}
 use Rattle.words_rounds.specs.declared.rounds.Round.{Round}
 use Rattle.words_rounds.specs.declared.rounds.RoundsError.{RoundsError}
 use Rattle.words_rounds.specs.declared.rounds.RoundsError.TheVariants as error
-use Rattle.words_rounds.specs.Reading.{next, goes, ends, read_on, Reads, Tells}
+use Rattle.words_rounds.specs.Reading.{next, goes, read_on, Reads, Tells}
 
 step_on : (at : ℕ) (d : Draft) (line rest : List ℕ) (lines : List (List ℕ)) → read_on at d (line ∷ (lines ++ rest ∷ [])) ≡ goes (next line d) at (λ e. read_on (at + 1) e (lines ++ rest ∷ []))
 step_on at d line rest [] = refl
@@ -34,11 +33,6 @@ pub stops : (at i : ℕ) (d : Draft) (lines : List (Bor (List ℕ))) (rest : Lis
     read_on at d (drop i (texts lines) ++ rest ∷ []) ≡ Err at
 stops at i d lines rest default low is =
     goes_on at i d lines rest default low ∙ ap (λ o. goes o at (λ f. read_on (at + 1) f (drop (i + 1) (texts lines) ++ rest ∷ []))) is
-
-pub at_end : (at i : ℕ) (d : Draft) (lines : List (Bor (List ℕ))) (rest : List ℕ) → length lines ≤ i → read_on at d (drop i (texts lines) ++ rest ∷ []) ≡ ok_or (ends rest d) at
-at_end at i d lines rest high =
-    let all : length (texts lines) ≤ i = rw (length-map lines (λ (x : Bor (List ℕ)). x.now)) high in
-    ap (λ ls. read_on at d (ls ++ rest ∷ [])) (drop_all i (texts lines) all)
 
 -- what is told of the first line at which no rounds file goes on
 pub told : (expected : Result (List Round) ℕ) (n : ℕ) (e : RoundsError) → expected ≡ Err n → Tells n e → Reads expected (Err e)
