@@ -7,8 +7,9 @@ Makes trees of packages, each with 50 files of 40 lines: five import statements,
 them. The largest has 10,000 files in 200 folders. Reports each tree, finds its modules with `modulefinder`, and makes the bare
 calls that a report cannot do without: each folder is listed, each file is looked at, opened and read. All times are those of
 the processor, the least of several; that of `modulefinder` is without the start of the interpreter. Prints them with the peak
-of memory. Ends with status 1 where a report of the largest tree takes more than MOST_OF_FINDER of the time of `modulefinder`
-or more than MOST_MEMORY, or where twice the files take more than MOST_TIMES the time.
+of memory, which is told as no less than that of the interpreter that starts the program. Ends with status 1 where a report of
+the largest tree takes more than MOST_OF_FINDER of the time of `modulefinder` or more than MOST_MEMORY, or where twice the
+files take more than MOST_TIMES the time.
 """
 import os
 import pathlib

@@ -1,4 +1,5 @@
 mod Places
 pub mod Giving
+pub mod Meant
 mod Sums
 mod Paying

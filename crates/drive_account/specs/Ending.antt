@@ -9,8 +9,8 @@ use Rattle.machine_events.specs.declared.event.Reply.TheVariants.{Done}
 use Rattle.machine_events.specs.declared.event.Outcome.{Outcome}
 use Rattle.machine_events.specs.declared.event.Outcome.TheVariants as o
 use Rattle.machine_shown.specs.Shown.{shown, shown_first, Running}
-use Rattle.meaning_runs.specs.Runs.{Run, Makes, Reaches, spend, GivesUp}
-use Rattle.meaning_runs.specs.Follows.{IsPart}
+use Rattle.meaning_runs.specs.Runs.{Run, Over, How, Makes, Reaches, spend, GivesUp}
+use Rattle.meaning_runs.specs.Follows.{Ends}
 use Rattle.drive_port.specs.View.{View}
 use Rattle.drive_account.specs.Holds.{held_in}
 use Rattle.drive_account.specs.declared.held.Held.{Held}
@@ -29,18 +29,28 @@ abbrev pub IsRead : Ending → Type 0
 IsRead ending.Read = Unit {0}
 IsRead _ = ⊥
 
+-- a script's own events are those of its meaning, on some answers of its tree and on their replies, and then its End.
+-- A tree that tells its files answers by them; any other, as a real folder, may answer otherwise each time
+pub record IsMeant (told : Option Files) (t : ℕ) (run : Run) (fuel : ℕ) (mine : List (Event × Reply)) (outcome : Outcome) : Type 0 where
+  pub before : List (Event × Reply)
+  pub paid : ℕ
+  pub how : How
+  pub whole : mine ≡ before ++ (End outcome paid, Done) ∷ []
+  pub reaches : Reaches told (spend paid (shown_first t) run) 0 before (Over how)
+  pub ends : Ends fuel outcome paid how
+
 -- a script ends with one End event
 pub record Ended (mine : List (Event × Reply)) (outcome : Outcome) : Type 0 where
   pub before : List (Event × Reply)
   pub paid : ℕ
   pub whole : mine ≡ before ++ (End outcome paid, Done) ∷ []
 
--- at want of memory the pairs are a part of those of the whole run with the whole fuel; only where
--- the tree's count of faults rose may they be on the way that a failed call leaves: with a budget k
+-- at want of memory the pairs are a part of those of the whole run with the whole fuel, on some answers of its tree; only
+-- where the tree's count of faults rose may they be on the way that a failed call leaves: with a budget k
 -- the run is spent at a payment for a call of the tree, and what the script holds is being given up
-pub data Broken (files : Files) (t : ℕ) (run : Run) (fuel : ℕ) (mine : List (Event × Reply)) (old new : ℕ) : Type 0 where
-  in_run : IsPart files t run fuel mine → Broken files t run fuel mine old new
-  at_read : (k : ℕ) → k + 1 ≤ fuel → Rose old new → GivesUp (Some files) t run k mine true → Broken files t run fuel mine old new
+pub data Broken (told : Option Files) (t : ℕ) (run : Run) (fuel : ℕ) (mine : List (Event × Reply)) (old new : ℕ) : Type 0 where
+  in_run : (rest : Run) → Reaches told (spend fuel (shown_first t) run) 0 mine rest → Broken told t run fuel mine old new
+  at_read : (k : ℕ) → k + 1 ≤ fuel → Rose old new → GivesUp told t run k mine true → Broken told t run fuel mine old new
 
 -- what is held is what the script's own events show
 abbrev pub Holds : {S : Type 0} → View S → Held → Type 0

@@ -1,5 +1,5 @@
 -- Turns that see neither a port nor a tree, one after another.
-use Rattle.std.proofs.Common.{◌≡◌, ℕ, List, ◌∷◌, Bool, Option, Result, IfOk, subst, sym, ◌∙◌}
+use Rattle.std.proofs.Common.{◌≡◌, ℕ, List, ◌∷◌, Bool, Option, Result, IfOk, refl, subst, sym, ◌∙◌}
 use Rattle.std.proofs.lemmas.Result.{IfOk-weaker}
 use Rattle.base_types.specs.declared.no_memory.NoMemory.{NoMemory}
 use Rattle.tree_files.specs.Files.{Files}
@@ -90,14 +90,14 @@ moves_pushed purse run c frames item frame moves is files whole fuel mine a = rw
 
 -- the turn that leads elsewhere
 pub comes_to : (purse : Purse) (run : Run) (c c' : Course) (w : Want) (t : Turn) → Moves purse run c w → Stepped c.purse c' (remains c w) t → Stepped purse c' run t
-comes_to purse run c c' w t moves step files faults faults' mine = record {
-  moves = λ whole fuel a. (step files faults faults' mine).moves whole fuel (moves files whole fuel mine a);
-  counts = (step files faults faults' mine).counts;
+comes_to purse run c c' w t moves step files faults mine = record {
+  moves = λ whole fuel a. (step files faults mine).moves whole fuel (moves files whole fuel mine a);
+  counts = (step files faults mine).counts;
 }
 
 -- what is wanted is handed on
 pub hands_on : (purse : Purse) (run : Run) (c : Course) (w : Want) → Moves purse run c w → Stepped purse c run (turn.On w)
-hands_on purse run c w moves files faults faults' mine = record {
+hands_on purse run c w moves files faults mine = record {
   moves = λ whole fuel a. moves files whole fuel mine a;
-  counts = tt;
+  counts = refl;
 }

@@ -22,26 +22,26 @@ use Rattle.drive_account.specs.declared.purse.Purse.{Purse}
 
 -- a step leads on, where what it wants means what was to be done
 pub stepped : (purse : Purse) (after : Course) (run : Run) (w : Want) → after.purse ≡ purse → remains after w ≡ run → Stepped purse after run (turn.On w)
-stepped purse after run w same is files faults faults' mine = record {
+stepped purse after run w same is files faults mine = record {
   moves = λ whole fuel a. rw (same, is) a;
-  counts = tt;
+  counts = refl;
 }
 
 -- a payment could not be made
 pub stepped_out : (purse : Purse) (after : Course) (run : Run)
     → ((files : Option Files) (whole : Run) (fuel : ℕ) (mine : List (Event × Reply)) → At files whole fuel mine purse run → IsShort files whole fuel mine after.purse.budget after.purse.of_tree)
     → Stepped purse after run turn.Out
-stepped_out purse after run spent files faults faults' mine = record {
+stepped_out purse after run spent files faults mine = record {
   moves = λ whole fuel a. spent files whole fuel mine a;
-  counts = tt;
+  counts = refl;
 }
 
 -- no work is left
 pub stepped_came : (purse : Purse) (c after : Course) (flow : Flow) → after.purse ≡ purse → ((d : ℕ) (s : State) → rest sources c.work d flow s ≡ ends flow s)
     → Stepped purse after (remains c (want.Go flow)) (turn.Came flow)
-stepped_came purse c after flow same comes files faults faults' mine = record {
+stepped_came purse c after flow same comes files faults mine = record {
   moves = λ whole fuel a. rw same (subst (λ (run : Run). At files whole fuel mine purse run) (comes c.thread.left c.thread.state) a);
-  counts = tt;
+  counts = refl;
 }
 
 -- a frame that was put first waits for the item

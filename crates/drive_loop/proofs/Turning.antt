@@ -13,7 +13,7 @@ use Rattle.py_frames.specs.declared.want.Want.{Want}
 use Rattle.drive_account.specs.Ending.{Holds}
 use Rattle.drive_account.specs.At.{At}
 use Rattle.drive_search.specs.Asking.{Refused, RefusedAt, Parted}
-use Rattle.drive_loop.specs.Turns.{After, Turned, Stepped, Stood, remains}
+use Rattle.drive_loop.specs.Turns.{After, Counts, Turned, Stepped, Stood, remains}
 use Rattle.drive_loop.specs.Overs.{Begun, Fresh}
 use Rattle.drive_loop.specs.Starts.{StartsAs}
 use Rattle.drive_loop.specs.declared.course.Course.{Course}
@@ -59,6 +59,10 @@ pub refused_at : {S : Type 0} (v : View S) (files files' : Option Files) (whole 
 refused_at v files files' whole fuel mine c w same at refused =
     subst (λ (o : Option Files). RefusedAt v o whole fuel) same (refused whole fuel (subst (λ (o : Option Files). At o whole fuel mine c.purse (remains c w)) (sym same) at))
 
+-- a turn over a count that is as it was
+pub counts_same : {faults faults' : ℕ} → faults' ≡ faults → (t : Turn) → Counts faults faults t → Counts faults faults' t
+counts_same {faults = faults} same t counts = subst (λ (n : ℕ). Counts faults n t) (sym same) counts
+
 -- by what is wanted
 pub turned_at : (files : Option Files) (faults faults' : ℕ) (mine mine' : List (Event × Reply)) (c c' : Course) (w w' : Want) (t : Turn) → w ≡ w'
     → Turned files faults faults' mine mine' c.purse c' (remains c w') t → Turned files faults faults' mine mine' c.purse c' (remains c w) t
@@ -67,7 +71,7 @@ turned_at files faults faults' mine mine' c c' w w' t is h = rw is h
 -- where neither an event is made nor the tree asked
 pub turned_here : (files : Option Files) (faults : ℕ) (mine : List (Event × Reply)) (c c' : Course) (w w' : Want) (r : Result Turn Halt) → w ≡ w'
     → IfOk r (Stepped c.purse c' (remains c w')) → IfOk r (Turned files faults faults mine mine c.purse c' (remains c w))
-turned_here files faults mine c c' w w' r is stepped = IfOk-weaker r _ _ (λ turn step. turned_at files faults faults mine mine c c' w w' turn is (step files faults faults mine)) stepped
+turned_here files faults mine c c' w w' r is stepped = IfOk-weaker r _ _ (λ turn step. turned_at files faults faults mine mine c c' w w' turn is (step files faults mine)) stepped
 
 pub at_want : {files : Option Files} {whole : Run} {fuel : ℕ} {mine : List (Event × Reply)} (c : Course) (w w' : Want) → w ≡ w' → At files whole fuel mine c.purse (remains c w) → At files whole fuel mine c.purse (remains c w')
 at_want {files = files} {whole} {fuel} {mine} c w w' is a = subst (λ (w : Want). At files whole fuel mine c.purse (remains c w)) is a

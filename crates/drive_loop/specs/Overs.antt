@@ -33,3 +33,8 @@ abbrev pub Overs : Option Files → ℕ → ℕ → Run → ℕ → List (Event 
 Overs files faults faults' whole fuel mine (over.Came flow) = (budget : ℕ) × Stands files whole fuel mine budget (ended flow)
 Overs files faults faults' whole fuel mine (over.Out of_tree) = (budget : ℕ) × IsShort files whole fuel mine budget of_tree
 Overs files faults faults' whole fuel mine (over.Unread left) = IsUnread files whole fuel mine left × Rose faults faults'
+
+-- where it is over in any other way, no call of the tree failed: its count is as it was
+abbrev pub IsUnfailed : ℕ → ℕ → Over → Type 0
+IsUnfailed faults faults' (over.Unread left) = Unit {0}
+IsUnfailed faults faults' it = faults' ≡ faults

@@ -1,5 +1,5 @@
 -- What a turn of the driver does.
-use Rattle.std.specs.Prelude.{ℕ, List, Option}
+use Rattle.std.specs.Prelude.{◌≡◌, ℕ, List, Option}
 use Rattle.tree_files.specs.Files.{Files}
 use Rattle.tree_files.specs.Count.{Rose}
 use Rattle.tree_files.specs.declared.tree.Stamp.{Stamp}
@@ -43,10 +43,10 @@ After files whole fuel mine c (turn.Came flow) = At files whole fuel mine c.purs
 After files whole fuel mine c turn.Out = IsShort files whole fuel mine c.purse.budget c.purse.of_tree
 After files whole fuel mine c (turn.Unread left) = IsUnread files whole fuel mine left
 
--- a call of the tree fails only where its count of faults rose
+-- a call of the tree fails only where its count of faults rose; where none failed, that is as it was
 abbrev pub Counts : ℕ → ℕ → Turn → Type 0
 Counts old new (turn.Unread left) = Rose old new
-Counts old new t = Unit {0}
+Counts old new t = new ≡ old
 
 -- a turn from `run` on: whatever script stood there stands
 -- where the turn leads; and how the tree's count of faults went
@@ -56,7 +56,7 @@ pub record Turned (files : Option Files) (faults faults' : ℕ) (mine mine' : Li
 
 -- a turn that makes no event and asks no tree
 abbrev pub Stepped : Purse → Course → Run → Turn → Type 0
-Stepped purse after run t = (files : Option Files) (faults faults' : ℕ) (mine : List (Event × Reply)) → Turned files faults faults' mine mine purse after run t
+Stepped purse after run t = (files : Option Files) (faults : ℕ) (mine : List (Event × Reply)) → Turned files faults faults mine mine purse after run t
 
 -- a turn that asks the tree
 abbrev pub Looked : Option Files → ℕ → ℕ → Purse → Course → Run → Turn → Type 0
@@ -70,7 +70,7 @@ IsFileStamp stamps.Absent = ⊥
 
 -- a turn that makes an event
 abbrev pub Made : List (Event × Reply) → List (Event × Reply) → Purse → Course → Run → Turn → Type 0
-Made mine mine' purse after run t = (files : Option Files) (faults faults' : ℕ) → Turned files faults faults' mine mine' purse after run t
+Made mine mine' purse after run t = (files : Option Files) (faults : ℕ) → Turned files faults faults mine mine' purse after run t
 
 -- a turn may be done: it is the script's turn, what is held is known, and its events show all that it asks for
 pub record Stood {S : Type 0} (v : View S) (held : Held) (run : Run) : Type 0 where

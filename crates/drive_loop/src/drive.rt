@@ -5,7 +5,7 @@ ghost use Rattle.meaning_runs.specs.Runs.{Safe, StandsIn};
 ghost use Rattle.drive_port.specs.View.{View, Stays};
 ghost use Rattle.drive_account.specs.Ending.{Holds};
 ghost use Rattle.drive_search.specs.Asking.{RefusedAt, Asked, AllKept};
-ghost use Rattle.drive_loop.specs.Overs.{Begun, Fresh, Overs};
+ghost use Rattle.drive_loop.specs.Overs.{Begun, Fresh, Overs, IsUnfailed};
 ghost use Rattle.drive_loop.specs.Starts.{started};
 
 use crate::course::{Course, Turn};
@@ -80,6 +80,7 @@ pub fn run<P: Port, T: Tree>(
     ensures stays { Stays (P.view port.old) (P.view port.new) }
     ensures over { IfOk result (Overs (T.files tree.old) (T.faults tree.old) (T.faults tree.new)
         (started script start) fuel (P.view port.new).mine) }
+    ensures unfailed { IfOk result (IsUnfailed (T.faults tree.old) (T.faults tree.new)) }
     ensures holds { OnOk result (Holds (P.view port.new) course.new.held) }
     ensures part { OnErr result (StandsIn (T.files tree.old) (started script start) fuel
         (P.view port.new).mine) }

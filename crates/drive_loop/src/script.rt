@@ -7,7 +7,7 @@ ghost use Rattle.meaning_runs.specs.Runs.{Safe};
 ghost use Rattle.meaning_runs.specs.Follows.{Follows};
 ghost use Rattle.meaning_runs.specs.Lists.{lists_in, ends_in};
 ghost use Rattle.drive_port.specs.View.{View, Stays};
-ghost use Rattle.drive_account.specs.Ending.{outcome, IsRead, Ended, Broken};
+ghost use Rattle.drive_account.specs.Ending.{outcome, IsRead, IsMeant, Broken};
 ghost use Rattle.drive_search.specs.Asking.{Asked};
 ghost use Rattle.drive_loop.specs.Overs.{Begun};
 ghost use Rattle.drive_loop.specs.Starts.{started};
@@ -22,9 +22,10 @@ use tree_files::Tree;
 
 /// Runs a script, or a module as a program, on a port, over a tree, and makes its End event.
 ///
-/// The events are those of its meaning with this fuel, each once and in order, on the replies that
-/// come. `Read` comes only where a call of the tree failed. A directory is listed at
-/// most once for each listing that the events keep. Where memory is wanted there is no End.
+/// The events are those of its meaning with this fuel, each once and in order, on the answers of the
+/// tree and the replies that come. `Read` comes only where a call of the tree failed, and another end
+/// only where none did. A directory is listed at most once for each listing that the events keep.
+/// Where memory is wanted there is no End.
 pub fn run_on<P: Port, T: Tree>(
     alloc: Global,
     port: &mut P,
@@ -39,14 +40,15 @@ pub fn run_on<P: Port, T: Tree>(
     ensures asked { Asked (T.files tree.old) (T.files tree.new) (T.faults tree.old) (T.faults tree.new) }
     ensures lists { OnOk result (T.lists tree.new ≤ T.lists tree.old + lists_in (P.view port.new).mine) }
     ensures goes_on { OnErr result (ends_in (P.view port.new).mine ≡ 0) }
-    ensures ended { IfOk result (λ ending. Ended (P.view port.new).mine (outcome ending)) }
+    ensures meant { IfOk result (λ ending. IsMeant (T.files tree.old) script (started script start) fuel
+        (P.view port.new).mine (outcome ending)) }
     ensures follows { (files : Files) → T.files tree.old ≡ Some files
         → IfOk result (λ ending. Follows files script (started script start) fuel (P.view port.new).mine
         (outcome ending)) }
-    ensures part { (files : Files) → T.files tree.old ≡ Some files
-        → OnErr result (Broken files script (started script start) fuel (P.view port.new).mine
-        (T.faults tree.old) (T.faults tree.new)) }
+    ensures part { OnErr result (Broken (T.files tree.old) script (started script start) fuel
+        (P.view port.new).mine (T.faults tree.old) (T.faults tree.new)) }
     ensures read { IfOk result (λ ending. IsRead ending → Rose (T.faults tree.old) (T.faults tree.new)) }
+    ensures unfailed { IfOk result (λ ending. (IsRead ending → ⊥) → T.faults tree.new ≡ T.faults tree.old) }
 {
     let mut course = Course::first(alloc, script, fuel);
     let over = match run(alloc, port, tree, &mut course, script, start, fuel) {

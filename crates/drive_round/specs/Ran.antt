@@ -14,7 +14,7 @@ use Rattle.machine_desk.specs.Outgo.{Outgo, Pieces}
 use Rattle.meaning_runs.specs.Runs.{Run}
 use Rattle.meaning_runs.specs.Follows.{Follows}
 use Rattle.meaning_runs.specs.Lists.{lists_in, ends_in}
-use Rattle.drive_account.specs.Ending.{Ended, Broken, IsRead, outcome}
+use Rattle.drive_account.specs.Ending.{IsMeant, Broken, IsRead, outcome}
 use Rattle.trace_book.specs.Views.{base_of}
 use Rattle.trace_book.specs.Rule.{Written}
 use Rattle.drive_account.specs.declared.end.Ending.{Ending}
@@ -54,17 +54,18 @@ pub record AreNewTrees {T : Type 0} (files : T → Option Files) (faults lists :
   pub all : All (IsNewTree files faults lists told) trees
 
 -- thread t ran over this tree with this fuel, which made these pairs of it: with an
--- ending they are those of its meaning up to its End, and `Read` comes only where a
--- call of the tree failed; at want of memory they are a part of those, with no End
+-- ending they are those of its meaning up to its End, whatever the tree tells, and `Read` comes where a
+-- call of the tree failed, any other where none did; at want of memory they are a part of those, with no End
 pub record Ran (tree : Option Files) (t : ℕ) (run : Run) (fuel : ℕ) (old new : Counts) (mine : Pairs)
     (result : Result Ending NoMemory) : Type 0 where
   pub faults : old.faults ≤ new.faults
   pub lists : OnOk result (new.lists ≤ old.lists + lists_in mine)
   pub goes_on : OnErr result (ends_in mine ≡ 0)
-  pub ended : IfOk result (λ ending. Ended mine (outcome ending))
+  pub meant : IfOk result (λ ending. IsMeant tree t run fuel mine (outcome ending))
   pub follows : (files : Files) → tree ≡ Some files → IfOk result (λ e. Follows files t run fuel mine (outcome e))
-  pub part : (files : Files) → tree ≡ Some files → OnErr result (Broken files t run fuel mine old.faults new.faults)
+  pub part : OnErr result (Broken tree t run fuel mine old.faults new.faults)
   pub read : IfOk result (λ ending. IsRead ending → Rose old.faults new.faults)
+  pub unfailed : IfOk result (λ ending. (IsRead ending → ⊥) → new.faults ≡ old.faults)
 
 -- the same of a tree that changed
 abbrev pub RanOver : {T : Type 0} → (T → Option Files) → (T → ℕ) → (T → ℕ) → T → T → ℕ → Run → ℕ → Pairs

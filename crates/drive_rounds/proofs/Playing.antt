@@ -19,12 +19,11 @@ use Rattle.machine_desk.specs.Outgo.{Outgo, Pieces, Kept}
 use Rattle.machine_desk.specs.Sight.{Sight, Telling, KeepsUp, Continues}
 use Rattle.machine_desk.proofs.Keeping.{kept_then}
 use Rattle.meaning_runs.specs.Runs.{Run}
-use Rattle.meaning_runs.specs.Follows.{IsPart}
 use Rattle.meaning_runs.specs.Lists.{ends_in}
-use Rattle.meaning_runs.proofs.Stand.{part, stands_start}
 use Rattle.meaning_solo.proofs.Parts.{own_append, own_cons, own_other, ended_front}
 use Rattle.drive_account.specs.declared.end.Ending.{Ending}
-use Rattle.drive_account.specs.Ending.{Ended, in_run, outcome}
+use Rattle.drive_account.specs.Ending.{Ended, outcome}
+use Rattle.drive_account.proofs.Meant.{broken_first}
 use Rattle.drive_round.specs.Ran.{Pairs, RanOver, Results, Runs}
 use Rattle.drive_rounds.specs.Played.{AllPlayed, none, more, AreShort, NoneBegan, GoesOn}
 
@@ -104,7 +103,7 @@ module _ {T : Type 0} (files : T → Option Files) (faults lists : T → ℕ) (f
   ran_mine t run old new mine mine' came same ran = subst (λ (m : Pairs). RanOver files faults lists old new t run fuel m came) same ran
 
   ran_err : (t : ℕ) (run : Run) (old new : T) (mine : Pairs) (e e' : NoMemory) → RanOver files faults lists old new t run fuel mine (Err e) → RanOver files faults lists old new t run fuel mine (Err e')
-  ran_err t run old new mine e e' ran = record { faults = ran.faults; lists = tt; goes_on = ran.goes_on; ended = tt; follows = λ fs told. tt; part = ran.part; read = tt }
+  ran_err t run old new mine e e' ran = record { faults = ran.faults; lists = tt; goes_on = ran.goes_on; meant = tt; follows = λ fs told. tt; part = ran.part; read = tt; unfailed = tt }
 
   -- threads that have not begun
   idle : (h : List Entry) (t : ℕ) (runs : Runs) (olds : List T) (results : Results) → length runs ≡ length olds → length results ≡ length olds → AreShort results → NoneBegan t h → AllPlayed files faults lists fuel h t runs olds olds results
@@ -119,10 +118,11 @@ module _ {T : Type 0} (files : T → Option Files) (faults lists : T → ℕ) (f
         faults = omega arith;
         lists = tt;
         goes_on = ap ends_in (q t (omega arith));
-        ended = tt;
+        meant = tt;
         follows = λ fs told. tt;
-        part = λ fs told. in_run (subst (λ (mine : Pairs). IsPart fs t (run t) fuel mine) (sym (q t (omega arith))) (part fs t (record { budget = fuel; rest = run t; stands = stands_start (run t) fuel })));
+        part = broken_first _ _ (q t (omega arith));
         read = tt;
+        unfailed = tt;
       } in
       more t run runs x x olds olds (Err e) results here refl (λ u le. q u (omega (arith, le))) (idle h (t + 1) runs olds results (omega (arith, a)) (omega (arith, b)) short (λ u le. q u (omega (arith, le))))
 

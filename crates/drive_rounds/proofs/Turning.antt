@@ -11,6 +11,7 @@ use Rattle.machine_shown.specs.Own.{own}
 use Rattle.machine_shown.specs.Shown.{shown_first}
 use Rattle.meaning_runs.specs.Runs.{Run, Safe}
 use Rattle.meaning_runs.specs.Follows.{Follows}
+use Rattle.meaning_runs.proofs.Stand.{part_given}
 use Rattle.drive_account.specs.declared.end.Ending.{Ending}
 use Rattle.drive_account.specs.declared.end.Ending.TheVariants as ending
 use Rattle.drive_account.specs.Ending.{Broken, in_run, at_read, IsRead, outcome}
@@ -42,8 +43,8 @@ record Stopped (files : Files) (t : ℕ) (run : Run) (fuel : ℕ) (mine : Pairs)
   cause : HasCause stop old new
   breaks : BreaksAt stop (turn_in files run stop) t fuel mine
 
-stopped : (files : Files) (t : ℕ) (run : Run) (fuel : ℕ) (mine : Pairs) (old new a b : ℕ) → (Rose a b → Rose old new) → Broken files t run fuel mine a b → Stopped files t run fuel mine old new
-stopped files t run fuel mine old new a b up (in_run part) = record { stop = None; cause = tt; breaks = part }
+stopped : (files : Files) (t : ℕ) (run : Run) (fuel : ℕ) (mine : Pairs) (old new a b : ℕ) → (Rose a b → Rose old new) → Broken (Some files) t run fuel mine a b → Stopped files t run fuel mine old new
+stopped files t run fuel mine old new a b up (in_run rest reaches) = record { stop = None; cause = tt; breaks = part_given files t run fuel reaches }
 stopped files t run fuel mine old new a b up (at_read k fits rose given) = record { stop = Some k; cause = up rose; breaks = (given, fits) }
 
 -- the turns of threads that have not begun
@@ -102,7 +103,7 @@ module _ {T : Type 0} (told : T → Option Files) (faults lists : T → ℕ) (fu
       }
   from (files ∷ trees) is up (more t run runs a b olds news (Err e) results ran stays later rest) =
       let two = heads a files olds trees is in
-      let here = stopped files t (run t) fuel (own t h) old new (faults a) (faults b) up.0 (ran.part files two.0) in
+      let here = stopped files t (run t) fuel (own t h) old new (faults a) (faults b) up.0 (subst (λ (o : Option Files). Broken o t (run t) fuel (own t h) (faults a) (faults b)) two.0 ran.part) in
       let behind = quiet {t = t + 1} trees two.1 rest later in
       record {
         turns = turn_in files (run t) here.stop ∷ behind.turns;

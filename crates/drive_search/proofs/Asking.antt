@@ -1,6 +1,5 @@
 -- How what was asked of a tree adds up, one thing after another.
 use Rattle.std.proofs.Common.{◌≤◌, ℕ, List, Option, refl, ◌∙◌, arith}
-use Rattle.tree_files.specs.Count.{Rose}
 use Rattle.tree_files.specs.Files.{Files}
 use Rattle.machine_events.specs.declared.event.Event.{Event}
 use Rattle.machine_events.specs.declared.event.Reply.{Reply}
@@ -17,6 +16,3 @@ kept_refl lists mine = omega arith
 
 pub kept_trans : (lists lists' lists'' : ℕ) (mine mine' mine'' : List (Event × Reply)) → AllKept lists lists' mine mine' → AllKept lists' lists'' mine' mine'' → AllKept lists lists'' mine mine''
 kept_trans lists lists' lists'' mine mine' mine'' a b = omega (arith, a, b)
-
-pub rose_later : (old mid new : ℕ) → old ≤ mid → Rose mid new → Rose old new
-rose_later old mid new grew rose = omega (arith, grew, rose)

@@ -1,5 +1,5 @@
 -- The steps of a search, one after another.
-use Rattle.std.proofs.Common.{◌≡◌, ◌≤◌, ℕ, List, Option, sym, subst}
+use Rattle.std.proofs.Common.{◌≡◌, ℕ, List, Option, sym, subst}
 use Rattle.std.specs.Option.{ForSome}
 use Rattle.tree_files.specs.Files.{Files}
 use Rattle.machine_events.specs.declared.event.Event.{Event}
@@ -18,9 +18,7 @@ use Rattle.drive_search.specs.Searching.{Taken, CountsSought, SearchParted, Sear
 use Rattle.drive_search.specs.Asking.{RefusedAt}
 use Rattle.drive_account.specs.declared.purse.Purse.{Purse}
 use Rattle.drive_search.specs.declared.search.Sought.{Sought}
-use Rattle.drive_search.specs.declared.search.Sought.TheVariants as sought
 use Rattle.drive_search.specs.declared.search.Step.{Step}
-use Rattle.drive_search.proofs.Asking.{rose_later}
 
 -- a search that was not begun suits every tree
 pub suits_fresh : (stage : Stage) (o : Option Files) → stage ≡ stages.Fresh → ForSome o (λ f. Suits stage f)
@@ -32,10 +30,9 @@ pub took : (files files' : Option Files) (faults faults' number number' : ℕ) (
 took files files' faults faults' number number' mine mine' purse purse' before go it same is taken =
     subst (λ (o : Option Files). Taken o faults faults' number' mine mine' purse purse' before go it) same (subst (λ (t : ℕ). Taken files' faults faults' t mine mine' purse purse' before go it) is taken)
 
-pub over_counts : (old mid new : ℕ) (it : Sought) → old ≤ mid → CountsSought mid new it → CountsSought old new it
-over_counts old mid new (sought.Unread left) grew rose = rose_later old mid new grew rose
-over_counts old mid new (sought.Found answer) grew rose = tt
-over_counts old mid new sought.Out grew rose = tt
+-- the last step of a search in which no call of the tree had failed
+pub over_counts : (old mid new : ℕ) (it : Sought) → mid ≡ old → CountsSought mid new it → CountsSought old new it
+over_counts old mid new it same counts = subst (λ (n : ℕ). CountsSought n new it) same counts
 
 pub steps_parted : (files files' : Option Files) (mine mine' : List (Event × Reply)) (purse : Purse) (before : Search) → files' ≡ files → SearchParted files' mine mine' purse before
     → (k : Option Found → Run) (whole : Run) (fuel : ℕ) → At files whole fuel mine purse (searches_in before k) → StandsIn files whole fuel mine'

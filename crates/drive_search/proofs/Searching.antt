@@ -19,7 +19,7 @@ use Rattle.meaning_search.specs.Searches.{searches_in}
 use Rattle.meaning_search.proofs.Embedding.{reads_stands}
 use Rattle.drive_account.proofs.Giving.{lists_more}
 use Rattle.drive_account.specs.At.{At}
-use Rattle.drive_search.specs.Searching.{MayGive, Given, keeping}
+use Rattle.drive_search.specs.Searching.{MayGive, Given, CountsStep, keeping}
 use Rattle.drive_search.specs.Asking.{AllKept}
 use Rattle.drive_account.specs.declared.purse.Purse.{Purse}
 use Rattle.drive_search.specs.declared.search.Step.{Step}
@@ -71,6 +71,10 @@ lists_made mine mine' event reply is =
 pub owed_names : {files : Option Files} {whole : Run} {fuel : ℕ} {mine : List (Event × Reply)} {purse : Purse} (units units' : ℕ) (next : Run) → units ≡ units'
     → At files whole fuel mine purse (Pays false units' next) → At files whole fuel mine purse (Pays false units next)
 owed_names units units' next is a = rw is a
+
+-- a step over a count that is as it was
+pub counts_same : {faults faults' : ℕ} → faults' ≡ faults → (it : Step) → CountsStep faults faults it → CountsStep faults faults' it
+counts_same {faults = faults} same it counts = subst (λ (n : ℕ). CountsStep faults n it) (sym same) counts
 
 -- a step that lists wants that listing kept
 pub counted : (want : LookWant) (old new : ℕ) (mine mine' : List (Event × Reply)) → CountsLists (Ok want) old new → lists_in mine + keeping want ≤ lists_in mine' → AllKept old new mine mine'

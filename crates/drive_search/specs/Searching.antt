@@ -36,14 +36,14 @@ abbrev pub AfterStep : Option Files → Run → ℕ → List (Event × Reply) �
 AfterStep files whole fuel mine purse go k (step.On input) = At files whole fuel mine purse (searches_in (go input) k)
 AfterStep files whole fuel mine purse go k (step.Over it) = AfterSought files whole fuel mine purse k it
 
--- a call of the tree fails only where its count of faults rose
+-- a call of the tree fails only where its count of faults rose; where none failed, that is as it was
 abbrev pub CountsSought : ℕ → ℕ → Sought → Type 0
 CountsSought old new (sought.Unread left) = Rose old new
-CountsSought old new it = Unit {0}
+CountsSought old new it = new ≡ old
 
--- the same of a step; one behind which the search goes on claims nothing
+-- the same of a step; behind one on which the search goes on none failed
 abbrev pub CountsStep : ℕ → ℕ → Step → Type 0
-CountsStep old new (step.On input) = Unit {0}
+CountsStep old new (step.On input) = new ≡ old
 CountsStep old new (step.Over it) = CountsSought old new it
 
 -- the search is given what it waits for
@@ -80,7 +80,7 @@ pub record Given (number : ℕ) (mine mine' : List (Event × Reply)) (purse purs
       → AfterStep files whole fuel mine' purse' go k it
   pub safe : (go : LookIn → Search) (k : Option Found → Run) → Safe (shown number mine) (searches_in (wants want go) k) → SafeStep (shown number mine') go k it
   pub fits : Fits (want_kind want) it
-  pub counts : (old new : ℕ) → CountsStep old new it
+  pub counts : (faults : ℕ) → CountsStep faults faults it
   pub kept : lists_in mine + keeping want ≤ lists_in mine'
 
 -- what is held stays

@@ -82,7 +82,7 @@ fn listed(purse: &mut Purse, reply: Reply) -> Step
         (after_reply reply (searches_in (go (given.Listed (probe_of reply))) k))
         → AfterStep files whole fuel mine purse.new go k result }
     ensures fits { Fits ForListing result }
-    ensures counts { (old new : ℕ) → CountsStep old new result }
+    ensures counts { (faults : ℕ) → CountsStep faults faults result }
     ensures safe { (s : Shown) (go : LookIn → Search) (k : Option Found → Run)
         → Safe s (after_reply reply (searches_in (go (given.Listed (probe_of reply))) k)) → SafeStep s go k result }
 {
@@ -126,7 +126,7 @@ fn kept(purse: &mut Purse, units: u64) -> Step
         (mine : List (Event × Reply)) → At files whole fuel mine purse.old
         (Pays false units (searches_in (go given.Kept) k)) → AfterStep files whole fuel mine purse.new go k result }
     ensures fits { Fits ForKeeping result }
-    ensures counts { (old new : ℕ) → CountsStep old new result }
+    ensures counts { (faults : ℕ) → CountsStep faults faults result }
     ensures safe { (s : Shown) (go : LookIn → Search) (k : Option Found → Run)
         → Safe s (Pays false units (searches_in (go given.Kept) k)) → SafeStep s go k result }
 {

@@ -1,6 +1,6 @@
 -- From the counts of a fork to those of the tree that has taken them in.
 use Rattle.std.proofs.Common.{◌≡◌, ◌∙◌, refl, sym, ap, subst, ℕ, suc, ◌+◌, ◌-◌, ◌≤◌, ◌^◌, min, List, [], ◌∷◌, length, Option, Some, None, IfSome, true, false, Bool, not, is_some, arith}
-use Rattle.std.specs.Prelude.{MatchOption}
+use Rattle.std.specs.Prelude.{MatchOption, replicate}
 use Rattle.tree_files.specs.Files.{Files}
 use Rattle.tree_files.specs.Count.{Rose, raised}
 use Rattle.words_rounds.specs.declared.rounds.Round.{Round}
@@ -11,7 +11,7 @@ use Rattle.machine_spec.specs.declared.state.State.{State}
 use Rattle.machine_shown.specs.Own.{own}
 use Rattle.meaning_runs.specs.Runs.{Run}
 use Rattle.meaning_solo.specs.Made.{Turn}
-use Rattle.drive_account.specs.Ending.{in_run, at_read}
+use Rattle.drive_account.proofs.Meant.{broken_by}
 use Rattle.drive_rounds.specs.Solo.{HasCause, HaveCauses}
 use Rattle.import_words.specs.Words.{Word}
 use Rattle.import_words.specs.Plans.{plan_of}
@@ -29,8 +29,9 @@ use Rattle.program_run.specs.Runs.{finished}
 use Rattle.program_run.specs.Answers as called
 use Rattle.program_run.specs.Answers.{built, run_if}
 use Rattle.program_run.specs.declared.report.Left.{Left}
+use Rattle.program_run.proofs.Meaning.{acts_on_since}
 use Rattle.program_run.specs.declared.report.Report.{Report}
-use Rattle.program_rounds.specs.Rounds.{scripts_of, opening_in}
+use Rattle.program_rounds.specs.Rounds.{scripts_of, told_in, opening_in}
 use Rattle.program_rounds.specs.Runs.{IsRun, EachActs, RunOver, HasRun}
 use Rattle.program_rounds.specs.Answers.{Answers, rounds_plan}
 use Rattle.program_bundled.specs.Bundled.{GivesInBundles}
@@ -55,8 +56,7 @@ reads_by faults f n h = omega (arith, h)
 -- a script acts over the tree as over its fork, whatever its files are
 act_by : (files : Files) (fuel faults f status t : ℕ) (run : Run) (mine : List (Event × Reply)) → Acts (setting files fuel 0 f status) t run mine → Acts (setting files fuel faults (raised faults f) status) t run mine
 act_by files fuel faults f status t run mine (Acts.whole outcome follows) = Acts.whole outcome follows
-act_by files fuel faults f status t run mine (Acts.part six (in_run part)) = Acts.part six (in_run part)
-act_by files fuel faults f status t run mine (Acts.part six (at_read k fits rose given)) = Acts.part six (at_read k fits (rose_by faults f rose) given)
+act_by files fuel faults f status t run mine (Acts.part six broken) = Acts.part six (broken_by (rose_by faults f) broken)
 
 module _ (files : Files) (fuel faults f status : ℕ) where
   abbrev forked : Setting
@@ -140,6 +140,8 @@ module _ (files files' files'' : Option Files) (faults f lists l lists' : ℕ) (
   ran_by means plan texts h status run = record {
     legal = run.legal;
     runs = told_by files _ _ (λ told. over_by told plan.fuel faults f status means plan texts h) run.runs;
+    acts = acts_on_since means plan.fuel status 0 f faults (raised faults f) 0 (replicate (length texts) files) texts h (rose_by faults f) run.acts;
+    unfailed = λ unless none. (let stays = run.unfailed unless none in omega (arith, stays));
     reads = reads_by faults f (reads_of (length plan.scripts) h) run.reads;
     lists = λ ended. lists_by (lists_of (length plan.scripts) h) (run.lists ended);
     ends = run.ends;
@@ -150,6 +152,8 @@ module _ (files files' files'' : Option Files) (faults f lists l lists' : ℕ) (
   ran_in_rounds means plan rounds texts h status run = record {
     legal = run.legal;
     runs = told_by files _ _ (λ told. all_by told plan.fuel faults f status means (opening_in plan rounds texts) rounds texts h) run.runs;
+    acts = acts_on_since means plan.fuel status 0 f faults (raised faults f) 0 (told_in files rounds) texts h (rose_by faults f) run.acts;
+    unfailed = λ unless none. (let stays = run.unfailed unless none in omega (arith, stays));
     reads = reads_by faults f (reads_of (length (scripts_of rounds)) h) run.reads;
     lists = λ ended. lists_by (lists_of (length (scripts_of rounds)) h) (run.lists ended);
     ends = run.ends;

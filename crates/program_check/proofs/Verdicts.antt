@@ -63,7 +63,7 @@ Tells trees told = told ≡ map (λ (f : Files). Some f) trees
 
 module _ (means : Means) (fuel : ℕ) (history : List Entry) where
   -- each script has one answer where its tree tells its files
-  answers_one : {t : ℕ} {told : List (Option Files)} {texts : List (List ℕ)} {fs gs : List Follow} (trees : List Files) → Tells trees told → AreFollows means fuel history t told texts fs → AreFollows means fuel history t told texts gs → fs ≡ gs
+  answers_one : {t : ℕ} {told : List (Option Files)} {texts : List (List ℕ)} {fs gs : List Follow} (trees : List Files) → Tells trees told → AreFollows means fuel (λ u. own u history) t told texts fs → AreFollows means fuel (λ u. own u history) t told texts gs → fs ≡ gs
   answers_one trees is (AreFollows.none t) (AreFollows.none _) = refl
   answers_one [] is (AreFollows.more t x told text texts f fs a rest) (AreFollows.more _ _ _ _ _ g gs b bs) = absurd (cc is)
   answers_one (files ∷ trees) is (AreFollows.more t x told text texts f fs a rest) (AreFollows.more _ _ _ _ _ g gs b bs) =
@@ -74,7 +74,7 @@ module _ (means : Means) (fuel : ℕ) (history : List Entry) where
       ap (λ (y : Follow). y ∷ fs) one ∙ ap (λ (ys : List Follow). g ∷ ys) (answers_one {t = suc t} trees behind rest bs)
 
   -- each script follows where each list is all that its script makes
-  all_whole : {t : ℕ} {told : List (Option Files)} {texts : List (List ℕ)} {fs : List Follow} (trees : List Files) → Tells trees told → AreFollows means fuel history t told texts fs → AllFollow fs → AllWhole means fuel history t trees texts
+  all_whole : {t : ℕ} {told : List (Option Files)} {texts : List (List ℕ)} {fs : List Follow} (trees : List Files) → Tells trees told → AreFollows means fuel (λ u. own u history) t told texts fs → AllFollow fs → AllWhole means fuel history t trees texts
   all_whole [] is (AreFollows.none t) all = AllWhole.none t
   all_whole (files ∷ trees) is (AreFollows.none t) all = absurd (cc is)
   all_whole [] is (AreFollows.more t x told text texts f fs a rest) all = absurd (cc is)
@@ -85,7 +85,7 @@ module _ (means : Means) (fuel : ℕ) (history : List Entry) where
       AllWhole.more t files trees text texts (subst (λ (y : Follow). Answers files t (means t text) fuel (own t history) y) (all 0 f refl) answer)
       (all_whole {t = suc t} trees behind rest (λ u g there. all (suc u) g there))
 
-  all_follow : {t : ℕ} {told : List (Option Files)} {texts : List (List ℕ)} {fs : List Follow} {trees : List Files} → Tells trees told → AreFollows means fuel history t told texts fs → AllWhole means fuel history t trees texts → AllFollow fs
+  all_follow : {t : ℕ} {told : List (Option Files)} {texts : List (List ℕ)} {fs : List Follow} {trees : List Files} → Tells trees told → AreFollows means fuel (λ u. own u history) t told texts fs → AllWhole means fuel history t trees texts → AllFollow fs
   all_follow is (AreFollows.none t) whole = λ u f there. absurd (cc there)
   all_follow is (AreFollows.more t x told text texts f fs a rest) (AllWhole.more _ files trees _ _ w ws) =
       let here : x ≡ Some files = cc is in

@@ -2,6 +2,8 @@
 use Rattle.std.specs.Prelude.{◌≡◌, ℕ, suc, List, [], ◌∷◌, Option, Some, IfSome, Ok, Err, length}
 use Rattle.tree_files.specs.Files.{Files}
 use Rattle.words_rounds.specs.declared.rounds.Round.{Round}
+use Rattle.machine_events.specs.declared.event.Event.{Event}
+use Rattle.machine_events.specs.declared.event.Reply.{Reply}
 use Rattle.machine_events.specs.declared.event.Entry.{Entry}
 use Rattle.machine_events.specs.declared.event.Follow.{Follow}
 use Rattle.machine_spec.specs.Legal.{IsLegal}
@@ -9,8 +11,7 @@ use Rattle.machine_shown.specs.Own.{own}
 use Rattle.drive_follow.specs.Following.{Answers, IsWhole}
 use Rattle.import_words.specs.declared.plan.RunPlan.{RunPlan}
 use Rattle.program_run.specs.Alone.{Means}
-use Rattle.program_rounds.specs.Course.{told_in}
-use Rattle.program_rounds.specs.Rounds.{trees_of, opening_in}
+use Rattle.program_rounds.specs.Rounds.{trees_of, told_in, opening_in}
 use Rattle.trace_fields.specs.declared.refusal.Cause.{Cause}
 use Rattle.trace_read.specs.Reading.{trace_in}
 use Rattle.trace_text.specs.Trace.{trace}
@@ -26,16 +27,16 @@ use Rattle.trace_check.specs.Judge.{Judges}
 abbrev pub one_round : RunPlan → List Round
 one_round plan = record { edits = []; scripts = plan.scripts } ∷ []
 
--- where the entries of each script part from what its text means, with this fuel over the files of its own round; the
+-- where what each script made parts from what its text means, with this fuel over the files of its own round; the
 -- first of these scripts has the number t. Over a tree that does not tell its files the answer may be any
-pub data AreFollows (means : Means) (fuel : ℕ) (history : List Entry)
+pub data AreFollows (means : Means) (fuel : ℕ) (made : ℕ → List (Event × Reply))
     : ℕ → List (Option Files) → List (List ℕ) → List Follow → Type 0 where
-  none : (t : ℕ) → AreFollows means fuel history t [] [] []
+  none : (t : ℕ) → AreFollows means fuel made t [] [] []
   more : (t : ℕ) (tree : Option Files) (trees : List (Option Files)) (text : List ℕ) (texts : List (List ℕ))
       (follow : Follow) (follows : List Follow)
-      → IfSome tree (λ files. Answers files t (means t text) fuel (own t history) follow)
-      → AreFollows means fuel history (suc t) trees texts follows
-      → AreFollows means fuel history t (tree ∷ trees) (text ∷ texts) (follow ∷ follows)
+      → IfSome tree (λ files. Answers files t (means t text) fuel (made t) follow)
+      → AreFollows means fuel made (suc t) trees texts follows
+      → AreFollows means fuel made t (tree ∷ trees) (text ∷ texts) (follow ∷ follows)
 
 -- the entries are replayed from the opening of the plan and its rounds, each script is compared with its own over the
 -- files of its round, and the first fault of all decides
@@ -44,7 +45,7 @@ pub record JudgesEntries (means : Means) (tree : Option Files) (plan : RunPlan) 
   pub replayed : Replayed
   pub replays : Replays (opening_in plan rounds texts) history replayed
   pub follows : List Follow
-  pub are : AreFollows means plan.fuel history 0 (told_in tree rounds) texts follows
+  pub are : AreFollows means plan.fuel (λ t. own t history) 0 (told_in tree rounds) texts follows
   pub judges : Judges history replayed follows verdict
 
 -- the verdict on a text, with the number of the entries that were judged

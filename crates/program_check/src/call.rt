@@ -12,7 +12,7 @@ use crate::followed::Followed;
 use crate::lines::{status_of, verdict_line};
 use crate::opened::{Opened, open_scripts};
 use crate::text::{Said, judge};
-use base_types::Text;
+use base_types::{Seq, Text};
 use import_words::{Plan, RunPlan};
 use machine_desk::Flow;
 use program_convert::open_trace;
@@ -76,7 +76,7 @@ fn say<O: Sink>(alloc: Global, said: &Said, plan: Option<Plan>, out: &mut O) -> 
 /// Judges the text of a trace, and writes the line about it.
 fn check_text<F: Followed, T: Grove, O: Sink, K: Sink>(
     alloc: Global,
-    bytes: &[u8],
+    bytes: Seq<u8>,
     run: RunPlan,
     trace_file: Text,
     it: &Opened,
@@ -86,7 +86,7 @@ fn check_text<F: Followed, T: Grove, O: Sink, K: Sink>(
 ) -> Report
     requires opened { Opens (T.files tree.old) run it.now.rounds it.now.texts }
     requires fit { Fit it.now.rounds it.now.texts }
-    ensures answers { ChecksText F.means bytes.now run
+    ensures answers { ChecksText F.means bytes run
         (moment T.files T.faults T.lists tree.old (at O.written O.faults out.old) (at K.written K.faults err.old))
         (moment T.files T.faults T.lists tree.new (at O.written O.faults out.new) (at K.written K.faults err.new))
         result.status }
@@ -108,7 +108,7 @@ fn check_text<F: Followed, T: Grove, O: Sink, K: Sink>(
 /// Opens the rounds file of a plan, where there is one, and the scripts, and judges the text of a trace.
 fn check_opened<F: Followed, T: Grove, O: Sink, K: Sink>(
     alloc: Global,
-    bytes: &[u8],
+    bytes: Seq<u8>,
     run: RunPlan,
     trace_file: Text,
     tree: &mut T,
@@ -116,7 +116,7 @@ fn check_opened<F: Followed, T: Grove, O: Sink, K: Sink>(
     err: &mut K,
 ) -> Report
     requires few { run.rounds ≡ None → AreFew run.scripts }
-    ensures answers { ChecksText F.means bytes.now run
+    ensures answers { ChecksText F.means bytes run
         (moment T.files T.faults T.lists tree.old (at O.written O.faults out.old) (at K.written K.faults err.old))
         (moment T.files T.faults T.lists tree.new (at O.written O.faults out.new) (at K.written K.faults err.new))
         result.status }
@@ -156,9 +156,7 @@ pub fn check<F: Followed, T: Grove, O: Sink, K: Sink>(
         (moment T.files T.faults T.lists tree.new (at O.written O.faults out.new) (at K.written K.faults err.new)) }
 {
     match open_trace(alloc, tree, &trace_file) {
-        Ok(bytes) => {
-            check_opened::<F, T, O, K>(alloc, bytes.as_slice(), run, trace_file, tree, out, err)
-        }
+        Ok(bytes) => check_opened::<F, T, O, K>(alloc, bytes, run, trace_file, tree, out, err),
         Err(why) => unopened(alloc, why, plan_of(run, trace_file), err),
     }
 }

@@ -4,10 +4,9 @@ ghost use Rattle.tree_files.specs.Count.{Rose};
 ghost use Rattle.tree_files.specs.Files.{Files};
 ghost use Rattle.tree_overlay.specs.Kinds.{IsBelowRoot};
 ghost use Rattle.tree_overlay.specs.Told.{edited_told};
-ghost use Rattle.machine_shown.specs.Own as knowledge;
+ghost use Rattle.trace_check.specs.Threads.{list_of, pairs_of};
 ghost use Rattle.drive_follow.specs.Following.{Answers};
-ghost use Rattle.program_rounds.specs.Course.{told_in};
-ghost use Rattle.program_rounds.specs.Rounds.{opening_in};
+ghost use Rattle.program_rounds.specs.Rounds.{opening_in, told_in};
 ghost use Rattle.program_check.specs.Judge.{AreFollows, JudgesEntries};
 ghost use Rattle.program_check.specs.Opened.{Fit};
 
@@ -16,18 +15,17 @@ use crate::opened::Opened;
 use base_types::{Exact, NoMemory, Seq};
 use import_machine::Machine;
 use import_words::{Round, RunPlan};
-use machine_events::{Entry, Follow};
+use machine_events::{Entry, Follow, Pair};
 use program_rounds::{Ground, ground_for};
 use std::alloc::Global;
-use trace_check::{Verdict, own, replay, verdict};
+use trace_check::{Verdict, counts_of, own_lists, replay_shares, threads_of, verdict_in};
 use tree_files::{Edit, Grove, TreeFault};
 use tree_rounds::{absorb_fork, add_edits, edited_fork};
 
 /// A judged trace has fewer entries, so that the line behind the last one has a number of 32 bits.
 const MOST_ENTRIES: usize = 4_294_967_294;
 
-/// Compares what one script made in a history with what it means, over a fork of the tree after these
-/// edits.
+/// Compares what one script made with what it means, over a fork of the tree after these edits.
 fn follow_one<F: Followed, T: Grove>(
     alloc: Global,
     tree: &mut T,
@@ -35,18 +33,17 @@ fn follow_one<F: Followed, T: Grove>(
     script: u32,
     text: &[u8],
     fuel: u64,
-    entries: &[Entry],
+    own: &[Pair],
 ) -> Result<Follow, TreeFault>
     requires below { IsBelowRoot edits.now }
     ensures answers { IfSome (edited_told edits.now (T.files tree.old)) (λ files. IfOk result
-        (Answers files script (F.means script text.now) fuel (knowledge.own script entries.now))) }
+        (Answers files script (F.means script text.now) fuel (pairs_of own.now))) }
     ensures failed { IsErrOf result TreeFault.Failed → Rose (T.faults tree.old) (T.faults tree.new) }
     ensures files_stay { T.files tree.new ≡ T.files tree.old }
     ensures faults_grow { T.faults tree.old ≤ T.faults tree.new }
 {
-    let pairs = own(alloc, entries, script)?;
     let mut fork = edited_fork(alloc, tree, edits)?;
-    let answer = F::follow(alloc, &mut fork, script, text, fuel, pairs.as_slice());
+    let answer = F::follow(alloc, &mut fork, script, text, fuel, own);
     absorb_fork(tree, fork);
     answer
 }
@@ -59,14 +56,15 @@ fn follow_round<F: Followed, T: Grove>(
     from: u32,
     texts: &[Seq<u8>],
     fuel: u64,
-    entries: &[Entry],
+    lists: &[Seq<Pair>],
     follows: &mut Vec<Follow>,
 ) -> Result<(), TreeFault>
     requires below { IsBelowRoot edits.now }
     requires few { from + length texts.now ≤ 16 }
+    requires held { from + length texts.now ≤ length lists.now }
     ensures each { OnOk result ((trees : List (Option Files)) (before : List (List ℕ)) → from ≡ length before
-        → AreFollows F.means fuel entries.now 0 trees before follows.old.items
-        → AreFollows F.means fuel entries.now 0
+        → AreFollows F.means fuel (list_of lists.now) 0 trees before follows.old.items
+        → AreFollows F.means fuel (list_of lists.now) 0
         (trees ++ replicate (length texts.now) (edited_told edits.now (T.files tree.old))) (before ++ texts.now)
         follows.new.items) }
     ensures failed { IsErrOf result TreeFault.Failed → Rose (T.faults tree.old) (T.faults tree.new) }
@@ -76,7 +74,9 @@ fn follow_round<F: Followed, T: Grove>(
     for i in 0..texts.len() {
         let text = texts[i].as_slice();
         let script = from + i as u32;
-        let follow = follow_one::<F, T>(alloc, tree, edits, script, text, fuel, entries)?;
+        let at = script as usize;
+        let own = lists[at].as_slice();
+        let follow = follow_one::<F, T>(alloc, tree, edits, script, text, fuel, own)?;
         follows.push(follow)?;
     }
     Ok(())
@@ -90,18 +90,19 @@ fn follow_next<F: Followed, T: Grove>(
     round: &Round,
     texts: &[Seq<u8>],
     fuel: u64,
-    entries: &[Entry],
+    lists: &[Seq<Pair>],
     follows: &mut Vec<Follow>,
 ) -> Result<(), TreeFault>
     requires before { IsBelowRoot edits.old }
     requires below { IsBelowRoot round.now.edits }
     requires fits { length follows.old.items + length round.now.scripts ≤ length texts.now }
     requires few { length texts.now ≤ 16 }
+    requires held { length texts.now ≤ length lists.now }
     ensures edits { OnOk result (edits.new ≡ edits.old ++ round.now.edits) }
     ensures each { OnOk result ((trees : List (Option Files)) (before : List (List ℕ))
         → length follows.old.items ≡ length before
-        → AreFollows F.means fuel entries.now 0 trees before follows.old.items
-        → AreFollows F.means fuel entries.now 0
+        → AreFollows F.means fuel (list_of lists.now) 0 trees before follows.old.items
+        → AreFollows F.means fuel (list_of lists.now) 0
         (trees ++ replicate (length round.now.scripts) (edited_told edits.new (T.files tree.old)))
         (before ++ take (length round.now.scripts) (drop (length follows.old.items) texts.now)) follows.new.items) }
     ensures failed { IsErrOf result TreeFault.Failed → Rose (T.faults tree.old) (T.faults tree.new) }
@@ -113,7 +114,7 @@ fn follow_next<F: Followed, T: Grove>(
     let here = &texts[from..from + round.scripts.len()];
     let edits = edits.as_slice();
     let first = from as u32;
-    follow_round::<F, T>(alloc, tree, edits, first, here, fuel, entries, follows)
+    follow_round::<F, T>(alloc, tree, edits, first, here, fuel, lists, follows)
 }
 
 /// Compares each script of rounds, in their order, over the files of its own round.
@@ -123,10 +124,11 @@ fn follow_all<F: Followed, T: Grove>(
     rounds: &[Round],
     texts: &[Seq<u8>],
     fuel: u64,
-    entries: &[Entry],
+    lists: &[Seq<Pair>],
 ) -> Result<Vec<Follow>, TreeFault>
     requires fit { Fit rounds.now texts.now }
-    ensures each { IfOk result (λ it. AreFollows F.means fuel entries.now 0 (told_in (T.files tree.old) rounds.now)
+    requires held { length texts.now ≤ length lists.now }
+    ensures each { IfOk result (λ it. AreFollows F.means fuel (list_of lists.now) 0 (told_in (T.files tree.old) rounds.now)
         texts.now it.items) }
     ensures failed { IsErrOf result TreeFault.Failed → Rose (T.faults tree.old) (T.faults tree.new) }
     ensures files_stay { T.files tree.new ≡ T.files tree.old }
@@ -142,7 +144,7 @@ fn follow_all<F: Followed, T: Grove>(
             round,
             texts,
             fuel,
-            entries,
+            lists,
             &mut follows,
         )?;
     }
@@ -160,17 +162,18 @@ fn machine_of(alloc: Global, run: &RunPlan, it: &Opened) -> Result<Machine, NoMe
     Ok(machine)
 }
 
-/// Judges the entries of a trace. More of them than a judged trace has are want of memory.
+/// Judges the entries of a trace. More of them than a judged trace has are want of memory. Each entry goes
+/// to its thread, and is replayed after all scripts were compared: so the machine grows while the entries go.
 pub fn judge_entries<F: Followed, T: Grove>(
     alloc: Global,
     run: &RunPlan,
     it: &Opened,
     tree: &mut T,
-    entries: &[Entry],
+    entries: Seq<Entry>,
 ) -> Result<Verdict, TreeFault>
     requires fit { Fit it.now.rounds it.now.texts }
     ensures judges { IfOk result (JudgesEntries F.means (T.files tree.old) run.now it.now.rounds it.now.texts
-        entries.now) }
+        entries) }
     ensures failed { IsErrOf result TreeFault.Failed → Rose (T.faults tree.old) (T.faults tree.new) }
     ensures files_stay { T.files tree.new ≡ T.files tree.old }
     ensures faults_grow { T.faults tree.old ≤ T.faults tree.new }
@@ -178,10 +181,17 @@ pub fn judge_entries<F: Followed, T: Grove>(
     if entries.len() >= MOST_ENTRIES {
         return Err(TreeFault::NoMemory);
     }
-    let machine = machine_of(alloc, run, it)?;
-    let replayed = replay(machine, entries)?;
+    let history = entries.as_slice();
+    let counts = counts_of(history);
+    let threads = threads_of(alloc, history)?;
+    let order = threads.as_slice();
     let rounds = it.rounds.as_slice();
     let texts = it.texts.as_slice();
-    let follows = follow_all::<F, T>(alloc, tree, rounds, texts, run.fuel, entries)?;
-    Ok(verdict(entries, &replayed, follows.as_slice()))
+    let scripts = texts.len();
+    let lists = own_lists(alloc, entries, scripts)?;
+    let own = lists.as_slice();
+    let follows = follow_all::<F, T>(alloc, tree, rounds, texts, run.fuel, own)?;
+    let machine = machine_of(alloc, run, it)?;
+    let replayed = replay_shares(machine, order, lists, counts)?;
+    Ok(verdict_in(order, &replayed, follows.as_slice()))
 }

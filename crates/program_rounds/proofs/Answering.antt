@@ -29,6 +29,7 @@ use Rattle.program_run.specs.Counts.{lists_of}
 use Rattle.program_run.specs.Ends.{err_text, status_of}
 use Rattle.program_run.specs.Prints.{out_text}
 use Rattle.program_run.specs.Runs.{finished}
+use Rattle.program_run.specs.Together.{terms, AllActOn}
 use Rattle.program_run.specs.Scripts.{EachOpens}
 use Rattle.program_run.specs.Sinks.{At, Gets, Moment, Leaves, status_by}
 use Rattle.program_run.specs.declared.open.Unopened.{Unopened}
@@ -36,9 +37,10 @@ use Rattle.program_run.specs.declared.open.Unopened.TheVariants as unopened
 use Rattle.program_run.specs.declared.report.Report.{Report}
 use Rattle.program_run.specs.declared.report.Left.{Left}
 use Rattle.program_run.proofs.Answering.{act_since}
+use Rattle.program_run.proofs.Meaning.{acts_on_since}
 use Rattle.program_rounds.specs.Answers.{Answers, Asks, IsLater, Tells, in_rounds, rounds_plan}
 use Rattle.program_rounds.specs.Opened.{HasRounds, WantsRounds, EachRoundOpens, StopsIn}
-use Rattle.program_rounds.specs.Rounds.{AreBelowRoot, AreSingle, CanRun, is_single, scripts_of, sizes_of, opening_in}
+use Rattle.program_rounds.specs.Rounds.{AreBelowRoot, AreSingle, CanRun, is_single, scripts_of, sizes_of, told_in, opening_in}
 use Rattle.program_rounds.specs.Runs.{IsRun, EachActs, RunOver, HasRun, Gives}
 
 -- ---- what the words ask for
@@ -175,12 +177,16 @@ module _ (means : Means) (plan : RunPlan) (rounds : List Round) (texts : List (L
 
   run_from : (first old new : Moment) → IsLater first old → HasRun means plan rounds texts old new (finished h status) → HasRun means plan rounds texts first new (finished h status)
   run_from first old new since run =
-      let later = since.faults in
+      let same = since.faults in
+      let later : first.faults ≤ old.faults = omega (arith, same) in
       let fewer = since.lists in
       let reads = run.reads in
       record {
         legal = run.legal;
         runs = subst (λ (x : Option Files). IfSome x (λ files. RunOver means (setting files plan.fuel first.faults new.faults status) (opening_in plan rounds texts) rounds texts h)) since.files (by_since old.files first.faults old.faults new.faults later run.runs);
+        acts = subst (λ (x : Option Files). AllActOn means (terms plan.fuel first.faults new.faults status) 0 (told_in x rounds) texts h) since.files
+            (acts_on_since means plan.fuel status old.faults new.faults first.faults new.faults 0 (told_in old.files rounds) texts h (rose_since first.faults old.faults new.faults later) run.acts);
+        unfailed = λ unless none. (let stays = run.unfailed unless none in omega (arith, same, stays));
         reads = omega (arith, later, reads);
         lists = λ ended. (let bound = run.lists ended in omega (arith, bound, fewer));
         ends = run.ends;
@@ -197,13 +203,12 @@ module _ (means : Means) (plan : RunPlan) (rounds : List Round) (texts : List (L
       }
 
 -- a little later still
-pub later_since : {first old new : Moment} → IsLater first old → new.files ≡ old.files → old.faults ≤ new.faults → new.lists ≤ old.lists → new.out ≡ old.out → new.err ≡ old.err → IsLater first new
+pub later_since : {first old new : Moment} → IsLater first old → new.files ≡ old.files → new.faults ≡ old.faults → new.lists ≤ old.lists → new.out ≡ old.out → new.err ≡ old.err → IsLater first new
 later_since {first} {old} {new} since files faults lists out err =
-    let grown = since.faults in
     let fewer = since.lists in
     record {
       files = files ∙ since.files;
-      faults = omega (arith, grown, faults);
+      faults = faults ∙ since.faults;
       lists = omega (arith, fewer, lists);
       out = out ∙ since.out;
       err = err ∙ since.err;
@@ -223,7 +228,7 @@ pub ends_unopened : (means : Means) (words : List Word) (first old new : Moment)
     → HasRounds first.files file rounds → StopsIn old.files rounds old.faults new.faults why → Tells why first new report.status → Answers means words first new report
 ends_unopened means words first old new report run file rounds (unopened.Refused line) since asks none has stops tells =
     Answers.unopened run file rounds line.items asks none has (subst (λ (t : Option Files). StopsIn t rounds old.faults new.faults (unopened.Refused line)) since.files stops) tells
-ends_unopened means words first old new report run file rounds unopened.Unread since asks none has stops tells = Answers.unread run file asks none (rose_since first.faults old.faults new.faults since.faults stops) tells
+ends_unopened means words first old new report run file rounds unopened.Unread since asks none has stops tells = Answers.unread run file asks none (rose_since first.faults old.faults new.faults (let same = since.faults in omega (arith, same)) stops) tells
 ends_unopened means words first old new report run file rounds unopened.NoMemory since asks none has stops tells = Answers.short run file asks none tells.0 tells.1 tells.2
 
 -- the scripts were opened, and then run

@@ -9,12 +9,12 @@ use Rattle.std.proofs.lemmas.List.Folds.{list_all-append}
 use Rattle.std.proofs.Math.Seq.{take-add}
 use Rattle.base_types.specs.declared.no_memory.NoMemory.{NoMemory}
 use Rattle.tree_files.specs.Files.{Files}
-use Rattle.tree_files.specs.Count.{Rose, raised}
+use Rattle.tree_files.specs.Count.{Rose}
 use Rattle.tree_files.specs.declared.edit.Edit.{Edit}
 use Rattle.tree_overlay.specs.Kinds.{IsBelowRoot, is_below_root}
 use Rattle.tree_overlay.specs.Told.{edited_told}
 use Rattle.tree_overlay.proofs.Overlaid.{told_append}
-use Rattle.tree_rounds.specs.Rounds.{total}
+use Rattle.tree_rounds.specs.Rounds.{Absorbed, total}
 use Rattle.words_rounds.specs.declared.rounds.Round.{Round}
 use Rattle.machine_events.specs.declared.event.Event.{Event}
 use Rattle.machine_events.specs.declared.event.Reply.{Reply}
@@ -27,12 +27,11 @@ use Rattle.machine_desk.specs.Outgo.{Outgo, Pieces, Kept}
 use Rattle.machine_desk.proofs.Keeping.{kept_none, kept_then}
 use Rattle.machine_shown.specs.Own.{own, HasEnded, Ready}
 use Rattle.meaning_runs.specs.Runs.{Run}
-use Rattle.meaning_runs.specs.Follows.{IsPart}
 use Rattle.meaning_runs.specs.Lists.{ends_in}
-use Rattle.meaning_runs.proofs.Stand.{part, stands_start}
 use Rattle.meaning_solo.proofs.Parts.{own_append, own_other}
 use Rattle.drive_account.specs.declared.end.Ending.{Ending}
-use Rattle.drive_account.specs.Ending.{Ended, in_run, outcome}
+use Rattle.drive_account.specs.Ending.{outcome}
+use Rattle.drive_account.proofs.Meant.{if_meant_none, if_broken_none, broken_first}
 use Rattle.drive_round.specs.Ran.{Counts, counted, no_counts, IsNewTree, Pairs, Ran, Results, Runs, AllRan, MayBegin, ThreadsRan}
 use Rattle.drive_rounds.specs.Played.{NoneBegan}
 use Rattle.drive_rounds.proofs.Playing.{has_ended}
@@ -43,10 +42,10 @@ use Rattle.program_run.specs.Alone.{Means}
 use Rattle.program_run.specs.Results.{AreWhole}
 use Rattle.program_run.specs.Together.{Mean}
 use Rattle.program_run.proofs.Threads.{many_mean}
-use Rattle.program_rounds.specs.Rounds.{CanRun, scripts_of, sizes_of}
+use Rattle.program_rounds.specs.Rounds.{CanRun, scripts_of, sizes_of, told_in}
 use Rattle.program_rounds.specs.Opened.{files_after}
 use Rattle.program_rounds.specs.Runs.{meanings}
-use Rattle.program_rounds.specs.Course.{told_in, EachRan, TookIn, RoundRanOver, Under, texts_of, HasCome, MayGoOn}
+use Rattle.program_rounds.specs.Course.{EachRan, TookIn, RoundRanOver, Under, texts_of, HasCome, MayGoOn}
 use Rattle.program_rounds.proofs.Begun.{next_round, scripts_more}
 use Rattle.program_rounds.proofs.Opening.{after_more, told_same}
 
@@ -84,10 +83,11 @@ module _ (fuel : ℕ) where
       faults = ran.faults;
       lists = ran.lists;
       goes_on = ran.goes_on;
-      ended = ran.ended;
+      meant = if_meant_none tree t run fuel mine came ran.meant;
       follows = λ files is. absurd (cc is);
-      part = λ files is. absurd (cc is);
+      part = if_broken_none tree t run fuel mine 0 new.faults came ran.part;
       read = ran.read;
+      unfailed = ran.unfailed;
     }
 
     -- whatever their files are
@@ -106,10 +106,11 @@ module _ (fuel : ℕ) where
           faults = omega arith;
           lists = tt;
           goes_on = ap ends_in quiet;
-          ended = tt;
+          meant = tt;
           follows = λ files is. tt;
-          part = λ files is. in_run (subst (λ (mine : Pairs). IsPart files t (run t) fuel mine) (sym quiet) (part files t (record { budget = fuel; rest = run t; stands = stands_start (run t) fuel })));
+          part = broken_first 0 0 quiet;
           read = tt;
+          unfailed = tt;
         } in
         EachRan.more t tree trees run runs no_counts (replicate (length trees) no_counts) (Err (record {})) (replicate (length trees) (Err (record {}))) here
         (each_idle (suc t) trees runs (omega (arith, many)) (λ u le. later u (omega (arith, le))))
@@ -119,7 +120,7 @@ module _ (fuel : ℕ) where
     each_ended (EachRan.none t) whole u low high = absurd (omega (arith, low, high))
     each_ended (EachRan.more t tree trees run runs new counts (Err e) came ran rest) whole u low high = absurd whole
     each_ended (EachRan.more t tree trees run runs new counts (Ok it) came ran rest) whole u low high =
-        ⊎_elim (λ (same : t ≡ u). subst (HasEnded h) same (has_ended t h ran.ended.before (outcome it) ran.ended.paid ran.ended.whole)) (λ (above : suc t ≤ u). each_ended {t = suc t} rest whole u above (omega (arith, high))) (here t u low)
+        ⊎_elim (λ (same : t ≡ u). subst (HasEnded h) same (has_ended t h ran.meant.before (outcome it) ran.meant.paid ran.meant.whole)) (λ (above : suc t ≤ u). each_ended {t = suc t} rest whole u above (omega (arith, high))) (here t u low)
       where
         here : (t u : ℕ) → t ≤ u → (t ≡ u) ⊎ (suc t ≤ u)
         here zero zero le = inl refl
@@ -190,9 +191,9 @@ total_map count tally [] = refl
 total_map count tally (x ∷ xs) = ap (λ (n : ℕ). count (tally x) + n) (total_map count tally xs)
 
 -- the tree took in what forks counted
-pub took_by : {F : Type 0} (faults lists : F → ℕ) (old new : Counts) (forks : List F) → raised old.faults (total faults forks) ≤ new.faults → new.lists ≤ old.lists + total lists forks → TookIn old new (map (counted faults lists) forks)
+pub took_by : {F : Type 0} (faults lists : F → ℕ) (old new : Counts) (forks : List F) → Absorbed old.faults (total faults forks) new.faults → new.lists ≤ old.lists + total lists forks → TookIn old new (map (counted faults lists) forks)
 took_by faults lists old new forks took listed = record {
-  faults = subst (λ (n : ℕ). raised old.faults n ≤ new.faults) (sym (total_map (λ (c : Counts). c.faults) (counted faults lists) forks)) took;
+  faults = subst (λ (n : ℕ). Absorbed old.faults n new.faults) (sym (total_map (λ (c : Counts). c.faults) (counted faults lists) forks)) took;
   lists = subst (λ (n : ℕ). new.lists ≤ old.lists + n) (sym (total_map (λ (c : Counts). c.lists) (counted faults lists) forks)) listed;
 }
 
@@ -200,17 +201,26 @@ pub took_more : (old mid new : Counts) (counts counts' : List Counts) → TookIn
 took_more old mid new counts counts' a b =
     let faults = total_append (λ (c : Counts). c.faults) counts counts' in
     let lists = total_append (λ (c : Counts). c.lists) counts counts' in
-    let a1 = a.faults in
+    let a1 = a.faults.least in
     let a2 = a.lists in
-    let b1 = b.faults in
+    let b1 = b.faults.least in
     let b2 = b.lists in
-    record { faults = omega (arith, faults, a1, b1); lists = omega (arith, lists, a2, b2) }
+    record {
+      faults = record {
+        least = omega (arith, faults, a1, b1);
+        none = λ none.
+            let first = a.faults.none (omega (arith, faults, none)) in
+            let rest = b.faults.none (omega (arith, faults, none)) in
+            omega (arith, first, rest);
+      };
+      lists = omega (arith, lists, a2, b2);
+    }
 
 pub took_none : (old : Counts) (n : ℕ) → TookIn old old (replicate n no_counts)
 took_none old n =
     let faults = total_none (λ (c : Counts). c.faults) refl n in
     let lists = total_none (λ (c : Counts). c.lists) refl n in
-    record { faults = omega (arith, faults); lists = omega (arith, lists) }
+    record { faults = record { least = omega (arith, faults); none = λ none. omega arith }; lists = omega (arith, lists) }
 
 -- ---- one round more
 

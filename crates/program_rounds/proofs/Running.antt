@@ -1,5 +1,5 @@
 -- From rounds that were played to what a run of them leaves.
-use Rattle.std.proofs.Common.{◌≡◌, ◌≤◌, ◌⊎◌, inl, inr, ℕ, zero, suc, ◌+◌, List, [], ◌∷◌, ◌++◌, length, map, take, drop, Option, Some, None, Ok, Err, IfOk, OnOk, refl, sym, ap, subst, ◌∙◌, arith}
+use Rattle.std.proofs.Common.{◌≡◌, ◌≤◌, ◌⊎◌, inl, inr, ℕ, zero, suc, ◌+◌, List, [], ◌∷◌, ◌++◌, length, map, take, drop, Option, Some, None, Ok, Err, IfOk, OnOk, OnErr, refl, sym, ap, subst, ◌∙◌, arith}
 use Rattle.std.specs.Prelude.{replicate, IfSome}
 use Rattle.std.specs.List.{AllByRecursion, sum}
 use Rattle.std.proofs.lemmas.List.{length-map}
@@ -24,7 +24,8 @@ use Rattle.meaning_runs.specs.Runs.{Run, Safe}
 use Rattle.meaning_runs.specs.Lists.{lists_in}
 use Rattle.meaning_solo.specs.Solo.{AreAlone}
 use Rattle.meaning_solo.proofs.Alone.{alone_by}
-use Rattle.drive_account.specs.Ending.{IsRead}
+use Rattle.drive_account.specs.Ending.{Broken, IsRead}
+use Rattle.drive_account.proofs.Meant.{if_meant_none, if_broken_none}
 use Rattle.drive_round.specs.Ran.{Ran, RanOver, Counts, counted, no_counts, Runs, AllRan}
 use Rattle.drive_rounds.specs.Played.{AllPlayed, none, more}
 use Rattle.drive_rounds.specs.Solo as drive
@@ -39,11 +40,12 @@ use Rattle.program_run.specs.Counts.{reads_of, lists_of, HaveEnds}
 use Rattle.program_run.specs.Alone.{Means, setting}
 use Rattle.program_run.specs.Results.{Came, AreWhole, AllEnded}
 use Rattle.program_run.specs.Runs.{finished}
-use Rattle.program_run.specs.Together.{Mean}
+use Rattle.program_run.specs.Together.{Mean, terms, ActsOn, AllActOn}
 use Rattle.program_run.proofs.Counting.{faults_in, lists_counted, reads_from, lists_from}
 use Rattle.program_run.proofs.Lone.{begun_by}
+use Rattle.program_run.proofs.Meaning.{act_on, whole_rest, all_unfailed}
 use Rattle.program_run.proofs.Threads.{ends_by, many_mean, many_ran, ended_ran}
-use Rattle.program_rounds.specs.Rounds.{AreSingle, scripts_of, sizes_of, edits_of, trees_of, opening_in}
+use Rattle.program_rounds.specs.Rounds.{AreSingle, scripts_of, sizes_of, edits_of, trees_of, told_in, opening_in}
 use Rattle.program_rounds.specs.Runs.{IsRun, RunOver, HasRun, meanings}
 use Rattle.program_rounds.proofs.Begun.{each_one, many_scripts, many_sizes}
 
@@ -152,10 +154,11 @@ module _ {F : Type 0} (told : F → Option Files) (faults lists : F → ℕ) whe
       faults = omega arith;
       lists = subst (λ (n : ℕ). OnOk came (lists new ≤ n + lists_in (own t h))) l ran.lists;
       goes_on = ran.goes_on;
-      ended = ran.ended;
+      meant = if_meant_none (told old) t run fuel (own t h) came ran.meant;
       follows = λ files is. absurd (cc is);
-      part = λ files is. absurd (cc is);
+      part = if_broken_none (told old) t run fuel (own t h) 0 (faults new) came (subst (λ (n : ℕ). OnErr came (Broken (told old) t run fuel (own t h) n (faults new))) f ran.part);
       read = subst (λ (n : ℕ). IfOk came (λ e. IsRead e → Rose n (faults new))) f ran.read;
+      unfailed = subst (λ (n : ℕ). IfOk came (λ e. (IsRead e → ⊥) → faults new ≡ n)) f ran.unfailed;
     }
 
     all_ran : {t : ℕ} {runs : Runs} {olds news : List F} {results : List Came} → AreNew olds → AllPlayed told faults lists fuel h t runs olds news results → AllRan None t runs fuel h (counts_of news) results
@@ -171,6 +174,28 @@ module _ {F : Type 0} (told : F → Option Files) (faults lists : F → ℕ) whe
     rises old new total fresh some rise (more t run runs a b olds news came results ran stays later rest) =
         let none_yet : faults a ≡ 0 = fresh.0 in
         (λ rose. omega (arith, some, rise, rose, none_yet), rises {t = t + 1} old new total fresh.2 (omega (arith, some)) rise rest)
+
+    -- no program is played without a fork
+    none_played : {t : ℕ} {run : ℕ → Run} {runs : Runs} {olds news : List F} {results : List Came} (tree : Option Files) → AllPlayed told faults lists fuel h t (run ∷ runs) olds news results → trees.AreForks told faults lists tree [] olds → ⊥
+    none_played tree (more t r runs a b olds news came results ran stays later rest) are = are
+
+    -- each acts by its meaning on some answers of its fork
+    acts_alone : (means : Means) {P : Type 0} (run : P → ℕ → Run) (old new status total : ℕ) → raised old total ≤ new → {t : ℕ} {olds news : List F} {results : List Came} (tree : Option Files) (rounds : List Round) → AreSingle rounds → (texts : List (List ℕ)) (programs : List P)
+        → Mean run means texts programs → trees.AreForks told faults lists tree (edits_of rounds) olds → trees.total faults news ≤ total → AllPlayed told faults lists fuel h t (map run programs) olds news results → (status ≡ want_of_memory) ⊎ AreWhole results
+        → AllActOn means (terms fuel old new status) t (told_in tree rounds) texts h
+    acts_alone means run old new status total rise tree rounds single [] programs mean are some played w = tt
+    acts_alone means run old new status total rise tree rounds single (x ∷ texts) [] mean are some played w = absurd mean
+    acts_alone means run old new status total rise tree [] single (x ∷ texts) (p ∷ programs) mean are some played w = absurd (none_played tree played are)
+    acts_alone means run old new status total rise tree (round ∷ rounds) single (x ∷ texts) (p ∷ programs) mean are some (more t r runs a b olds news came results ran stays later rest) w =
+        let here : Option Files = edited_told round.edits tree in
+        let next : t + 1 ≡ suc t = omega arith in
+        let zero : faults a ≡ 0 = are.1 in
+        let acts : ActsOn (terms fuel old new status) (told a) t (means t x) (own t h) = act_on fuel old new status (told a) t (own t h) (faults a) (faults b) came results (mean.0 t) (λ rose. omega (arith, some, rise, rose, zero)) ran.meant ran.part w in
+        let behind : AllActOn means (terms fuel old new status) (suc t) (told_in here rounds) texts h =
+        subst (λ (n : ℕ). AllActOn means (terms fuel old new status) n (told_in here rounds) texts h) next
+        (acts_alone means run old new status total rise {t = t + 1} here rounds single.1 texts programs mean.1 are.3 (omega (arith, some)) rest (whole_rest status came results w)) in
+        subst (λ (n : ℕ). AllActOn means (terms fuel old new status) t (replicate n here ++ told_in here rounds) (x ∷ texts) h) (sym single.0)
+        (subst (λ (o : Option Files). ActsOn (terms fuel old new status) o t (means t x) (own t h)) are.0 acts, behind)
 
     pub ended_played : {runs : Runs} {news : List F} {results : List Came} (tree : Option Files) (edits : List (List Edit)) (olds : List F) → trees.AreForks told faults lists tree edits olds → AllPlayed told faults lists fuel h 0 runs olds news results → AllEnded 0 results h
     ended_played {runs} {news} {results} tree edits olds forks played = ended_ran None fuel h 0 runs (counts_of news) results (all_ran (are_new tree edits olds forks) played)
@@ -217,7 +242,7 @@ module _ (means : Means) (safe : (t : ℕ) (text : List ℕ) → Safe (shown_fir
       (run_of files
       (is_run told faults lists (begun_by opening can) (trees.trees_of files (edits_of rounds)) (map run programs) plan.fuel h olds news results old.faults new.faults (alone_in opening can all) many
       (told_by told faults lists files (edits_of rounds) olds forks) (safe_by run means safe texts programs mean) legal
-      (rises told faults lists plan.fuel h old.faults new.faults (trees.total faults news) (are_new told faults lists (Some files) (edits_of rounds) olds forks) (omega arith) took played) played))
+      (rises told faults lists plan.fuel h old.faults new.faults (trees.total faults news) (are_new told faults lists (Some files) (edits_of rounds) olds forks) (omega arith) took.least played) played))
 
   by_told : (tree : Option Files) → trees.AreForks told faults lists tree (edits_of rounds) olds → IfSome tree (λ files. RunOver means (setting files plan.fuel old.faults new.faults status) (opening_in plan rounds texts) rounds texts h)
   by_told None forks = tt
@@ -230,14 +255,19 @@ module _ (means : Means) (safe : (t : ℕ) (text : List ℕ) → Safe (shown_fir
       let many : 0 + length results ≡ length (scripts_of rounds) =
       (let a = many_played told faults lists plan.fuel h played in let b = length-map programs run in let c = many_mean run means texts programs mean in let d = many_scripts rounds single in omega (arith, a, b, c, d, as_many)) in
       let fsum = faults_total told faults lists news in
+      let least = took.least in
       let lsum = lists_total told faults lists news in
       record {
         legal = subst (λ (s : State). IsLegal s h) is legal;
         runs = by_told old.files forks;
+        acts = acts_alone told faults lists plan.fuel h means run old.faults new.faults status (trees.total faults news) took.least old.files rounds single texts programs mean forks (omega arith) played w;
+        unfailed = λ unless none.
+            let zero = all_unfailed None plan.fuel h (map run programs) (counts_of told faults lists news) results status (length (scripts_of rounds)) all (omega (arith, many)) w unless none in
+            took.none (omega (arith, zero, fsum));
         reads =
             let same : reads_of (0 + length results) h ≡ reads_of (length (scripts_of rounds)) h = ap (λ (n : ℕ). reads_of n h) many in
             let read = reads_from None plan.fuel h 0 (map run programs) (counts_of told faults lists news) results all in
-            omega (arith, same, read, fsum, took);
+            omega (arith, same, read, fsum, least);
         lists = λ ended.
             let same : lists_of (0 + length results) h ≡ lists_of (length (scripts_of rounds)) h = ap (λ (n : ℕ). lists_of n h) many in
             let bound = (lists_from None plan.fuel h 0 (map run programs) (counts_of told faults lists news) results all (subst (λ (n : ℕ). HaveEnds n h) (sym many) ended)).0 in

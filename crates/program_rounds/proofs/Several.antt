@@ -1,5 +1,5 @@
 -- What a run of rounds of several scripts leaves.
-use Rattle.std.proofs.Common.{◌≡◌, ◌≤◌, ◌⊎◌, inl, inr, ℕ, zero, suc, ◌+◌, List, [], ◌∷◌, ◌++◌, length, map, take, Option, Some, None, Ok, Err, refl, sym, ap, subst, ◌∙◌, arith}
+use Rattle.std.proofs.Common.{◌≡◌, ◌≤◌, ◌⊎◌, inl, inr, ℕ, zero, suc, ◌+◌, List, [], ◌∷◌, ◌++◌, length, map, take, Option, Some, None, Ok, Err, OnErr, refl, sym, ap, subst, ◌∙◌, arith}
 use Rattle.std.specs.Prelude.{replicate, IfSome, IsSomeAnd}
 use Rattle.std.proofs.lemmas.List.{map-append}
 use Rattle.std.proofs.Math.Seq.{take-length}
@@ -17,6 +17,8 @@ use Rattle.machine_spec.specs.Legal.{IsLegal}
 use Rattle.machine_book.specs.Bound.{BoundTo}
 use Rattle.machine_desk.specs.Outgo.{Outgo, Pieces, Kept}
 use Rattle.meaning_runs.specs.Runs.{Run}
+use Rattle.machine_shown.specs.Own.{own}
+use Rattle.drive_account.specs.Ending.{Broken}
 use Rattle.drive_round.specs.Ran.{Counts, Results, Runs}
 use Rattle.import_words.specs.declared.plan.RunPlan.{RunPlan}
 use Rattle.program_run.specs.Statuses.{sink_fault, want_of_memory}
@@ -27,12 +29,14 @@ use Rattle.program_run.specs.Counts.{reads_of, lists_of, HaveEnds}
 use Rattle.program_run.specs.Alone.{Means, setting}
 use Rattle.program_run.specs.Results.{AllEnded, AreWhole}
 use Rattle.program_run.specs.Runs.{finished}
+use Rattle.program_run.specs.Together.{terms, AllActOn}
 use Rattle.program_run.proofs.Counting.{tree_counts, faults_in, lists_counted, reads_from, lists_from}
-use Rattle.program_run.proofs.Threads.{act_of, ended_ran, ends_by, whole_rest}
-use Rattle.program_rounds.specs.Rounds.{AreSingle, scripts_of, trees_of, opening_in}
+use Rattle.program_run.proofs.Meaning.{act_on, all_unfailed, rose_up, whole_rest}
+use Rattle.program_run.proofs.Threads.{act_of, ended_ran, ends_by}
+use Rattle.program_rounds.specs.Rounds.{AreSingle, scripts_of, trees_of, told_in, opening_in}
 use Rattle.program_rounds.specs.Opened.{files_after}
 use Rattle.program_rounds.specs.Runs.{EachActs, RunOver, HasRun, meanings}
-use Rattle.program_rounds.specs.Course.{told_in, EachRan, HasCome, HasLeft, Under}
+use Rattle.program_rounds.specs.Course.{EachRan, HasCome, HasLeft, Under}
 use Rattle.program_rounds.proofs.Coursing.{all_none, each_many, many_told}
 
 faults_same : (counts : List Counts) → faults_in counts ≡ total (λ (c : Counts). c.faults) counts
@@ -67,8 +71,22 @@ module _ (means : Means) (files : Files) (fuel old new status : ℕ) (h : List E
       let tree_is : tree ≡ Some f = cc is in
       let behind : told ≡ map (λ (g : Files). Some g) trees = cc is in
       let run_is : run t ≡ means t x = ap (λ (k : ℕ → Run). k t) (heads_same run (λ u. means u x) runs (meanings means texts) runs_are) in
-      EachActs.more t f trees x texts (act_of f means fuel old new status h t (run t) (means t x) r came c.faults all run_is (omega (arith, some)) rise (ran.follows f tree_is) (ran.part f tree_is) w)
-      (acts_each {t = suc t} rest trees texts behind (cc runs_are) (omega (arith, some)) (whole_rest f means fuel old new status h r came w))
+      EachActs.more t f trees x texts (act_of f means fuel old new status h t (run t) (means t x) r came c.faults all run_is (omega (arith, some)) rise (ran.follows f tree_is) (subst (λ (o : Option Files). OnErr r (Broken o t (run t) fuel (own t h) 0 c.faults)) tree_is ran.part) w)
+      (acts_each {t = suc t} rest trees texts behind (cc runs_are) (omega (arith, some)) (whole_rest status r came w))
+    where
+      heads_same : (a b : ℕ → Run) (one other : Runs) → a ∷ one ≡ b ∷ other → a ≡ b
+      heads_same a b one other e = cc e
+
+module _ (means : Means) (fuel old new status : ℕ) (h : List Entry) (all : ℕ) (rise : raised old all ≤ new) where
+  -- whatever the trees tell
+  acts_told : {t : ℕ} {told : List (Option Files)} {runs : Runs} {counts : List Counts} {came : Results} → EachRan fuel h t told runs counts came → (texts : List (List ℕ)) → runs ≡ meanings means texts → faults_in counts ≤ all → (status ≡ want_of_memory) ⊎ AreWhole came
+      → AllActOn means (terms fuel old new status) t told texts h
+  acts_told (EachRan.none t) [] runs_are some w = tt
+  acts_told (EachRan.none t) (x ∷ texts) runs_are some w = absurd (cc runs_are)
+  acts_told (EachRan.more t tree told run runs c counts r came ran rest) [] runs_are some w = tt
+  acts_told (EachRan.more t tree told run runs c counts r came ran rest) (x ∷ texts) runs_are some w =
+      let run_is : run t ≡ means t x = ap (λ (k : ℕ → Run). k t) (heads_same run (λ u. means u x) runs (meanings means texts) runs_are) in
+      (act_on fuel old new status tree t (own t h) 0 c.faults r came run_is (rose_up old new c.faults all (omega (arith, some)) rise) ran.meant ran.part w, acts_told {t = suc t} rest texts (cc runs_are) (omega (arith, some)) (whole_rest status r came w))
     where
       heads_same : (a b : ℕ → Run) (one other : Runs) → a ∷ one ≡ b ∷ other → a ≡ b
       heads_same a b one other e = cc e
@@ -139,11 +157,17 @@ has_run_together means plan rounds texts old new h status results items several 
     let many : 0 + length left.came ≡ length (scripts_of rounds) = (let a = each_many plan.fuel h left.threads in let b = many_told old.files rounds in omega (arith, a, b)) in
     let fsum = faults_same left.counts in
     let lsum = lists_same left.counts in
-    let took = left.took.faults in
+    let took = left.took.faults.least in
     let listed = left.took.lists in
     record {
       legal = legal;
       runs = by_told old.files refl;
+      acts = acts_told means plan.fuel old.faults new.faults status h (faults_in left.counts) (omega (arith, fsum, took)) left.threads texts refl (omega arith)
+          (whole_left means old.files plan.fuel rounds texts (tree_counts old) (tree_counts new) h results items left status w);
+      unfailed = λ unless none.
+          let zero = all_unfailed None plan.fuel h (meanings means texts) left.counts left.came status (length (scripts_of rounds)) all (omega (arith, many))
+          (whole_left means old.files plan.fuel rounds texts (tree_counts old) (tree_counts new) h results items left status w) unless none in
+          left.took.faults.none (omega (arith, zero, fsum));
       reads =
           let same : reads_of (0 + length left.came) h ≡ reads_of (length (scripts_of rounds)) h = ap (λ (n : ℕ). reads_of n h) many in
           let read = reads_from None plan.fuel h 0 (meanings means texts) left.counts left.came all in
@@ -160,7 +184,7 @@ has_run_together means plan rounds texts old new h status results items several 
     by_told None is = tt
     by_told (Some files) is =
         let sum = faults_same left.counts in
-        let took = left.took.faults in
+        let took = left.took.faults.least in
         let told : told_in old.files rounds ≡ map (λ (f : Files). Some f) (trees_of files rounds) = ap (λ (t : Option Files). told_in t rounds) is ∙ told_some files rounds in
         RunOver.together several (acts_each means files plan.fuel old.faults new.faults status h (faults_in left.counts) (omega (arith, sum, took)) left.threads (trees_of files rounds) texts told refl (omega arith)
         (whole_left means old.files plan.fuel rounds texts (tree_counts old) (tree_counts new) h results items left status w))

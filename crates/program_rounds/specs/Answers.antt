@@ -42,11 +42,11 @@ Tells why.Unread old new status =
     Leaves (status_by tree_fault sink_fault) [] (codes "pyimport: file fault" ++ 10 ∷ []) old new status
 Tells why.NoMemory old new status = (status ≡ want_of_memory) × (new.out ≡ old.out) × (new.err ≡ old.err)
 
--- between these moments calls of the tree may have failed, and its count of lists, where it stood past the greatest
--- u64, may have been cut to that; nothing else has changed
+-- between these moments no call of the tree failed; its count of lists, where it stood past the greatest u64, may have
+-- been cut to that, and nothing else has changed
 pub record IsLater (first now : Moment) : Type 0 where
   pub files : now.files ≡ first.files
-  pub faults : first.faults ≤ now.faults
+  pub faults : now.faults ≡ first.faults
   pub lists : now.lists ≤ first.lists
   pub out : now.out ≡ first.out
   pub err : now.err ≡ first.err

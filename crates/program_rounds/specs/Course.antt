@@ -1,12 +1,11 @@
 -- How far rounds of several scripts have come, one after another on one book.
-use Rattle.std.specs.Prelude.{◌≡◌, ◌≤◌, ℕ, ◌+◌, suc, List, [], ◌∷◌, ◌++◌, length, replicate, take, Option, Result, IfSome}
+use Rattle.std.specs.Prelude.{◌≡◌, ◌≤◌, ℕ, ◌+◌, suc, List, [], ◌∷◌, ◌++◌, length, take, Option, Result, IfSome}
 use Rattle.base_types.specs.declared.no_memory.NoMemory.{NoMemory}
-use Rattle.tree_files.specs.Count.{raised}
 use Rattle.tree_files.specs.Files.{Files}
 use Rattle.tree_files.specs.declared.edit.Edit.{Edit}
 use Rattle.tree_overlay.specs.Kinds.{IsBelowRoot}
 use Rattle.tree_overlay.specs.Told.{edited_told}
-use Rattle.tree_rounds.specs.Rounds.{total}
+use Rattle.tree_rounds.specs.Rounds.{Absorbed, total}
 use Rattle.words_rounds.specs.declared.rounds.Round.{Round}
 use Rattle.machine_events.specs.declared.event.Entry.{Entry}
 use Rattle.machine_spec.specs.declared.state.State.{State}
@@ -19,15 +18,9 @@ use Rattle.drive_round.specs.Ran.{Counts, no_counts, Ran, Results, Runs, MayBegi
 use Rattle.drive_rounds.specs.Played.{NoneBegan}
 use Rattle.program_run.specs.Alone.{Means}
 use Rattle.program_run.specs.Results.{AreWhole}
-use Rattle.program_rounds.specs.Rounds.{scripts_of}
+use Rattle.program_rounds.specs.Rounds.{scripts_of, told_in}
 use Rattle.program_rounds.specs.Opened.{files_after}
 use Rattle.program_rounds.specs.Runs.{meanings}
-
--- for each script what a tree tells after all edits of all rounds up to its own, in order
-abbrev pub told_in : Option Files → List Round → List (Option Files)
-told_in tree [] = []
-told_in tree (round ∷ rounds) =
-    replicate (length round.scripts) (edited_told round.edits tree) ++ told_in (edited_told round.edits tree) rounds
 
 -- threads from number t on have run in this history, each over a tree with these files that had counted nothing, and
 -- then this
@@ -43,7 +36,7 @@ pub data EachRan (fuel : ℕ) (history : List Entry) : ℕ → List (Option File
 
 -- from these counts of a tree to those it took in what others counted
 pub record TookIn (old new : Counts) (counts : List Counts) : Type 0 where
-  pub faults : raised old.faults (total (λ c. c.faults) counts) ≤ new.faults
+  pub faults : Absorbed old.faults (total (λ c. c.faults) counts) new.faults
   pub lists : new.lists ≤ old.lists + total (λ c. c.lists) counts
 
 -- one round ran on a book, over forks with these files, and the tree took in what they counted

@@ -1,10 +1,11 @@
 -- What the rounds of a run say of its scripts.
-use Rattle.std.specs.Prelude.{◌≡◌, ◌≤◌, ◌==◌, Bool, ℕ, List, [], ◌∷◌, ◌++◌, length, map, replicate}
+use Rattle.std.specs.Prelude.{◌≡◌, ◌≤◌, ◌==◌, Bool, ℕ, List, [], ◌∷◌, ◌++◌, length, map, replicate, Option}
 use Rattle.std.specs.List.{AllByRecursion}
 use Rattle.tree_files.specs.Files.{Files}
 use Rattle.tree_files.specs.Edits.{edited}
 use Rattle.tree_files.specs.declared.edit.Edit.{Edit}
 use Rattle.tree_overlay.specs.Kinds.{IsBelowRoot}
+use Rattle.tree_overlay.specs.Told.{edited_told}
 use Rattle.words_rounds.specs.declared.rounds.Round.{Round}
 use Rattle.machine_spec.specs.declared.state.State.{State}
 use Rattle.machine_spec.specs.Opening.{opening}
@@ -52,6 +53,12 @@ abbrev pub trees_of : Files → List Round → List Files
 trees_of files [] = []
 trees_of files (round ∷ rounds) =
     replicate (length round.scripts) (edited files round.edits) ++ trees_of (edited files round.edits) rounds
+
+-- for each script what a tree tells after all edits of all rounds up to its own, in order
+abbrev pub told_in : Option Files → List Round → List (Option Files)
+told_in tree [] = []
+told_in tree (round ∷ rounds) =
+    replicate (length round.scripts) (edited_told round.edits tree) ++ told_in (edited_told round.edits tree) rounds
 
 -- the state before the first event, from the plan, the rounds and the texts of the scripts
 abbrev pub opening_in : RunPlan → List Round → List (List ℕ) → State

@@ -1,5 +1,5 @@
 -- What a run of rounds leaves: its history, and what both sinks have got.
-use Rattle.std.specs.Prelude.{◌≡◌, ℕ, suc, List, [], ◌∷◌, ◌++◌, map, IfSome, MatchOption, length}
+use Rattle.std.specs.Prelude.{◌≡◌, ◌≤◌, ℕ, suc, List, [], ◌∷◌, ◌++◌, map, IfSome, MatchOption, length}
 use Rattle.tree_files.specs.Files.{Files}
 use Rattle.words_rounds.specs.declared.rounds.Round.{Round}
 use Rattle.machine_events.specs.declared.event.Entry.{Entry}
@@ -14,14 +14,14 @@ use Rattle.program_run.specs.Statuses.{sink_fault, want_of_memory}
 use Rattle.program_run.specs.Prints.{out_text}
 use Rattle.program_run.specs.Ends.{err_text, status_of}
 use Rattle.program_run.specs.Sinks.{Moment, Leaves, status_by}
-use Rattle.program_run.specs.Counts.{ReadsBy, ListsBy}
+use Rattle.program_run.specs.Counts.{reads_of, ReadsBy, ListsBy}
 use Rattle.program_run.specs.Alone.{Means, Setting, setting}
 use Rattle.program_run.specs.Results.{EachHasEnd}
 use Rattle.program_run.specs.Runs.{Finished, finished}
-use Rattle.program_run.specs.Together.{Acts}
+use Rattle.program_run.specs.Together.{Acts, terms, AllActOn}
 use Rattle.program_run.specs.declared.report.Left.{Left}
 use Rattle.drive_rounds.specs.Solo.{AreTurns, HaveCauses}
-use Rattle.program_rounds.specs.Rounds.{AreSingle, scripts_of, trees_of, opening_in}
+use Rattle.program_rounds.specs.Rounds.{AreSingle, scripts_of, trees_of, told_in, opening_in}
 
 -- what scripts of these texts mean, whatever their numbers
 abbrev pub meanings : Means → List (List ℕ) → List (ℕ → Run)
@@ -71,8 +71,14 @@ pub record HasRun (means : Means) (plan : RunPlan) (rounds : List Round) (texts 
   -- where the tree tells its files, the scripts' own events are those that they mean
   pub runs : IfSome old.files (λ files. RunOver means (setting files plan.fuel old.faults new.faults ran.status)
       (opening_in plan rounds texts) rounds texts ran.history)
+  -- whatever the tree tells, as a real folder tells nothing, they are those that they mean on some answers of it
+  pub acts : AllActOn means (terms plan.fuel old.faults new.faults ran.status) 0 (told_in old.files rounds) texts
+      ran.history
   -- no more scripts ended by a failed call of the tree than there were such calls
   pub reads : ReadsBy (length (scripts_of rounds)) ran.history old.faults new.faults
+  -- and where none did, and memory was not wanted, none failed
+  pub unfailed : (ran.status ≡ want_of_memory → ⊥) → reads_of (length (scripts_of rounds)) ran.history ≡ 0
+      → new.faults ≤ old.faults
   pub lists : ListsBy (length (scripts_of rounds)) ran.history old.lists new.lists
   -- unless memory was wanted, each script came to its End, whatever the tree tells
   pub ends : (ran.status ≡ want_of_memory → ⊥) → EachHasEnd 0 (length (scripts_of rounds)) ran.history

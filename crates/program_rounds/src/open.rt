@@ -18,6 +18,7 @@ use tree_overlay::Overlay;
 fn bytes_of<T: Tree>(alloc: Global, tree: &mut T, file: &Text) -> Result<Seq<u8>, Unopened>
     ensures ok { IfOk result (λ bytes. Opens (T.files tree.old) file.now (opened.Text bytes)) }
     ensures err { IfErr result (WantsRounds (T.files tree.old) file.now (T.faults tree.old) (T.faults tree.new)) }
+    ensures faults_stay { OnOk result (T.faults tree.new ≡ T.faults tree.old) }
     ensures files_stay { T.files tree.new ≡ T.files tree.old }
     ensures faults_grow { T.faults tree.old ≤ T.faults tree.new }
     ensures lists_stay { T.lists tree.new ≡ T.lists tree.old }
@@ -49,6 +50,7 @@ fn refusal(alloc: Global, file: &str, line: u32) -> Result<Vec<u8>, NoMemory>
 pub fn rounds_of<T: Tree>(alloc: Global, tree: &mut T, file: &Text) -> Result<Rounds, Unopened>
     ensures ok { IfOk result (λ rounds. HasRounds (T.files tree.old) file.now rounds.list) }
     ensures err { IfErr result (WantsRounds (T.files tree.old) file.now (T.faults tree.old) (T.faults tree.new)) }
+    ensures faults_stay { OnOk result (T.faults tree.new ≡ T.faults tree.old) }
     ensures files_stay { T.files tree.new ≡ T.files tree.old }
     ensures faults_grow { T.faults tree.old ≤ T.faults tree.new }
     ensures lists_stay { T.lists tree.new ≡ T.lists tree.old }
@@ -88,6 +90,8 @@ fn open_round<T: Tree>(
         round.now.scripts (⟦<Overlay<T> as Tree>⟧.faults over.old) (⟦<Overlay<T> as Tree>⟧.faults over.new)) }
     ensures files { OnOk result (⟦<Overlay<T> as Tree>⟧.files over.new
         ≡ edited_told round.now.edits (⟦<Overlay<T> as Tree>⟧.files over.old)) }
+    ensures faults_stay { OnOk result (⟦<Overlay<T> as Tree>⟧.faults over.new
+        ≡ ⟦<Overlay<T> as Tree>⟧.faults over.old) }
     ensures faults_grow { ⟦<Overlay<T> as Tree>⟧.faults over.old ≤ ⟦<Overlay<T> as Tree>⟧.faults over.new }
     ensures lists_stay { ⟦<Overlay<T> as Tree>⟧.lists over.new ≡ ⟦<Overlay<T> as Tree>⟧.lists over.old }
 {
@@ -114,6 +118,8 @@ fn open_over<T: Tree>(
     ensures ok { IfOk result (EachRoundOpens (⟦<Overlay<T> as Tree>⟧.files over.old) rounds.now) }
     ensures err { IfErr result (StopsIn (⟦<Overlay<T> as Tree>⟧.files over.old) rounds.now
         (⟦<Overlay<T> as Tree>⟧.faults over.old) (⟦<Overlay<T> as Tree>⟧.faults over.new)) }
+    ensures faults_stay { OnOk result (⟦<Overlay<T> as Tree>⟧.faults over.new
+        ≡ ⟦<Overlay<T> as Tree>⟧.faults over.old) }
     ensures faults_grow { ⟦<Overlay<T> as Tree>⟧.faults over.old ≤ ⟦<Overlay<T> as Tree>⟧.faults over.new }
     ensures lists_stay { ⟦<Overlay<T> as Tree>⟧.lists over.new ≡ ⟦<Overlay<T> as Tree>⟧.lists over.old }
 {
@@ -136,6 +142,7 @@ pub fn open_rounds<T: Grove>(
     requires { AreBelowRoot rounds.now }
     ensures ok { IfOk result (EachRoundOpens (T.files tree.old) rounds.now) }
     ensures err { IfErr result (StopsIn (T.files tree.old) rounds.now (T.faults tree.old) (T.faults tree.new)) }
+    ensures faults_stay { OnOk result (T.faults tree.new ≡ T.faults tree.old) }
     ensures files_stay { T.files tree.new ≡ T.files tree.old }
     ensures faults_grow { T.faults tree.old ≤ T.faults tree.new }
     ensures lists_stay { T.lists tree.new ≤ T.lists tree.old }

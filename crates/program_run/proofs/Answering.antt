@@ -1,6 +1,6 @@
 -- From what the parts of a call leave to how the call ends.
 use Rattle.std.proofs.Common.{◌≡◌, ◌≤◌, ℕ, suc, ◌+◌, List, [], ◌∷◌, length, Option, Some, None, sym, subst, ◌∙◌, ap, arith}
-use Rattle.std.specs.Prelude.{IfSome}
+use Rattle.std.specs.Prelude.{IfSome, replicate}
 use Rattle.tree_files.specs.Files.{Files}
 use Rattle.tree_files.specs.Count.{Rose}
 use Rattle.machine_events.specs.declared.event.Event.{Event}
@@ -8,7 +8,7 @@ use Rattle.machine_events.specs.declared.event.Reply.{Reply}
 use Rattle.machine_events.specs.declared.event.Entry.{Entry}
 use Rattle.machine_spec.specs.declared.state.State.{State}
 use Rattle.meaning_runs.specs.Runs.{Run}
-use Rattle.drive_account.specs.Ending.{in_run, at_read}
+use Rattle.drive_account.proofs.Meant.{broken_by}
 use Rattle.import_words.specs.Words.{Word}
 use Rattle.import_words.specs.Plans.{plan_of}
 use Rattle.import_words.specs.declared.plan.Plan.TheVariants as plans
@@ -22,11 +22,12 @@ use Rattle.program_run.specs.Ends.{err_text, status_of}
 use Rattle.program_run.specs.Prints.{out_text}
 use Rattle.program_run.specs.Counts.{lists_of}
 use Rattle.program_run.specs.Alone.{Means, setting, HasCause, IsRun, opening_of}
-use Rattle.program_run.specs.Together.{Acts, AllAct}
+use Rattle.program_run.specs.Together.{Acts, AllAct, terms, AllActOn}
 use Rattle.program_run.specs.Runs.{RunOver, HasRun, Gives, finished}
 use Rattle.program_run.specs.Answers.{Answers, built}
 use Rattle.program_run.specs.declared.report.Report.{Report}
 use Rattle.program_run.specs.declared.report.Left.{Left}
+use Rattle.program_run.proofs.Meaning.{acts_on_since}
 
 -- a count that rose since a later moment
 rose_since : (first old new : ℕ) → first ≤ old → Rose old new → Rose first new
@@ -42,8 +43,7 @@ run_since files opened run fuel first old new status h f (IsRun.part stop rest i
 
 pub act_since : {files : Files} {t : ℕ} {run : Run} {fuel : ℕ} {mine : List (Event × Reply)} {status : ℕ} (first old new : ℕ) → first ≤ old → Acts (setting files fuel old new status) t run mine → Acts (setting files fuel first new status) t run mine
 act_since first old new f (Acts.whole outcome follows) = Acts.whole outcome follows
-act_since first old new f (Acts.part six (in_run part)) = Acts.part six (in_run part)
-act_since first old new f (Acts.part six (at_read k fits rose given)) = Acts.part six (at_read k fits (rose_since first old new f rose) given)
+act_since first old new f (Acts.part six broken) = Acts.part six (broken_by (rose_since first old new f) broken)
 
 acts_since : (means : Means) (files : Files) (t : ℕ) (texts : List (List ℕ)) (fuel first old new status : ℕ) (h : List Entry) → first ≤ old → AllAct means (setting files fuel old new status) t texts h → AllAct means (setting files fuel first new status) t texts h
 acts_since means files t [] fuel first old new status h f acts = tt
@@ -61,11 +61,15 @@ by_since means (Some files) plan texts first old new status h f r = over_since m
 -- a run since an earlier moment
 run_from : (means : Means) (plan : RunPlan) (texts : List (List ℕ)) (first old new : Moment) (h : List Entry) (status : ℕ) → IsSince first old → HasRun means plan texts old new (finished h status) → HasRun means plan texts first new (finished h status)
 run_from means plan texts first old new h status since run =
-    let later = since.faults in
+    let same = since.faults in
+    let later : first.faults ≤ old.faults = omega (arith, same) in
     let reads = run.reads in
     record {
       legal = run.legal;
       runs = subst (λ (x : Option Files). IfSome x (λ files. RunOver means (setting files plan.fuel first.faults new.faults status) plan texts h)) since.files (by_since means old.files plan texts first.faults old.faults new.faults status h later run.runs);
+      acts = subst (λ (x : Option Files). AllActOn means (terms plan.fuel first.faults new.faults status) 0 (replicate (length texts) x) texts h) since.files
+          (acts_on_since means plan.fuel status old.faults new.faults first.faults new.faults 0 (replicate (length texts) old.files) texts h (rose_since first.faults old.faults new.faults later) run.acts);
+      unfailed = λ unless none. (let stays = run.unfailed unless none in omega (arith, same, stays));
       reads = omega (arith, later, reads);
       lists = λ ended. subst (λ (n : ℕ). new.lists ≤ n + lists_of (length plan.scripts) h) since.lists (run.lists ended);
       ends = run.ends;

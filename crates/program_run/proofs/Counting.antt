@@ -18,7 +18,7 @@ use Rattle.program_run.specs.Ends.{end_of}
 use Rattle.program_run.specs.Results.{Came}
 use Rattle.program_run.specs.Sinks.{Moment}
 use Rattle.program_run.specs.Counts.{read_at, reads_of, lists_of, HaveEnds, ReadsBy, ListsBy}
-use Rattle.program_run.proofs.Endings.{end_is, no_end}
+use Rattle.program_run.proofs.Endings.{end_is, if_ended, no_end}
 
 -- the tree's counts at a moment
 abbrev pub tree_counts : Moment → Counts
@@ -70,7 +70,7 @@ module _ (tree : Option Files) (fuel : ℕ) (h : List Entry) where
   reads_from t (run ∷ runs) (c ∷ counts) [] all = absurd all
   reads_from t (run ∷ runs) (c ∷ counts) (r ∷ results) all =
       let rest = reads_from (suc t) runs counts results all.1 in
-      let here = read_of (own t h) r c.faults all.0.ended all.0.goes_on all.0.read in
+      let here = read_of (own t h) r c.faults (if_ended tree t (run t) fuel (own t h) r all.0.meant) all.0.goes_on all.0.read in
       let behind : t + suc (length results) ≡ suc t + length results = omega arith in
       let is : reads_of (t + suc (length results)) h ≡ reads_of (suc t + length results) h = ap (λ (n : ℕ). reads_of n h) behind in
       omega (arith, rest, here, is)
@@ -114,7 +114,7 @@ module _ (tree : Option Files) (fuel : ℕ) (h : List Entry) where
 
 -- one script over the tree itself
 pub reads_one : (tree : Option Files) (run : Run) (fuel : ℕ) (h : List Entry) (came : Came) (old new : Counts) → Ran tree 0 run fuel old new (own 0 h) came → ReadsBy 1 h old.faults new.faults
-reads_one tree run fuel h came old new ran = by came ran.ended ran.goes_on ran.read
+reads_one tree run fuel h came old new ran = by came (if_ended tree 0 run fuel (own 0 h) came ran.meant) ran.goes_on ran.read
   where
     of_end : (it : Ending) → (IsRead it → Rose old.faults new.faults) → raised old.faults (0 + read_at (Some (outcome it))) ≤ new.faults
     of_end ending.Normal r = let grows = ran.faults in omega (arith, grows)

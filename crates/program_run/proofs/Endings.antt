@@ -1,6 +1,7 @@
 -- How scripts ended, by their pairs, and what is said of it.
-use Rattle.std.proofs.Common.{◌≡◌, ℕ, suc, ◌+◌, max, List, [], ◌∷◌, ◌++◌, length, Option, Some, None, Ok, Err, refl, sym, ◌∙◌, ap, arith}
+use Rattle.std.proofs.Common.{◌≡◌, ℕ, suc, ◌+◌, max, List, [], ◌∷◌, ◌++◌, length, Option, Some, None, Ok, Err, IfOk, refl, sym, ◌∙◌, ap, arith}
 use Rattle.std.specs.Option.{option_or}
+use Rattle.std.proofs.lemmas.Result.{IfOk-weaker}
 use Rattle.machine_events.specs.declared.event.Event.{Event}
 use Rattle.machine_events.specs.declared.event.Event.TheVariants as e
 use Rattle.machine_events.specs.declared.event.Reply.{Reply}
@@ -9,7 +10,10 @@ use Rattle.machine_events.specs.declared.event.Entry.{Entry}
 use Rattle.machine_events.specs.declared.event.Outcome.{Outcome}
 use Rattle.machine_shown.specs.Own.{own}
 use Rattle.meaning_runs.specs.Lists.{ends, ends_in}
-use Rattle.drive_account.specs.Ending.{Ended, outcome}
+use Rattle.tree_files.specs.Files.{Files}
+use Rattle.meaning_runs.specs.Runs.{Run}
+use Rattle.drive_account.specs.Ending.{Ended, IsMeant, outcome}
+use Rattle.drive_account.proofs.Meant.{ended_of}
 use Rattle.program_run.specs.Ends.{end_in, end_of, line_of, line_at, lines_from, number_of, number_at, status_of}
 use Rattle.program_run.specs.Results.{Came, lines_by, worst_by, AreWhole, AllEnded}
 
@@ -20,6 +24,10 @@ end_last (pair ∷ before) how k = rw (end_last before how k) refl
 -- the End is the one that the ending tells
 pub end_is : (mine : List (Event × Reply)) (how : Outcome) → Ended mine how → end_of mine ≡ Some how
 end_is mine how ended = ap end_of ended.whole ∙ end_last ended.before how ended.paid
+
+-- what is meant ends with its End
+pub if_ended : (tree : Option Files) (t : ℕ) (run : Run) (fuel : ℕ) (mine : List (Event × Reply)) (came : Came) → IfOk came (λ it. IsMeant tree t run fuel mine (outcome it)) → IfOk came (λ it. Ended mine (outcome it))
+if_ended tree t run fuel mine came meant = IfOk-weaker came _ _ (λ it m. ended_of m) meant
 
 no_end_here : (event : Event) → ends event ≡ 0 → end_in event ≡ None
 no_end_here (e.Ask n) none = refl

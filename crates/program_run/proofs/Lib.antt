@@ -2,6 +2,7 @@ pub mod Endings
 pub mod Finishing
 pub mod Leaving
 pub mod Counting
+pub mod Meaning
 pub mod Threads
 pub mod Lone
 pub mod Opening

@@ -1,6 +1,6 @@
 -- The history of one script that ran alone.
 use Rattle.std.proofs.Common.{◌≡◌, ◌⊎◌, inl, ℕ, List, [], ◌∷◌, length, Option, Some, None, Result, Ok, Err, IfOk, OnErr, refl, sym, subst, ◌∙◌, ap, arith, inr}
-use Rattle.std.specs.Prelude.{slice_get, IfSome}
+use Rattle.std.specs.Prelude.{slice_get, replicate, IfSome}
 use Rattle.std.specs.List.{AllByRecursion}
 use Rattle.base_types.specs.declared.no_memory.NoMemory.{NoMemory}
 use Rattle.tree_files.specs.Files.{Files}
@@ -19,6 +19,7 @@ use Rattle.machine_shown.specs.Own.{own, Ready}
 use Rattle.machine_shown.specs.Shown.{shown_first}
 use Rattle.meaning_runs.specs.Runs.{Run, Safe}
 use Rattle.meaning_runs.specs.Follows.{Follows}
+use Rattle.meaning_runs.proofs.Stand.{part_given}
 use Rattle.drive_account.specs.declared.end.Ending.{Ending}
 use Rattle.drive_account.specs.declared.end.Ending.TheVariants as ending
 use Rattle.drive_account.specs.Ending.{Broken, in_run, at_read, IsRead, outcome}
@@ -32,13 +33,15 @@ use Rattle.program_run.specs.Statuses.{sink_fault, want_of_memory}
 use Rattle.program_run.specs.Prints.{out_text}
 use Rattle.program_run.specs.Ends.{err_text, status_of}
 use Rattle.program_run.specs.Sinks.{Moment, Leaves, status_by}
-use Rattle.program_run.specs.Counts.{ReadsBy, ListsBy}
+use Rattle.program_run.specs.Counts.{reads_of, ReadsBy, ListsBy}
 use Rattle.program_run.specs.Alone.{Means, AreSafe, setting, IsRun, HasCause, turn_of, opening_of}
 use Rattle.program_run.specs.Results.{Came, AreWhole, AllEnded}
-use Rattle.program_run.specs.Together.{MeanFrom}
+use Rattle.program_run.specs.Together.{MeanFrom, terms, AllActOn}
 use Rattle.program_run.specs.Runs.{RunOver, HasRun, Gives, finished}
 use Rattle.program_run.specs.declared.report.Left.{Left}
 use Rattle.program_run.proofs.Counting.{tree_counts, reads_one, lists_one}
+use Rattle.program_run.proofs.Endings.{if_ended}
+use Rattle.program_run.proofs.Meaning.{act_on, one_unfailed}
 use Rattle.program_run.proofs.Threads.{ends_by, one_mean}
 
 -- what a machine of one script is begun with, and what the script means: its events show all that it asks for
@@ -84,12 +87,12 @@ module _ (files : Files) (b : Begun) (run : Run) (fuel old new status : ℕ) (h 
       let goes_on = solo_on b (turn_of files run stop ∷ []) fuel h one.alone (one.safe, tt) (record { many = one.many; legal = legal; each = inr (breaks, tt) }) in
       IsRun.part stop goes_on.0 s goes_on.1 cause
 
-  broken_by : status ≡ want_of_memory → Broken files 0 run fuel (own 0 h) old new → IsRun (setting files fuel old new status) (first b) run h
-  broken_by s (in_run part) = part_by None s part tt
+  broken_by : status ≡ want_of_memory → Broken (Some files) 0 run fuel (own 0 h) old new → IsRun (setting files fuel old new status) (first b) run h
+  broken_by s (in_run rest reaches) = part_by None s (part_given files 0 run fuel reaches) tt
   broken_by s (at_read k fits rose given) = part_by (Some k) s (given, fits) rose
 
   -- the history is the run of the script, or a beginning of it
-  run_is : (ran : Result Ending NoMemory) → IfOk ran (λ it. Follows files 0 run fuel (own 0 h) (outcome it)) → OnErr ran (Broken files 0 run fuel (own 0 h) old new)
+  run_is : (ran : Result Ending NoMemory) → IfOk ran (λ it. Follows files 0 run fuel (own 0 h) (outcome it)) → OnErr ran (Broken (Some files) 0 run fuel (own 0 h) old new)
       → IfOk ran (λ it. IsRead it → Rose old new) → OnErr ran (status ≡ want_of_memory) → IsRun (setting files fuel old new status) (first b) run h
   run_is (Ok it) f p r s = run_by it f r
   run_is (Err e) f p r s = broken_by s p
@@ -105,7 +108,7 @@ pub run_told : (files : Files) (tree : Option Files) → tree ≡ Some files →
 run_told files tree told opening opened' run run' fuel status old new h came can one p safe q legal ran short =
     subst (λ (x : State). IsRun (setting files fuel old.faults new.faults status) x run' h) p
     (subst (λ (x : Run). IsRun (setting files fuel old.faults new.faults status) (opened opening) x h) q
-    (run_is files (begun_by opening can) run fuel old.faults new.faults status h (one_by opening can run (subst (λ (x : Run). Safe (shown_first 0) x) (sym q) safe) one) legal came (ran.follows files told) (ran.part files told) ran.read short))
+    (run_is files (begun_by opening can) run fuel old.faults new.faults status h (one_by opening can run (subst (λ (x : Run). Safe (shown_first 0) x) (sym q) safe) one) legal came (ran.follows files told) (subst (λ (o : Option Files). OnErr came (Broken o 0 run fuel (own 0 h) old.faults new.faults)) told ran.part) ran.read short))
 
 -- the one script of a machine waits for no earlier round
 pub ready_first : (rounds : List ℕ) (h : List Entry) → rounds ≡ 0 ∷ [] → Ready rounds h 0
@@ -143,9 +146,12 @@ module _ (means : Means) (safe : AreSafe means) (plan : RunPlan) (texts : List (
   has_run_of run p came text texts_are same ran w = record {
     legal = subst (λ (s : State). IsLegal s h) is legal;
     runs = runs_by run p came text texts_are same ran w old.files refl;
+    acts = subst (λ (xs : List (List ℕ)). AllActOn means (terms plan.fuel old.faults new.faults status) 0 (replicate (length xs) old.files) xs h) (sym texts_are)
+        (act_on plan.fuel old.faults new.faults status old.files 0 (own 0 h) old.faults new.faults came [] same (λ rose. rose) ran.meant ran.part w, tt);
+    unfailed = λ unless none. one_unfailed h came status ran w unless (subst (λ (n : ℕ). reads_of n h ≡ 0) one none);
     reads = subst (λ (n : ℕ). ReadsBy n h old.faults new.faults) (sym one) (reads_one old.files (run p 0) plan.fuel h came (tree_counts old) (tree_counts new) ran);
     lists = subst (λ (n : ℕ). ListsBy n h old.lists new.lists) (sym one) (lists_one old.files (run p 0) plan.fuel h came (tree_counts old) (tree_counts new) ran);
-    ends = ends_by status (length plan.scripts) (came ∷ []) h (sym one) (ran.ended, tt) w;
+    ends = ends_by status (length plan.scripts) (came ∷ []) h (sym one) (if_ended old.files 0 (run p 0) plan.fuel (own 0 h) came ran.meant, tt) w;
     leaves = leaves;
   }
 
@@ -160,4 +166,4 @@ pub ended_one : {P : Type 0} (run : P → ℕ → Run) (means : Means) (texts : 
     → ((p : P) → programs ≡ p ∷ [] → Ran tree 0 (run p 0) fuel old new (own 0 h) came) → AllEnded 0 (came ∷ []) h
 ended_one run means texts programs tree fuel old new h came as_many mean ran =
     let the = one_mean run means texts programs as_many mean in
-    ((ran the.0 the.1).ended, tt)
+    (if_ended tree 0 (run the.0 0) fuel (own 0 h) came (ran the.0 the.1).meant, tt)

@@ -4,7 +4,7 @@ use Rattle.std.specs.Prelude.{slice_get, replicate, IfSome, IfNone, IsSomeAnd}
 use Rattle.std.proofs.lemmas.List.{append-nil, length-map, length-replicate, get_or-replicate}
 use Rattle.std.proofs.lemmas.Option.{slice_get_read}
 use Rattle.tree_files.specs.Files.{Files}
-use Rattle.tree_files.specs.Count.{Rose, raised}
+use Rattle.tree_files.specs.Count.{raised}
 use Rattle.machine_events.specs.declared.event.Event.{Event}
 use Rattle.machine_events.specs.declared.event.Reply.{Reply}
 use Rattle.machine_events.specs.declared.event.Entry.{Entry}
@@ -16,8 +16,8 @@ use Rattle.machine_desk.specs.Outgo.{Outgo, Pieces, Kept}
 use Rattle.machine_shown.specs.Own.{own}
 use Rattle.meaning_runs.specs.Runs.{Run}
 use Rattle.meaning_runs.specs.Follows.{Follows}
-use Rattle.meaning_runs.proofs.Stand.{part, stands_start}
-use Rattle.drive_account.specs.Ending.{Broken, in_run, at_read, outcome}
+use Rattle.drive_account.specs.Ending.{Broken, outcome}
+use Rattle.drive_account.proofs.Meant.{broken_by, broken_first}
 use Rattle.drive_round.specs.Ran.{Counts, Runs, AllRan, MayBegin, RoundRan}
 use Rattle.import_words.specs.declared.plan.RunPlan.{RunPlan}
 use Rattle.program_run.specs.Statuses.{sink_fault, want_of_memory}
@@ -28,8 +28,10 @@ use Rattle.program_run.specs.Counts.{reads_of}
 use Rattle.program_run.specs.Alone.{Means, setting, opening_of}
 use Rattle.program_run.specs.Results.{Came, AreWhole, AllEnded, EachHasEnd}
 use Rattle.program_run.specs.Runs.{RunOver, HasRun, finished}
-use Rattle.program_run.specs.Together.{Mean, MeanFrom, Acts, AllAct, RanTogether}
+use Rattle.program_run.specs.Together.{Mean, MeanFrom, Acts, AllAct, terms, AllActOn, RanTogether}
+use Rattle.program_run.proofs.Endings.{if_ended}
 use Rattle.program_run.proofs.Counting.{tree_counts, faults_in, faults_rise, reads_by, lists_by, reads_none}
+use Rattle.program_run.proofs.Meaning.{rose_up, whole_rest, acts_on, none_act_on, all_unfailed, fold_unfailed}
 
 -- one program more
 pub mean_more : {P : Type 0} (run : P → ℕ → Run) (means : Means) (texts : List (List ℕ)) (programs : List P) (text : List ℕ) (program : P) → Mean run means texts programs → ((t : ℕ) → run program t ≡ means t text)
@@ -64,26 +66,13 @@ one_mean run means (text ∷ []) (p ∷ []) one mean = (p, refl, (text, refl, me
 one_mean run means (text ∷ []) (p ∷ q ∷ programs) one mean = absurd mean.1
 one_mean run means (text ∷ other ∷ texts) programs one mean = absurd (omega (arith, one))
 
--- the tree's count rose where that of a fork did
-rose_up : (old new n total : ℕ) → n ≤ total → raised old total ≤ new → Rose 0 n → Rose old new
-rose_up old new n total some rise rose = omega (arith, some, rise, rose)
-
-broken_up : {files : Files} {t : ℕ} {run : Run} {fuel : ℕ} {mine : List (Event × Reply)} (old new n : ℕ) → (Rose 0 n → Rose old new) → Broken files t run fuel mine 0 n → Broken files t run fuel mine old new
-broken_up old new n up (in_run it) = in_run it
-broken_up old new n up (at_read k fits rose given) = at_read k fits (up rose) given
-
 module _ (files : Files) (means : Means) (fuel old new status : ℕ) (h : List Entry) where
   pub act_of : (t : ℕ) (run run' : Run) (came : Came) (results : List Came) (n total : ℕ) → run ≡ run' → n ≤ total → raised old total ≤ new → IfOk came (λ it. Follows files t run fuel (own t h) (outcome it))
-      → OnErr came (Broken files t run fuel (own t h) 0 n) → (status ≡ want_of_memory) ⊎ AreWhole (came ∷ results) → Acts (setting files fuel old new status) t run' (own t h)
+      → OnErr came (Broken (Some files) t run fuel (own t h) 0 n) → (status ≡ want_of_memory) ⊎ AreWhole (came ∷ results) → Acts (setting files fuel old new status) t run' (own t h)
   act_of t run run' (Ok it) results n total same some rise follows broken w = subst (λ (x : Run). Acts (setting files fuel old new status) t x (own t h)) same (Acts.whole (outcome it) follows)
   act_of t run run' (Err e) results n total same some rise follows broken (inl six) =
-      subst (λ (x : Run). Acts (setting files fuel old new status) t x (own t h)) same (Acts.part six (broken_up old new n (rose_up old new n total some rise) broken))
+      subst (λ (x : Run). Acts (setting files fuel old new status) t x (own t h)) same (Acts.part six (broken_by (rose_up old new n total some rise) broken))
   act_of t run run' (Err e) results n total same some rise follows broken (inr w) = absurd w
-
-  pub whole_rest : (came : Came) (results : List Came) → (status ≡ want_of_memory) ⊎ AreWhole (came ∷ results) → (status ≡ want_of_memory) ⊎ AreWhole results
-  whole_rest came results (inl six) = inl six
-  whole_rest (Ok it) results (inr w) = inr w
-  whole_rest (Err e) results (inr w) = absurd w
 
   module _ {P : Type 0} (run : P → ℕ → Run) (total : ℕ) (rise : raised old total ≤ new) where
     acts_from : (t : ℕ) (texts : List (List ℕ)) (programs : List P) (counts : List Counts) (results : List Came) → MeanFrom run means t texts programs → faults_in counts ≤ total
@@ -93,8 +82,8 @@ module _ (files : Files) (means : Means) (fuel old new status : ℕ) (h : List E
     acts_from t (text ∷ texts) (p ∷ programs) [] results mean some all w = absurd all
     acts_from t (text ∷ texts) (p ∷ programs) (c ∷ counts) [] mean some all w = absurd all
     acts_from t (text ∷ texts) (p ∷ programs) (c ∷ counts) (r ∷ results) mean some all w = (
-      act_of t (run p t) (means t text) r results c.faults total mean.0 (omega (arith, some)) rise (all.0.follows files refl) (all.0.part files refl) w,
-      acts_from (suc t) texts programs counts results mean.1 (omega (arith, some)) all.1 (whole_rest r results w),
+      act_of t (run p t) (means t text) r results c.faults total mean.0 (omega (arith, some)) rise (all.0.follows files refl) all.0.part w,
+      acts_from (suc t) texts programs counts results mean.1 (omega (arith, some)) all.1 (whole_rest status r results w),
     )
 
 -- of two scripts or more
@@ -115,7 +104,7 @@ module _ (files : Files) (means : Means) (fuel old new status : ℕ) (six : stat
   none_from : (t : ℕ) (texts : List (List ℕ)) → AllAct means (setting files fuel old new status) t texts []
   none_from t [] = tt
   none_from t (text ∷ texts) =
-      (Acts.part six (in_run (part files t (record { budget = fuel; rest = means t text; stands = stands_start (means t text) fuel }))), none_from (suc t) texts)
+      (Acts.part six (broken_first old new refl), none_from (suc t) texts)
 
 pub over_none : (means : Means) (files : Files) (plan : RunPlan) (texts : List (List ℕ)) (old new status : ℕ) → 2 ≤ length texts → status ≡ want_of_memory → RunOver means (setting files plan.fuel old new status) plan texts []
 over_none means files plan texts old new status two six = over_by means files plan texts old new status [] two (none_from files means plan.fuel old new status six 0 texts)
@@ -135,7 +124,7 @@ ended_ran tree fuel h t [] (c ∷ counts) results all = absurd all
 ended_ran tree fuel h t [] [] (r ∷ results) all = absurd all
 ended_ran tree fuel h t (run ∷ runs) [] results all = absurd all
 ended_ran tree fuel h t (run ∷ runs) (c ∷ counts) [] all = absurd all
-ended_ran tree fuel h t (run ∷ runs) (c ∷ counts) (r ∷ results) all = (all.0.ended, ended_ran tree fuel h (suc t) runs counts results all.1)
+ended_ran tree fuel h t (run ∷ runs) (c ∷ counts) (r ∷ results) all = (if_ended tree t (run t) fuel (own t h) r all.0.meant, ended_ran tree fuel h (suc t) runs counts results all.1)
 
 -- so each came to its End, unless memory was wanted
 each_has_end : (t : ℕ) (results : List Came) (h : List Entry) → AreWhole results → AllEnded t results h → EachHasEnd t (length results) h
@@ -172,10 +161,15 @@ module _ (means : Means) (plan : RunPlan) (texts : List (List ℕ)) (old new : M
   ran_by : {P : Type 0} (run : P → ℕ → Run) (programs : List P) (results : List Came) → MeanFrom run means 0 texts programs → RanTogether old.files (map run programs) plan.fuel (tree_counts old) (tree_counts new) h results → (status ≡ want_of_memory) ⊎ AreWhole results
       → HasRun means plan texts old new (finished h status)
   ran_by run programs results mean ran w =
+      let rise : raised old.faults (faults_in ran.counts) ≤ new.faults = subst (λ (c : Counts). raised old.faults (faults_in ran.counts) ≤ c.faults) (sym ran.absorbs) (faults_rise (tree_counts old) ran.counts) in
       let many : length results ≡ length plan.scripts = many_ran old.files plan.fuel h 0 (map run programs) ran.counts results ran.threads ∙ (length-map programs run ∙ (many_from run means 0 texts programs mean ∙ as_many)) in
       record {
         legal = legal;
         runs = by_told old.files (λ files told. over_ran means old.files files told plan texts two (tree_counts old) (tree_counts new) status h run programs results mean ran w);
+        acts = acts_on plan.fuel old.faults new.faults status means h run (faults_in ran.counts) rise old.files 0 texts programs ran.counts results mean (omega arith) ran.threads w;
+        unfailed = λ unless none.
+            let zero = all_unfailed old.files plan.fuel h (map run programs) ran.counts results status (length plan.scripts) ran.threads many w unless none in
+            subst (λ (c : Counts). c.faults ≤ old.faults) (sym ran.absorbs) (fold_unfailed (tree_counts old) ran.counts zero);
         reads = reads_by old.files plan.fuel h (map run programs) ran.counts results (tree_counts old) (tree_counts new) ran.threads ran.absorbs (length plan.scripts) many;
         lists = lists_by old.files plan.fuel h (map run programs) ran.counts results (tree_counts old) (tree_counts new) ran.threads ran.absorbs (length plan.scripts) many;
         ends = ends_by status (length plan.scripts) results h many (ended_ran old.files plan.fuel h 0 (map run programs) ran.counts results ran.threads) w;
@@ -190,6 +184,8 @@ module _ (means : Means) (plan : RunPlan) (texts : List (List ℕ)) (old new : M
   none_by empty faults lists six = record {
     legal = legal;
     runs = by_told old.files;
+    acts = subst (λ (x : List Entry). AllActOn means (terms plan.fuel old.faults new.faults status) 0 (replicate (length texts) old.files) texts x) (sym empty) (none_act_on plan.fuel old.faults new.faults status means six old.files 0 texts);
+    unfailed = λ unless none. omega (arith, faults);
     reads = let none : reads_of (length plan.scripts) h ≡ 0 = ap (reads_of (length plan.scripts)) empty ∙ reads_none (length plan.scripts) in omega (arith, none, faults);
     lists = λ ended. omega (arith, lists);
     ends = λ unless. absurd (unless six);

@@ -1,5 +1,5 @@
 -- What a run leaves: its history, and what both sinks have got.
-use Rattle.std.specs.Prelude.{◌≡◌, ℕ, List, [], ◌∷◌, IfSome, MatchOption, length}
+use Rattle.std.specs.Prelude.{◌≡◌, ◌≤◌, ℕ, List, [], ◌∷◌, IfSome, MatchOption, length, replicate}
 use Rattle.machine_events.specs.declared.event.Entry.{Entry}
 use Rattle.machine_spec.specs.Legal.{IsLegal}
 use Rattle.import_words.specs.declared.plan.RunPlan.{RunPlan}
@@ -7,10 +7,10 @@ use Rattle.program_run.specs.Statuses.{sink_fault, want_of_memory}
 use Rattle.program_run.specs.Prints.{out_text}
 use Rattle.program_run.specs.Ends.{err_text, status_of}
 use Rattle.program_run.specs.Sinks.{Moment, Leaves, status_by}
-use Rattle.program_run.specs.Counts.{ReadsBy, ListsBy}
+use Rattle.program_run.specs.Counts.{reads_of, ReadsBy, ListsBy}
 use Rattle.program_run.specs.Alone.{Means, Setting, setting, opening_of, IsRun}
 use Rattle.program_run.specs.Results.{EachHasEnd}
-use Rattle.program_run.specs.Together.{AllAct}
+use Rattle.program_run.specs.Together.{terms, AllActOn, AllAct}
 use Rattle.program_run.specs.declared.report.Left.{Left}
 
 -- the scripts of these texts over these files: one has the
@@ -36,8 +36,14 @@ pub record HasRun (means : Means) (plan : RunPlan) (texts : List (List ℕ)) (ol
   -- where the tree tells its files, the scripts' own events are those that they mean
   pub runs : IfSome old.files
       (λ files. RunOver means (setting files plan.fuel old.faults new.faults ran.status) plan texts ran.history)
+  -- whatever the tree tells, as a real folder tells nothing, they are those that they mean on some answers of it
+  pub acts : AllActOn means (terms plan.fuel old.faults new.faults ran.status) 0
+      (replicate (length texts) old.files) texts ran.history
   -- no more scripts ended by a failed call of the tree than there were such calls
   pub reads : ReadsBy (length plan.scripts) ran.history old.faults new.faults
+  -- and where none did, and memory was not wanted, none failed
+  pub unfailed : (ran.status ≡ want_of_memory → ⊥) → reads_of (length plan.scripts) ran.history ≡ 0
+      → new.faults ≤ old.faults
   pub lists : ListsBy (length plan.scripts) ran.history old.lists new.lists
   -- unless memory was wanted, each script came to its End, whatever the tree tells
   pub ends : (ran.status ≡ want_of_memory → ⊥) → EachHasEnd 0 (length plan.scripts) ran.history

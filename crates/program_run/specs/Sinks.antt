@@ -42,10 +42,10 @@ pub record Passes (old new : Moment) : Type 0 where
   pub out_faults : old.out.faults ≤ new.out.faults
   pub err_faults : old.err.faults ≤ new.err.faults
 
--- between these moments some calls of the tree may have failed, and nothing else has changed
+-- between these moments no call of the tree failed, and nothing has changed
 pub record IsSince (first now : Moment) : Type 0 where
   pub files : now.files ≡ first.files
-  pub faults : first.faults ≤ now.faults
+  pub faults : now.faults ≡ first.faults
   pub lists : now.lists ≡ first.lists
   pub out : now.out ≡ first.out
   pub err : now.err ≡ first.err

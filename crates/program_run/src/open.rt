@@ -1,5 +1,5 @@
 //! The files of scripts.
-ghost use Rattle.std.specs.Prelude.{◌≡◌, ◌≤◌, ℕ, List, IfOk, IfErr, IfSome, IsErrOf, Some};
+ghost use Rattle.std.specs.Prelude.{◌≡◌, ◌≤◌, ℕ, List, IfOk, IfErr, IfSome, IsErrOf, OnOk, Some};
 ghost use Rattle.tree_files.specs.Count.{Rose};
 ghost use Rattle.tree_files.specs.Files.{node_at};
 ghost use Rattle.program_run.specs.Scripts.{by_node, IsScript, Opens, EachOpens, IsLineOf, StopsAt, Stops};
@@ -35,6 +35,7 @@ pub enum Unopened {
 fn open_path<T: Tree>(alloc: Global, tree: &mut T, path: &TreePath) -> Result<Opened, TreeFault>
     ensures told { IfSome (T.files tree.old) (λ f. IfOk result (λ it. it ≡ by_node (node_at f path.now))) }
     ensures failed { IsErrOf result TreeFault.Failed → Rose (T.faults tree.old) (T.faults tree.new) }
+    ensures faults_stay { OnOk result (T.faults tree.new ≡ T.faults tree.old) }
     ensures files_stay { T.files tree.new ≡ T.files tree.old }
     ensures faults_grow { T.faults tree.old ≤ T.faults tree.new }
     ensures lists_stay { T.lists tree.new ≡ T.lists tree.old }
@@ -53,6 +54,7 @@ fn open_path<T: Tree>(alloc: Global, tree: &mut T, path: &TreePath) -> Result<Op
 pub fn open_script<T: Tree>(alloc: Global, tree: &mut T, word: &Text) -> Result<Opened, TreeFault>
     ensures told { IfSome (T.files tree.old) (λ f. IfOk result (IsScript f word.now)) }
     ensures failed { IsErrOf result TreeFault.Failed → Rose (T.faults tree.old) (T.faults tree.new) }
+    ensures faults_stay { OnOk result (T.faults tree.new ≡ T.faults tree.old) }
     ensures files_stay { T.files tree.new ≡ T.files tree.old }
     ensures faults_grow { T.faults tree.old ≤ T.faults tree.new }
     ensures lists_stay { T.lists tree.new ≡ T.lists tree.old }
@@ -77,6 +79,7 @@ pub fn refused(line: Result<Vec<u8>, NoMemory>) -> Unopened
 fn text_of<T: Tree>(alloc: Global, tree: &mut T, word: &Text) -> Result<Seq<u8>, Unopened>
     ensures ok { IfOk result (λ text. Opens (T.files tree.old) word.now (opened.Text text)) }
     ensures err { IfErr result (StopsAt (T.files tree.old) word.now (T.faults tree.old) (T.faults tree.new)) }
+    ensures faults_stay { OnOk result (T.faults tree.new ≡ T.faults tree.old) }
     ensures files_stay { T.files tree.new ≡ T.files tree.old }
     ensures faults_grow { T.faults tree.old ≤ T.faults tree.new }
     ensures lists_stay { T.lists tree.new ≡ T.lists tree.old }
@@ -104,6 +107,7 @@ pub fn open_all<T: Tree>(
 ) -> Result<Seq<Seq<u8>>, Unopened>
     ensures ok { IfOk result (EachOpens (T.files tree.old) scripts.now) }
     ensures err { IfErr result (Stops (T.files tree.old) scripts.now (T.faults tree.old) (T.faults tree.new)) }
+    ensures faults_stay { OnOk result (T.faults tree.new ≡ T.faults tree.old) }
     ensures files_stay { T.files tree.new ≡ T.files tree.old }
     ensures faults_grow { T.faults tree.old ≤ T.faults tree.new }
     ensures lists_stay { T.lists tree.new ≡ T.lists tree.old }

@@ -5,7 +5,7 @@ ghost use Rattle.tree_files.specs.Files.{Files};
 ghost use Rattle.machine_desk.specs.Sight.{Sight, IsReady, Continues};
 ghost use Rattle.meaning_runs.specs.Follows.{Follows};
 ghost use Rattle.meaning_runs.specs.Lists.{lists_in, ends_in};
-ghost use Rattle.drive_account.specs.Ending.{Ended, Broken, IsRead, outcome};
+ghost use Rattle.drive_account.specs.Ending.{IsMeant, Broken, IsRead, outcome};
 ghost use Rattle.meaning_script.specs.Meaning.{meaning};
 ghost use Rattle.step_calls.specs.Sources.{sources};
 
@@ -27,9 +27,10 @@ pub(crate) fn copy_of(alloc: Global, text: &[u8]) -> Result<Seq<u8>, NoMemory>
 
 /// Runs a script on a desk, over a tree, and makes its End event.
 ///
-/// The events are those of the script's meaning with this fuel, each once and in order, on the
-/// replies that come. `Read` comes only where a call of the tree failed. A directory is listed at
-/// most once for each listing that the script's events keep. Where memory is wanted there is no End.
+/// The events are those of the script's meaning with this fuel, each once and in order, on the answers
+/// of the tree and the replies that come. `Read` comes only where a call of the tree failed, and another
+/// end only where none did. A directory is listed at most once for each listing that the script's
+/// events keep. Where memory is wanted there is no End.
 pub fn run_script<D: Desk, T: Tree>(
     alloc: Global,
     desk: &mut D,
@@ -46,14 +47,15 @@ pub fn run_script<D: Desk, T: Tree>(
     ensures faults_grow { T.faults tree.old ≤ T.faults tree.new }
     ensures lists { OnOk result (T.lists tree.new ≤ T.lists tree.old + lists_in (D.sight desk.new).mine) }
     ensures goes_on { OnErr result (ends_in (D.sight desk.new).mine ≡ 0) }
-    ensures ended { IfOk result (λ ending. Ended (D.sight desk.new).mine (outcome ending)) }
+    ensures meant { IfOk result (λ ending. IsMeant (T.files tree.old) script (meaning sources script text.now) fuel
+        (D.sight desk.new).mine (outcome ending)) }
     ensures follows { (files : Files) → T.files tree.old ≡ Some files
         → IfOk result (λ ending. Follows files script (meaning sources script text.now) fuel (D.sight desk.new).mine
         (outcome ending)) }
-    ensures part { (files : Files) → T.files tree.old ≡ Some files
-        → OnErr result (Broken files script (meaning sources script text.now) fuel (D.sight desk.new).mine
+    ensures part { OnErr result (Broken (T.files tree.old) script (meaning sources script text.now) fuel (D.sight desk.new).mine
         (T.faults tree.old) (T.faults tree.new)) }
     ensures read { IfOk result (λ ending. IsRead ending → Rose (T.faults tree.old) (T.faults tree.new)) }
+    ensures unfailed { IfOk result (λ ending. (IsRead ending → ⊥) → T.faults tree.new ≡ T.faults tree.old) }
 {
     let copy = match copy_of(alloc, text) {
         Ok(copy) => copy,

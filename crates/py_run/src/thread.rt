@@ -7,7 +7,7 @@ ghost use Rattle.machine_shown.specs.Shown.{shown_first};
 ghost use Rattle.meaning_runs.specs.Runs.{Safe};
 ghost use Rattle.meaning_runs.specs.Follows.{Follows};
 ghost use Rattle.meaning_runs.specs.Lists.{lists_in, ends_in};
-ghost use Rattle.drive_account.specs.Ending.{Ended, Broken, IsRead, outcome};
+ghost use Rattle.drive_account.specs.Ending.{IsMeant, Broken, IsRead, outcome};
 ghost use Rattle.drive_loop.specs.Starts.{started};
 
 use crate::OnDesk;
@@ -35,14 +35,15 @@ pub(crate) fn run_thread<D: Desk, T: Tree>(
     ensures faults_grow { T.faults tree.old ≤ T.faults tree.new }
     ensures lists { OnOk result (T.lists tree.new ≤ T.lists tree.old + lists_in (D.sight desk.new).mine) }
     ensures goes_on { OnErr result (ends_in (D.sight desk.new).mine ≡ 0) }
-    ensures ended { IfOk result (λ ending. Ended (D.sight desk.new).mine (outcome ending)) }
+    ensures meant { IfOk result (λ ending. IsMeant (T.files tree.old) script (started script start) fuel
+        (D.sight desk.new).mine (outcome ending)) }
     ensures follows { (files : Files) → T.files tree.old ≡ Some files
         → IfOk result (λ ending. Follows files script (started script start) fuel (D.sight desk.new).mine
         (outcome ending)) }
-    ensures part { (files : Files) → T.files tree.old ≡ Some files
-        → OnErr result (Broken files script (started script start) fuel (D.sight desk.new).mine
+    ensures part { OnErr result (Broken (T.files tree.old) script (started script start) fuel (D.sight desk.new).mine
         (T.faults tree.old) (T.faults tree.new)) }
     ensures read { IfOk result (λ ending. IsRead ending → Rose (T.faults tree.old) (T.faults tree.new)) }
+    ensures unfailed { IfOk result (λ ending. (IsRead ending → ⊥) → T.faults tree.new ≡ T.faults tree.old) }
 {
     let mut port = OnDesk { desk };
     match run_on(alloc, &mut port, tree, script, start, fuel) {

@@ -3,6 +3,7 @@ ghost use Rattle.std.specs.Prelude.{◌≡◌, ◌≤◌, ◌++◌, IfOk, IsErrO
 ghost use Rattle.std.specs.Option.{ForSome};
 ghost use Rattle.spec_core.specs.Names.{joined};
 ghost use Rattle.tree_files.specs.Count.{Rose};
+ghost use Rattle.report_names.specs.Meanings.{meaning_of};
 ghost use Rattle.report_lines.specs.Lines as spec;
 
 use crate::meanings::{is_found, is_package, meaning_text};
@@ -129,6 +130,32 @@ fn name_line<T: Tree>(
     Ok(told(what, &means)?)
 }
 
+/// What a name of a module means, where the module means this. Only behind a package and a namespace is it looked for.
+fn behind_module<T: Tree>(
+    tree: &mut T,
+    path: &Texts,
+    what: &Text,
+    means: &Meaning,
+    longer: &Text,
+) -> Result<Line, TreeFault>
+    ensures line { ForSome (T.files tree.old) (λ f. IfOk result
+        (λ it. it ≡ spec.chosen what.now means.now (meaning_of f path.now longer.now))) }
+    ensures failed { IsErrOf result TreeFault.Failed → Rose (T.faults tree.old) (T.faults tree.new) }
+    ensures faults_stay { OnOk result (T.faults tree.new ≡ T.faults tree.old) }
+    ensures files_stay { T.files tree.new ≡ T.files tree.old }
+    ensures faults_grow { T.faults tree.old ≤ T.faults tree.new }
+    ensures lists_stay { T.lists tree.new ≡ T.lists tree.old }
+{
+    match means {
+        Meaning::Package { .. } | Meaning::Namespace(_) => {
+            let member = meaning_of(tree, path, longer)?;
+            Ok(chosen(what, means, &member)?)
+        }
+        Meaning::Builtin | Meaning::Module(_) => Ok(name_in(what, means)?),
+        Meaning::Missing(_) | Meaning::NotPackage(_) => Ok(told(what, means)?),
+    }
+}
+
 /// What a name means that is imported from a module.
 fn member_line<T: Tree>(
     tree: &mut T,
@@ -148,8 +175,7 @@ fn member_line<T: Tree>(
     let what = member_of(alloc, from.as_str(), name.as_str())?;
     let longer = with_part(alloc, from.as_str(), name.as_str())?;
     let means = meaning_of(tree, path, from)?;
-    let member = meaning_of(tree, path, &longer)?;
-    Ok(chosen(&what, &means, &member)?)
+    behind_module(tree, path, &what, &means, &longer)
 }
 
 /// The answer to a question, without its place.

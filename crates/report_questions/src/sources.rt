@@ -1,7 +1,10 @@
 //! What the imports of a source ask.
-ghost use Rattle.std.specs.Prelude.{◌≡◌, ◌++◌, ◌∷◌, ◌<◌, [], ℕ, List, length, Option, IfOk, OnOk, Ok};
+ghost use Rattle.std.specs.Prelude.{◌≡◌, ◌++◌, ◌∷◌, ◌<◌, [], ℕ, List, length, Option, IfOk, IfSome, OnOk, Ok};
 ghost use Rattle.base_types.specs.declared.limits.TheConstants.{LONGEST_SOURCE};
-ghost use Rattle.py_lexer.specs.SourceReading.{source};
+ghost use Rattle.py_lexer.specs.Source.{Tokens};
+ghost use Rattle.py_syntax.specs.Grammar.{Spells};
+ghost use Rattle.source_lexemes.specs.Words.{lexemes_of};
+ghost use Rattle.source_imports.specs.Sources.{imports_of};
 ghost use Rattle.report_questions.specs.Questions as list;
 ghost use Rattle.report_questions.specs.Sources as spec;
 ghost use Rattle.report_questions.specs.Faults.{fault_of};
@@ -11,11 +14,17 @@ use crate::faults::fault_of;
 use crate::question::{Query, Question};
 use crate::relative::queries_of;
 use base_types::{NoMemory, Seq, Text};
-use py_lexer::{LexError, tokens};
+use py_lexer::{LexError, Token, tokens};
 use py_parser::{ParseError, parse};
 use py_syntax::Script;
+use source_combinators::ReadError;
 use source_imports::{Import, imports_of};
+use source_lexemes::lexemes;
+use source_parse_statements::script;
 use std::alloc::Global;
+
+/// How many levels of a source may be open, as the parser has it.
+const MAX_LEVELS: usize = 64;
 
 /// Questions in one line.
 fn put_line(questions: &mut Seq<Question>, line: u32, queries: Seq<Query>) -> Result<(), NoMemory>
@@ -66,21 +75,61 @@ fn fault_questions(alloc: Global, error: ParseError) -> Result<Seq<Question>, No
     }
 }
 
-/// What a source asks that has this tree. So it has tokens, and only memory can be wanting for them.
+/// What a source asks that has this tree and these tokens.
 fn script_questions(
     alloc: Global,
     home: &Option<Text>,
-    src: &[u8],
     script: &Script,
+    tokens: &[Token],
 ) -> Result<Seq<Question>, NoMemory>
-    ensures { IfOk result (λ questions. questions ≡ spec.questions_by home.now (Ok script.now) (source src.now)) }
+    ensures { IfOk result (λ questions. questions ≡ list.questions_of home.now (imports_of script.now tokens.now)) }
 {
-    match tokens(alloc, src) {
-        Ok(tokens) => {
-            let imports = imports_of(alloc, script, tokens.as_slice())?;
-            questions_of(home, &imports)
-        }
-        Err(_) => Err(NoMemory),
+    let imports = imports_of(alloc, script, tokens)?;
+    questions_of(home, &imports)
+}
+
+/// The tree that tokens spell. None where they spell none.
+fn tree_of(alloc: Global, tokens: &[Token]) -> Result<Option<Script>, NoMemory>
+    ensures { IfOk result (λ it. IfSome it (λ script. Spells 64 (lexemes_of tokens.now) script)) }
+{
+    let lexemes = lexemes(alloc, tokens)?;
+    match script(alloc, lexemes.as_slice(), MAX_LEVELS) {
+        Ok(script) => Ok(Some(script)),
+        Err(ReadError::NoMemory) => Err(NoMemory),
+        Err(ReadError::Refused(_)) => Ok(None),
+    }
+}
+
+/// The one line of a source that has no tree: it is parsed for its fault. Where it has one after all, there was no
+/// memory to keep it.
+fn refused_questions(
+    alloc: Global,
+    home: &Option<Text>,
+    src: &[u8],
+) -> Result<Seq<Question>, NoMemory>
+    ensures { IfOk result (λ questions. questions ≡ spec.questions home.now src.now) }
+{
+    match parse(alloc, src) {
+        Ok(_) => Err(NoMemory),
+        Err(error) => fault_questions(alloc, error),
+    }
+}
+
+/// What a source asks that has these tokens, of which its tree and the lines of its imports are read: so it is lexed
+/// once.
+fn token_questions(
+    alloc: Global,
+    home: &Option<Text>,
+    src: &[u8],
+    tokens: &[Token],
+) -> Result<Seq<Question>, NoMemory>
+    requires { Tokens src.now (Ok tokens.now) }
+    ensures { IfOk result (λ questions. questions ≡ spec.questions home.now src.now) }
+{
+    let tree = tree_of(alloc, tokens)?;
+    match tree {
+        Some(script) => script_questions(alloc, home, &script, tokens),
+        None => refused_questions(alloc, home, src),
     }
 }
 
@@ -89,8 +138,8 @@ fn script_questions(
 pub fn questions(alloc: Global, home: &Option<Text>, src: &[u8]) -> Result<Seq<Question>, NoMemory>
     ensures { IfOk result (λ questions. questions ≡ spec.questions home.now src.now) }
 {
-    match parse(alloc, src) {
-        Ok(script) => script_questions(alloc, home, src, &script),
-        Err(error) => fault_questions(alloc, error),
+    match tokens(alloc, src) {
+        Ok(tokens) => token_questions(alloc, home, src, tokens.as_slice()),
+        Err(_) => refused_questions(alloc, home, src),
     }
 }

@@ -1,3 +1,5 @@
 mod Lists
+mod Splitting
 mod Replaying
 mod Judging
+mod Sharing

@@ -1,2 +1,3 @@
 pub mod Replays
 pub mod Judge
+pub mod Threads

@@ -86,7 +86,8 @@ fn deadlocks_in(entries: &[Entry]) -> usize
     count
 }
 
-fn counts_of(entries: &[Entry]) -> Counts
+/// The four counts of a history. It takes no memory.
+pub fn counts_of(entries: &[Entry]) -> Counts
     ensures { result ≡ counts_of entries.now }
 {
     Counts {
@@ -112,7 +113,7 @@ fn replies(machine: &mut Machine, entry: &Entry) -> Result<bool, NoMemory>
 }
 
 /// One entry on the machine: why it is not as the machine says, if it is not.
-fn fault(machine: &mut Machine, entry: &Entry) -> Result<Option<Why>, NoMemory>
+pub(crate) fn fault(machine: &mut Machine, entry: &Entry) -> Result<Option<Why>, NoMemory>
     ensures { IfOk result (Tests machine.old machine.new entry.now) }
 {
     if entry.thread >= machine.scripts() {
@@ -129,7 +130,7 @@ fn fault(machine: &mut Machine, entry: &Entry) -> Result<Option<Why>, NoMemory>
 }
 
 /// The answer of a replay that broke at a place. A place that 32 bits do not hold is want of memory.
-fn broken(at: usize, why: Why) -> Result<Replayed, NoMemory>
+pub(crate) fn broken(at: usize, why: Why) -> Result<Replayed, NoMemory>
     ensures { IfOk result (λ it. it ≡ Replayed.Breaks at why) }
 {
     match u32::try_from(at) {

@@ -6,7 +6,7 @@ use crate::answers::{Replayed, Verdict, Why};
 use machine_events::{Entry, Follow};
 
 /// The line of the first entry: the line before it tells the format.
-const FIRST_LINE: u32 = 2;
+pub(crate) const FIRST_LINE: u32 = 2;
 
 /// The order of causes on one line.
 fn rank(why: Why) -> u8
@@ -30,7 +30,7 @@ fn is_first(line: u32, why: Why, other_line: u32, other_why: Why) -> bool
 }
 
 /// The verdict with one more fault.
-fn first_of(verdict: Verdict, line: u32, why: Why) -> Verdict
+pub(crate) fn first_of(verdict: Verdict, line: u32, why: Why) -> Verdict
     ensures { result ≡ first_of verdict line why }
 {
     match verdict {
@@ -49,7 +49,7 @@ fn first_of(verdict: Verdict, line: u32, why: Why) -> Verdict
 }
 
 /// The verdict where no script parts.
-fn verdict_of_replay(replayed: &Replayed) -> Verdict
+pub(crate) fn verdict_of_replay(replayed: &Replayed) -> Verdict
     requires { IsPlaced replayed.now (2 ^ 32 - 2) }
     ensures { result ≡ verdict_of_replay replayed.now }
 {

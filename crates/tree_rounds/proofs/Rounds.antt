@@ -72,13 +72,23 @@ total_more count [] fork = omega arith
 total_more count (x ∷ forks) fork = let rest = total_more count forks fork in omega (arith, rest)
 
 pub faults_step : {F : Type 0} (count : F → ℕ) (forks left : List F) (fork : F) (a b new : ℕ) → forks ≡ left ++ fork ∷ [] → Absorbed a (count fork) b → Absorbed b (total count left) new → Absorbed a (total count forks) new
-faults_step count forks left fork a b new is p q = let sum : total count forks ≡ total count left + count fork = ap (total count) is ∙ total_more count left fork in omega (arith, sum, p, q)
+faults_step count forks left fork a b new is p q =
+    let sum : total count forks ≡ total count left + count fork = ap (total count) is ∙ total_more count left fork in
+    let first = p.least in
+    let rest = q.least in
+    record {
+      least = omega (arith, sum, first, rest);
+      none = λ none.
+          let low = p.none (omega (arith, sum, none)) in
+          let high = q.none (omega (arith, sum, none)) in
+          omega (arith, low, high);
+    }
 
 pub lists_step : {F : Type 0} (count : F → ℕ) (forks left : List F) (fork : F) (a b new : ℕ) → forks ≡ left ++ fork ∷ [] → b ≤ a + count fork → new ≤ b + total count left → new ≤ a + total count forks
 lists_step count forks left fork a b new is p q = let sum : total count forks ≡ total count left + count fork = ap (total count) is ∙ total_more count left fork in omega (arith, sum, p, q)
 
 pub faults_end : {F : Type 0} (count : F → ℕ) (forks : List F) (now : ℕ) → forks ≡ [] → Absorbed now (total count forks) now
-faults_end count forks now is = let none : total count forks ≡ 0 = ap (total count) is in omega (arith, none)
+faults_end count forks now is = let none : total count forks ≡ 0 = ap (total count) is in record { least = omega (arith, none); none = λ zero. omega arith }
 
 pub lists_end : {F : Type 0} (count : F → ℕ) (forks : List F) (now : ℕ) → forks ≡ [] → now ≤ now + total count forks
 lists_end count forks now is = omega arith

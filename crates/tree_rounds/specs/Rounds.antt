@@ -25,9 +25,10 @@ AreForks told faults lists tree (edits ∷ rounds) [] = ⊥
 AreForks told faults lists tree (edits ∷ rounds) (fork ∷ forks) =
     (told fork ≡ edited_told edits tree) × (faults fork ≡ 0) × (lists fork ≡ 0) × AreForks told faults lists (edited_told edits tree) rounds forks
 
--- a count rose by at least so much, or stands at its end
-abbrev pub Absorbed : ℕ → ℕ → ℕ → Type 0
-Absorbed old n new = raised old n ≤ new
+-- a count rose by at least so much, or stands at its end; where that is nothing, it did not rise
+pub record Absorbed (old n new : ℕ) : Type 0 where
+  pub least : raised old n ≤ new
+  pub none : n ≡ 0 → new ≤ old
 
 -- what these forks counted in all
 abbrev pub total : {F : Type 0} → (F → ℕ) → List F → ℕ

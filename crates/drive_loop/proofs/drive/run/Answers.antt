@@ -1,4 +1,5 @@
-use Rattle.std.proofs.Common.{◌≡◌, Err, ap, subst}
+use Rattle.std.proofs.Common.{◌≡◌, ◌∙◌, ℕ, Err, refl, ap, subst}
+use Rattle.tree_files.specs.Count.{Rose}
 use Rattle.meaning_runs.specs.Runs.{Run}
 use Rattle.meaning_runs.proofs.Stand.{in_some}
 use Rattle.drive_port.specs.declared.port.Halt.TheVariants.{Refused}
@@ -6,7 +7,7 @@ use Rattle.drive_port.proofs.Staying.{stays_refl, stays_trans}
 use Rattle.drive_loop.specs.Turns.{After, Counts}
 use Rattle.drive_loop.specs.Starts.{started}
 use Rattle.drive_loop.specs.declared.course.Turn.{Turn}
-use Rattle.drive_search.proofs.Asking.{asked_refl, asked_trans, kept_refl, kept_trans, rose_later}
+use Rattle.drive_search.proofs.Asking.{asked_refl, asked_trans, kept_refl, kept_trans}
 use Rattle.drive_loop.proofs.Turning.{begins, stands_first, holds_first, stood, after_turn, parted, refused_at}
 use Rattle.drive_loop.proofs.drive.run.Goals as goal
 
@@ -15,6 +16,7 @@ turns-init g c = record {
   stays = stays_refl _;
   holds = holds_first (g.P.Port.view c.args.port.now) c.args.script c.args.fuel c.args.course.now c.requires.begun.first c.requires.fresh;
   at = begins (g.T.Tree.files c.args.tree.now) c.args.script c.args.fuel (started c.args.script c.args.start) c.in-Ok.want (g.P.Port.view c.args.port.now).mine c.args.course.now c.requires.begun.first c.requires.fresh c.in-Ok.ensures;
+  unfailed = refl;
   asked = asked_refl _ _;
   kept = kept_refl _ _;
 }
@@ -51,6 +53,7 @@ turns-preserved g c =
       holds = c.in-Ok-give.ensures.holds;
       at = subst (λ (t : Turn). After files whole c.args.fuel mine' c.give.new.course t) c.in-On.is
           (after_turn files (g.T.Tree.files c.turns.tree) whole c.args.fuel _ _ (g.P.Port.view c.turns.port).mine mine' c.turns.course c.give.new.course c.turns.want c.in-Ok-give.turn c.turns.invariant.asked.files c.turns.invariant.at c.in-Ok-give.ensures.turned);
+      unfailed = subst (λ (t : Turn). Counts (g.T.Tree.faults c.turns.tree) (g.T.Tree.faults c.give.new.tree) t) c.in-On.is c.in-Ok-give.ensures.turned.counts ∙ c.turns.invariant.unfailed;
       asked = asked_trans c.turns.invariant.asked c.in-Ok-give.ensures.asked;
       kept = kept_trans _ _ _ (g.P.Port.view c.args.port.now).mine (g.P.Port.view c.turns.port).mine mine' c.turns.invariant.kept c.in-Ok-give.ensures.kept;
     }
@@ -64,6 +67,9 @@ returns-in-Came-clause-over g c =
     (after_turn files (g.T.Tree.files c.turns.tree) whole c.args.fuel _ _ (g.P.Port.view c.turns.port).mine mine' c.turns.course c.give.new.course c.turns.want c.in-Ok-give.turn c.turns.invariant.asked.files c.turns.invariant.at c.in-Ok-give.ensures.turned) in
     (c.give.new.course.purse.budget, after.stands)
 
+pub returns-in-Came-clause-unfailed : goal.returns-in-Came-clause-unfailed
+returns-in-Came-clause-unfailed g c = subst (λ (t : Turn). Counts (g.T.Tree.faults c.turns.tree) (g.T.Tree.faults c.give.new.tree) t) c.in-Came.is c.in-Ok-give.ensures.turned.counts ∙ c.turns.invariant.unfailed
+
 pub returns-in-Out-clause-over : goal.returns-in-Out-clause-over
 returns-in-Out-clause-over g c =
     let whole : Run = started c.args.script c.args.start in
@@ -73,6 +79,9 @@ returns-in-Out-clause-over g c =
     (after_turn files (g.T.Tree.files c.turns.tree) whole c.args.fuel _ _ (g.P.Port.view c.turns.port).mine mine' c.turns.course c.give.new.course c.turns.want c.in-Ok-give.turn c.turns.invariant.asked.files c.turns.invariant.at c.in-Ok-give.ensures.turned) in
     (c.give.new.course.purse.budget, after)
 
+pub returns-in-Out-clause-unfailed : goal.returns-in-Out-clause-unfailed
+returns-in-Out-clause-unfailed g c = subst (λ (t : Turn). Counts (g.T.Tree.faults c.turns.tree) (g.T.Tree.faults c.give.new.tree) t) c.in-Out.is c.in-Ok-give.ensures.turned.counts ∙ c.turns.invariant.unfailed
+
 pub returns-in-Unread-clause-over : goal.returns-in-Unread-clause-over
 returns-in-Unread-clause-over g c =
     let whole : Run = started c.args.script c.args.start in
@@ -81,7 +90,7 @@ returns-in-Unread-clause-over g c =
     let after = subst (λ (t : Turn). After files whole c.args.fuel mine' c.give.new.course t) c.in-Unread.is
     (after_turn files (g.T.Tree.files c.turns.tree) whole c.args.fuel _ _ (g.P.Port.view c.turns.port).mine mine' c.turns.course c.give.new.course c.turns.want c.in-Ok-give.turn c.turns.invariant.asked.files c.turns.invariant.at c.in-Ok-give.ensures.turned) in
     let rose = subst (λ (t : Turn). Counts (g.T.Tree.faults c.turns.tree) (g.T.Tree.faults c.give.new.tree) t) c.in-Unread.is c.in-Ok-give.ensures.turned.counts in
-    (after, rose_later _ _ _ c.turns.invariant.asked.faults rose)
+    (after, subst (λ (n : ℕ). Rose n (g.T.Tree.faults c.give.new.tree)) c.turns.invariant.unfailed rose)
 
 -- where not even the first want was made
 

@@ -12,8 +12,8 @@ returns-in-File-clause-turned g c = IfOk-weaker c.load.result _ _ (λ turn l. lo
 
 pub returns-in-Dir-clause-turned : goal.returns-in-Dir-clause-turned
 returns-in-Dir-clause-turned g c =
-    IfOk-weaker c.feed.result _ _ (λ turn s. looked_by _ _ _ _ _ _ _ _ c.args.stamp _ turn c.in-Dir.is (λ mine. s (g.T.Tree.files c.args.tree.now) (g.T.Tree.faults c.args.tree.now) (g.T.Tree.faults c.args.tree.now) mine)) c.feed.ensures.turned
+    IfOk-weaker c.feed.result _ _ (λ turn s. looked_by _ _ _ _ _ _ _ _ c.args.stamp _ turn c.in-Dir.is (λ mine. s (g.T.Tree.files c.args.tree.now) (g.T.Tree.faults c.args.tree.now) mine)) c.feed.ensures.turned
 
 pub returns-in-Absent-clause-turned : goal.returns-in-Absent-clause-turned
 returns-in-Absent-clause-turned g c =
-    IfOk-weaker c.feed-in-Absent.result _ _ (λ turn s. looked_by _ _ _ _ _ _ _ _ c.args.stamp _ turn c.in-Absent.is (λ mine. s (g.T.Tree.files c.args.tree.now) (g.T.Tree.faults c.args.tree.now) (g.T.Tree.faults c.args.tree.now) mine)) c.feed-in-Absent.ensures.turned
+    IfOk-weaker c.feed-in-Absent.result _ _ (λ turn s. looked_by _ _ _ _ _ _ _ _ c.args.stamp _ turn c.in-Absent.is (λ mine. s (g.T.Tree.files c.args.tree.now) (g.T.Tree.faults c.args.tree.now) mine)) c.feed-in-Absent.ensures.turned

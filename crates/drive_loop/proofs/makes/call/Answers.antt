@@ -1,4 +1,4 @@
-use Rattle.std.proofs.Common.{◌≡◌, Err, ap}
+use Rattle.std.proofs.Common.{◌≡◌, Err, refl, ap}
 use Rattle.machine_shown.specs.Shown.{shown}
 use Rattle.drive_account.proofs.Giving.{lists_grow}
 use Rattle.drive_port.specs.declared.port.Halt.TheVariants.{Refused}
@@ -11,12 +11,12 @@ pub call-requires-clause-knows : goal.call-requires-clause-knows
 call-requires-clause-knows g c = knows_made (shown (g.P.Port.view c.args.port.now).number (g.P.Port.view c.args.port.now).mine) c.args.event c.requires.stood.safe.0 c.requires.stood.safe.1.0
 
 pub returns-then-not-pay-clause-turned : goal.returns-then-not-pay-clause-turned
-returns-then-not-pay-clause-turned g c = λ files faults faults'. record { moves = λ whole fuel a. c.if-not-pay.ensures.moves files whole fuel _ _ a; counts = tt }
+returns-then-not-pay-clause-turned g c = λ files faults. record { moves = λ whole fuel a. c.if-not-pay.ensures.moves files whole fuel _ _ a; counts = refl }
 
 pub returns-in-Ok-change-clause-turned : goal.returns-in-Ok-change-clause-turned
-returns-in-Ok-change-clause-turned g c = λ files faults faults'. record {
+returns-in-Ok-change-clause-turned g c = λ files faults. record {
   moves = λ whole fuel a. at_made (g.P.Port.view c.args.port.now).mine _ c.pay.new.self c.args.event c.in-Ok-call.reply _ c.in-Ok-call.ensures.ok.mine (c.if-not-pay.ensures.moves files whole fuel _ _ a);
-  counts = tt;
+  counts = refl;
 }
 
 pub returns-in-Err-change-clause-part : goal.returns-in-Err-change-clause-part

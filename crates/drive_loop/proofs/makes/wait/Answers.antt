@@ -1,4 +1,4 @@
-use Rattle.std.proofs.Common.{◌≡◌, Err, ap}
+use Rattle.std.proofs.Common.{◌≡◌, Err, refl, ap}
 use Rattle.machine_events.specs.declared.event.Event.TheVariants as e
 use Rattle.drive_account.proofs.Giving.{lists_grow}
 use Rattle.drive_port.specs.declared.port.Halt.TheVariants.{Refused}
@@ -7,9 +7,9 @@ use Rattle.drive_loop.proofs.Making.{holds_woken}
 use Rattle.drive_loop.proofs.makes.wait.Goals as goal
 
 pub returns-in-Ok-clause-turned : goal.returns-in-Ok-clause-turned
-returns-in-Ok-clause-turned g c = λ files faults faults'. record {
+returns-in-Ok-clause-turned g c = λ files faults. record {
   moves = λ whole fuel a. at_made (g.P.Port.view c.args.port.now).mine _ c.args.course.now.purse e.Wake c.in-Ok.reply _ c.in-Ok.ensures.ok.mine a;
-  counts = tt;
+  counts = refl;
 }
 
 pub returns-in-Ok-clause-holds : goal.returns-in-Ok-clause-holds

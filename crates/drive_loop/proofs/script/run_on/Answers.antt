@@ -10,22 +10,20 @@ use Rattle.drive_port.proofs.Staying.{stays_trans}
 use Rattle.drive_account.specs.At.{IsShort}
 use Rattle.drive_account.specs.Ending.{GaveAll, Gave}
 use Rattle.drive_account.proofs.Giving.{lists_grow}
+use Rattle.drive_account.proofs.Meant.{follows_of, broken_in, is_read}
 use Rattle.meaning_script.specs.Meaning.{outcome_of}
 use Rattle.drive_loop.specs.Turns.{ended}
-use Rattle.drive_loop.specs.Overs.{Overs}
+use Rattle.drive_loop.specs.Overs.{Overs, IsUnfailed}
 use Rattle.drive_loop.specs.Starts.{started}
 use Rattle.drive_loop.specs.declared.drive.Over.{Over}
 use Rattle.drive_loop.specs.declared.drive.Over.TheVariants as over
 use Rattle.drive_search.proofs.Results.{on_err_then}
 use Rattle.drive_loop.proofs.Results.{if_ok}
-use Rattle.drive_loop.proofs.Whole.{follows_came, follows_out, follows_read, broken_in, broken_out, broken_read, no_end_in, no_end_out, no_end_read, lists_whole, came_shown, spent_idle, unread_idle, unread_left}
+use Rattle.drive_loop.proofs.Whole.{meant_came, meant_out, meant_read, meant_over, broken_out, broken_read, no_end_in, no_end_out, no_end_read, lists_whole, came_shown, spent_idle, unread_idle, unread_left}
 use Rattle.drive_loop.proofs.script.run_on.Goals as goal
 
 pub returns-in-Err-clause-part : goal.returns-in-Err-clause-part
-returns-in-Err-clause-part g c = λ files e.
-    let whole : Run = started c.args.script c.args.start in
-    let mine = (g.P.Port.view c.run.new.port).mine in
-    broken_in files c.args.script whole c.args.fuel mine _ _ (subst (λ (o : Option Files). StandsIn o whole c.args.fuel mine) e c.in-Err.ensures.part)
+returns-in-Err-clause-part g c = broken_in _ _ c.in-Err.ensures.part
 
 pub came-requires-clause-ready : goal.came-requires-clause-ready
 came-requires-clause-ready g c = c.run.ensures.stays.ready c.requires.begun.ready
@@ -42,30 +40,32 @@ came-requires-clause-knows g c =
 pub returns-in-Came-clause-stays : goal.returns-in-Came-clause-stays
 returns-in-Came-clause-stays g c = stays_trans _ _ _ c.run.ensures.stays c.came.ensures.stays
 
-pub returns-in-Came-clause-ended : goal.returns-in-Came-clause-ended
-returns-in-Came-clause-ended g c = IfOk-weaker c.came.result _ _ (λ ending ends. record { before = (g.P.Port.view c.run.new.port).mine; paid = c.args.fuel; whole = rw ends.0 ends.1 }) c.came.ensures.ends
+pub returns-in-Came-clause-meant : goal.returns-in-Came-clause-meant
+returns-in-Came-clause-meant g c =
+    let whole : Run = started c.args.script c.args.start in
+    let files = g.T.Tree.files c.args.tree.now in
+    let v = g.P.Port.view c.run.new.port in
+    let came : Overs files (g.T.Tree.faults c.args.tree.now) (g.T.Tree.faults c.run.new.tree) whole c.args.fuel v.mine (over.Came c.in-Came.flow) =
+    subst (λ (o : Over). Overs files (g.T.Tree.faults c.args.tree.now) (g.T.Tree.faults c.run.new.tree) whole c.args.fuel v.mine o) c.in-Came.is c.in-Ok.ensures.over in
+    IfOk-weaker c.came.result _ _ (λ ending ends. rw ends.0 (meant_came c.args.script whole c.args.fuel came.0 v.mine (g.P.Port.view c.came.new.port).mine c.in-Came.flow came.1 ends.1)) c.came.ensures.ends
 
 pub returns-in-Came-clause-follows : goal.returns-in-Came-clause-follows
-returns-in-Came-clause-follows g c = λ told e.
-    let whole : Run = started c.args.script c.args.start in
-    let files = g.T.Tree.files c.args.tree.now in
-    let v = g.P.Port.view c.run.new.port in
-    let came : Overs files (g.T.Tree.faults c.args.tree.now) (g.T.Tree.faults c.run.new.tree) whole c.args.fuel v.mine (over.Came c.in-Came.flow) =
-    subst (λ (o : Over). Overs files (g.T.Tree.faults c.args.tree.now) (g.T.Tree.faults c.run.new.tree) whole c.args.fuel v.mine o) c.in-Came.is c.in-Ok.ensures.over in
-    let stands : Stands (Some told) whole c.args.fuel v.mine came.0 (ended c.in-Came.flow) = subst (λ (o : Option Files). Stands o whole c.args.fuel v.mine came.0 (ended c.in-Came.flow)) e came.1 in
-    IfOk-weaker c.came.result _ _ (λ ending ends. rw ends.0 (follows_came told c.args.script whole c.args.fuel came.0 v.mine (g.P.Port.view c.came.new.port).mine c.in-Came.flow stands ends.1 c.requires.safe)) c.came.ensures.ends
+returns-in-Came-clause-follows g c = λ told e. IfOk-weaker c.came.result _ _ (λ ending meant. follows_of (meant_over e meant) c.requires.safe) (returns-in-Came-clause-meant g c)
 
 pub returns-in-Came-clause-part : goal.returns-in-Came-clause-part
-returns-in-Came-clause-part g c = λ told e.
+returns-in-Came-clause-part g c =
     let whole : Run = started c.args.script c.args.start in
     let files = g.T.Tree.files c.args.tree.now in
     let v = g.P.Port.view c.run.new.port in
     let came : Overs files (g.T.Tree.faults c.args.tree.now) (g.T.Tree.faults c.run.new.tree) whole c.args.fuel v.mine (over.Came c.in-Came.flow) =
     subst (λ (o : Over). Overs files (g.T.Tree.faults c.args.tree.now) (g.T.Tree.faults c.run.new.tree) whole c.args.fuel v.mine o) c.in-Came.is c.in-Ok.ensures.over in
-    on_err_then c.came.result c.came.ensures.err (λ same. rw same (broken_in told c.args.script whole c.args.fuel v.mine _ _ (subst (λ (o : Option Files). StandsIn o whole c.args.fuel v.mine) e (in_some came.1))))
+    on_err_then c.came.result c.came.ensures.err (λ same. rw same (broken_in _ _ (in_some came.1)))
 
 pub returns-in-Came-clause-read : goal.returns-in-Came-clause-read
 returns-in-Came-clause-read g c = IfOk-weaker c.came.result _ _ (λ ending other is. absurd (other is)) c.came.ensures.read
+
+pub returns-in-Came-clause-unfailed : goal.returns-in-Came-clause-unfailed
+returns-in-Came-clause-unfailed g c = if_ok c.came.result (λ ending other. subst (IsUnfailed (g.T.Tree.faults c.args.tree.now) (g.T.Tree.faults c.run.new.tree)) c.in-Came.is c.in-Ok.ensures.unfailed)
 
 pub spent-requires : goal.spent-requires
 spent-requires g c =
@@ -79,36 +79,37 @@ spent-requires g c =
 pub returns-in-Out-clause-stays : goal.returns-in-Out-clause-stays
 returns-in-Out-clause-stays g c = stays_trans _ _ _ c.run.ensures.stays c.spent.ensures.stays
 
-pub returns-in-Out-clause-ended : goal.returns-in-Out-clause-ended
-returns-in-Out-clause-ended g c = IfOk-weaker c.spent.result _ _ (λ ending ends. record { before = ends.1.before; paid = c.args.fuel; whole = rw ends.0 ends.1.whole }) c.spent.ensures.ends
-
-pub returns-in-Out-clause-follows : goal.returns-in-Out-clause-follows
-returns-in-Out-clause-follows g c = λ told e.
+pub returns-in-Out-clause-meant : goal.returns-in-Out-clause-meant
+returns-in-Out-clause-meant g c =
     let whole : Run = started c.args.script c.args.start in
     let files = g.T.Tree.files c.args.tree.now in
     let v = g.P.Port.view c.run.new.port in
     let mine' = (g.P.Port.view c.spent.new.port).mine in
     let out : Overs files (g.T.Tree.faults c.args.tree.now) (g.T.Tree.faults c.run.new.tree) whole c.args.fuel v.mine (over.Out c.in-Out.of_tree) =
     subst (λ (o : Over). Overs files (g.T.Tree.faults c.args.tree.now) (g.T.Tree.faults c.run.new.tree) whole c.args.fuel v.mine o) c.in-Out.is c.in-Ok.ensures.over in
-    let here : IsShort (Some told) whole c.args.fuel v.mine out.0 c.in-Out.of_tree = subst (λ (o : Option Files). IsShort o whole c.args.fuel v.mine out.0 c.in-Out.of_tree) e out.1 in
     let number : v.number ≡ c.args.script = c.run.ensures.stays.number ∙ c.requires.begun.number in
     IfOk-weaker c.spent.result _ _ (λ ending ends. rw ends.0
-    (follows_out told c.args.script whole c.args.fuel out.0 c.in-Out.of_tree v.mine mine' here (subst (λ (t : ℕ). GaveAll t v.mine mine' o.Fuel c.args.fuel) number ends.1) c.requires.safe)) c.spent.ensures.ends
+    (meant_out c.args.script whole c.args.fuel out.0 c.in-Out.of_tree v.mine mine' out.1 (subst (λ (t : ℕ). GaveAll t v.mine mine' o.Fuel c.args.fuel) number ends.1))) c.spent.ensures.ends
+
+pub returns-in-Out-clause-follows : goal.returns-in-Out-clause-follows
+returns-in-Out-clause-follows g c = λ told e. IfOk-weaker c.spent.result _ _ (λ ending meant. follows_of (meant_over e meant) c.requires.safe) (returns-in-Out-clause-meant g c)
 
 pub returns-in-Out-clause-part : goal.returns-in-Out-clause-part
-returns-in-Out-clause-part g c = λ told e.
+returns-in-Out-clause-part g c =
     let whole : Run = started c.args.script c.args.start in
     let files = g.T.Tree.files c.args.tree.now in
     let v = g.P.Port.view c.run.new.port in
     let mine' = (g.P.Port.view c.spent.new.port).mine in
     let out : Overs files (g.T.Tree.faults c.args.tree.now) (g.T.Tree.faults c.run.new.tree) whole c.args.fuel v.mine (over.Out c.in-Out.of_tree) =
     subst (λ (o : Over). Overs files (g.T.Tree.faults c.args.tree.now) (g.T.Tree.faults c.run.new.tree) whole c.args.fuel v.mine o) c.in-Out.is c.in-Ok.ensures.over in
-    let here : IsShort (Some told) whole c.args.fuel v.mine out.0 c.in-Out.of_tree = subst (λ (o : Option Files). IsShort o whole c.args.fuel v.mine out.0 c.in-Out.of_tree) e out.1 in
     let number : v.number ≡ c.args.script = c.run.ensures.stays.number ∙ c.requires.begun.number in
-    on_err_then c.spent.result c.spent.ensures.part (λ gave. broken_out told c.args.script whole c.args.fuel out.0 c.in-Out.of_tree v.mine mine' _ _ here (subst (λ (t : ℕ). Gave t v.mine mine') number gave))
+    on_err_then c.spent.result c.spent.ensures.part (λ gave. broken_out c.args.script whole c.args.fuel out.0 c.in-Out.of_tree v.mine mine' _ _ out.1 (subst (λ (t : ℕ). Gave t v.mine mine') number gave))
 
 pub returns-in-Out-clause-read : goal.returns-in-Out-clause-read
 returns-in-Out-clause-read g c = IfOk-weaker c.spent.result _ _ (λ ending other is. absurd (other is)) c.spent.ensures.read
+
+pub returns-in-Out-clause-unfailed : goal.returns-in-Out-clause-unfailed
+returns-in-Out-clause-unfailed g c = if_ok c.spent.result (λ ending other. subst (IsUnfailed (g.T.Tree.faults c.args.tree.now) (g.T.Tree.faults c.run.new.tree)) c.in-Out.is c.in-Ok.ensures.unfailed)
 
 pub overflow_sub-paid : goal.overflow_sub-paid
 overflow_sub-paid g c =
@@ -131,33 +132,31 @@ unread-requires g c =
 pub returns-clause-stays : goal.returns-clause-stays
 returns-clause-stays g c = stays_trans _ _ _ c.run.ensures.stays c.unread.ensures.stays
 
-pub returns-clause-ended : goal.returns-clause-ended
-returns-clause-ended g c = IfOk-weaker c.unread.result _ _ (λ ending ends. record { before = ends.1.before; paid = c.args.fuel - c.in-Unread.left; whole = rw ends.0 ends.1.whole }) c.unread.ensures.ends
-
-pub returns-clause-follows : goal.returns-clause-follows
-returns-clause-follows g c = λ told e.
+pub returns-clause-meant : goal.returns-clause-meant
+returns-clause-meant g c =
     let whole : Run = started c.args.script c.args.start in
     let files = g.T.Tree.files c.args.tree.now in
     let v = g.P.Port.view c.run.new.port in
     let mine' = (g.P.Port.view c.unread.new.port).mine in
     let lost : Overs files (g.T.Tree.faults c.args.tree.now) (g.T.Tree.faults c.run.new.tree) whole c.args.fuel v.mine (over.Unread c.in-Unread.left) =
     subst (λ (o : Over). Overs files (g.T.Tree.faults c.args.tree.now) (g.T.Tree.faults c.run.new.tree) whole c.args.fuel v.mine o) c.in-Unread.is c.in-Ok.ensures.over in
-    let here : IsUnread (Some told) whole c.args.fuel v.mine c.in-Unread.left = subst (λ (o : Option Files). IsUnread o whole c.args.fuel v.mine c.in-Unread.left) e lost.0 in
     let number : v.number ≡ c.args.script = c.run.ensures.stays.number ∙ c.requires.begun.number in
     IfOk-weaker c.unread.result _ _ (λ ending ends. rw ends.0
-    (follows_read told c.args.script whole c.args.fuel c.in-Unread.left v.mine mine' here (subst (λ (t : ℕ). GaveAll t v.mine mine' o.Read (c.args.fuel - c.in-Unread.left)) number ends.1) c.requires.safe)) c.unread.ensures.ends
+    (meant_read c.args.script whole c.args.fuel c.in-Unread.left v.mine mine' lost.0 (subst (λ (t : ℕ). GaveAll t v.mine mine' o.Read (c.args.fuel - c.in-Unread.left)) number ends.1))) c.unread.ensures.ends
+
+pub returns-clause-follows : goal.returns-clause-follows
+returns-clause-follows g c = λ told e. IfOk-weaker c.unread.result _ _ (λ ending meant. follows_of (meant_over e meant) c.requires.safe) (returns-clause-meant g c)
 
 pub returns-clause-part : goal.returns-clause-part
-returns-clause-part g c = λ told e.
+returns-clause-part g c =
     let whole : Run = started c.args.script c.args.start in
     let files = g.T.Tree.files c.args.tree.now in
     let v = g.P.Port.view c.run.new.port in
     let mine' = (g.P.Port.view c.unread.new.port).mine in
     let lost : Overs files (g.T.Tree.faults c.args.tree.now) (g.T.Tree.faults c.run.new.tree) whole c.args.fuel v.mine (over.Unread c.in-Unread.left) =
     subst (λ (o : Over). Overs files (g.T.Tree.faults c.args.tree.now) (g.T.Tree.faults c.run.new.tree) whole c.args.fuel v.mine o) c.in-Unread.is c.in-Ok.ensures.over in
-    let here : IsUnread (Some told) whole c.args.fuel v.mine c.in-Unread.left = subst (λ (o : Option Files). IsUnread o whole c.args.fuel v.mine c.in-Unread.left) e lost.0 in
     let number : v.number ≡ c.args.script = c.run.ensures.stays.number ∙ c.requires.begun.number in
-    on_err_then c.unread.result c.unread.ensures.part (λ gave. broken_read told c.args.script whole c.args.fuel c.in-Unread.left v.mine mine' _ _ here (subst (λ (t : ℕ). Gave t v.mine mine') number gave) lost.1)
+    on_err_then c.unread.result c.unread.ensures.part (λ gave. broken_read c.args.script whole c.args.fuel c.in-Unread.left v.mine mine' _ _ lost.0 (subst (λ (t : ℕ). Gave t v.mine mine') number gave) lost.1)
 
 pub returns-clause-read : goal.returns-clause-read
 returns-clause-read g c =
@@ -167,6 +166,9 @@ returns-clause-read g c =
     let lost : Overs files (g.T.Tree.faults c.args.tree.now) (g.T.Tree.faults c.run.new.tree) whole c.args.fuel v.mine (over.Unread c.in-Unread.left) =
     subst (λ (o : Over). Overs files (g.T.Tree.faults c.args.tree.now) (g.T.Tree.faults c.run.new.tree) whole c.args.fuel v.mine o) c.in-Unread.is c.in-Ok.ensures.over in
     if_ok c.unread.result (λ ending is. lost.1)
+
+pub returns-clause-unfailed : goal.returns-clause-unfailed
+returns-clause-unfailed g c = IfOk-weaker c.unread.result _ _ (λ ending ends other. absurd (other (is_read ending ends.0))) c.unread.ensures.ends
 
 pub returns-in-Err-clause-goes_on : goal.returns-in-Err-clause-goes_on
 returns-in-Err-clause-goes_on g c = no_end_in c.args.script (started c.args.script c.args.start) c.args.fuel _ c.in-Err.ensures.part c.requires.safe

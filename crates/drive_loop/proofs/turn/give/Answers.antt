@@ -9,7 +9,7 @@ use Rattle.drive_loop.proofs.turn.give.Goals as goal
 
 pub returns-in-Call-clause-turned : goal.returns-in-Call-clause-turned
 returns-in-Call-clause-turned g c = IfOk-weaker c.call.result _ _ (λ turn made.
-    turned_at (g.T.Tree.files c.args.tree.now) (g.T.Tree.faults c.args.tree.now) (g.T.Tree.faults c.args.tree.now) (g.P.Port.view c.args.port.now).mine _ c.args.course.now c.call.new.course c.args.want (wants.Call c.in-Call.event c.in-Call.on) turn c.in-Call.is (made (g.T.Tree.files c.args.tree.now) (g.T.Tree.faults c.args.tree.now) (g.T.Tree.faults c.args.tree.now))) c.call.ensures.turned
+    turned_at (g.T.Tree.files c.args.tree.now) (g.T.Tree.faults c.args.tree.now) (g.T.Tree.faults c.args.tree.now) (g.P.Port.view c.args.port.now).mine _ c.args.course.now c.call.new.course c.args.want (wants.Call c.in-Call.event c.in-Call.on) turn c.in-Call.is (made (g.T.Tree.files c.args.tree.now) (g.T.Tree.faults c.args.tree.now))) c.call.ensures.turned
 
 pub returns-in-Call-clause-part : goal.returns-in-Call-clause-part
 returns-in-Call-clause-part g c = on_err_then c.call.result c.call.ensures.part (λ parted. λ whole fuel a. parted (g.T.Tree.files c.args.tree.now) whole fuel (at_want c.args.course.now c.args.want (wants.Call c.in-Call.event c.in-Call.on) c.in-Call.is a))
@@ -19,7 +19,7 @@ returns-in-Call-clause-refused g c = λ is whole fuel a. c.call.ensures.refused 
 
 pub returns-in-Wait-clause-turned : goal.returns-in-Wait-clause-turned
 returns-in-Wait-clause-turned g c = IfOk-weaker c.wait.result _ _ (λ turn made.
-    turned_at (g.T.Tree.files c.args.tree.now) (g.T.Tree.faults c.args.tree.now) (g.T.Tree.faults c.args.tree.now) (g.P.Port.view c.args.port.now).mine _ c.args.course.now c.wait.new.course c.args.want (wants.Wait c.in-Wait.item) turn c.in-Wait.is (made (g.T.Tree.files c.args.tree.now) (g.T.Tree.faults c.args.tree.now) (g.T.Tree.faults c.args.tree.now))) c.wait.ensures.turned
+    turned_at (g.T.Tree.files c.args.tree.now) (g.T.Tree.faults c.args.tree.now) (g.T.Tree.faults c.args.tree.now) (g.P.Port.view c.args.port.now).mine _ c.args.course.now c.wait.new.course c.args.want (wants.Wait c.in-Wait.item) turn c.in-Wait.is (made (g.T.Tree.files c.args.tree.now) (g.T.Tree.faults c.args.tree.now))) c.wait.ensures.turned
 
 pub returns-in-Wait-clause-part : goal.returns-in-Wait-clause-part
 returns-in-Wait-clause-part g c = on_err_then c.wait.result c.wait.ensures.part (λ parted. λ whole fuel a. parted (g.T.Tree.files c.args.tree.now) whole fuel (at_want c.args.course.now c.args.want (wants.Wait c.in-Wait.item) c.in-Wait.is a))

@@ -1,6 +1,7 @@
 use Rattle.std.proofs.Common.{◌∙◌, ◌+◌, map, get_or, refl, sym, ap, subst, arith, Ok}
 use Rattle.std.proofs.lemmas.List.{drop-set-lt, length-map}
 use Rattle.std.proofs.lemmas.Grind.{drop_more_same}
+use Rattle.drive_account.proofs.Meant.{ended_of}
 use Rattle.drive_rounds.specs.Played.{AreShort}
 use Rattle.drive_rounds.proofs.Playing.{all_ended, ended_next, kept_on, next, none_next, own_stays, runs_from, short_next, stop_at}
 use Rattle.drive_rounds.proofs.rounds.play_rounds.Goals as goal
@@ -49,7 +50,7 @@ loop-t-preserved g c =
     record {
       opening = on.opening ∙ inv.opening;
       kept = kept_on g.O.Outlet.piece g.O.Outlet.out t c.args.book.now.outlet c.loop-t.book c.run_at_desk.new.book on inv.kept;
-      ended = ended_next t h h' on.gained.rest c.in-Ok.ending on.gained.joined c.in-Ok.ensures.ran.ended inv.ended;
+      ended = ended_next t h h' on.gained.rest c.in-Ok.ending on.gained.joined (ended_of c.in-Ok.ensures.ran.meant) inv.ended;
       later = none_next t h on.gained.rest h' on.gained.joined on.only inv.later;
       trees = drop-set-lt (t + 1) c.loop-t.trees t c.run_at_desk.new.tree (omega arith) ∙ drop_more_same c.loop-t.trees c.args.trees.now t inv.trees;
       short = subst AreShort (sym (drop-set-lt (t + 1) c.loop-t.results t (Ok c.in-Ok.ending) (omega arith))) (short_next c.loop-t.results t inv.short);

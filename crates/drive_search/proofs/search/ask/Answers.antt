@@ -14,7 +14,7 @@ returns-then-not-pay-clause-given g c = record {
   moves = λ files go k whole fuel a. c.if-not-pay.ensures.moves files whole fuel _ _ a;
   safe = λ go k h. tt;
   fits = tt;
-  counts = λ old new. tt;
+  counts = λ faults. refl;
   kept = omega arith;
 }
 

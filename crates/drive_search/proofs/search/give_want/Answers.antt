@@ -1,4 +1,4 @@
-use Rattle.std.proofs.Common.{arith}
+use Rattle.std.proofs.Common.{refl, arith}
 use Rattle.std.proofs.lemmas.Result.{IfOk-weaker}
 use Rattle.path_finder.specs.declared.words.LookWant.TheVariants as wanted
 use Rattle.machine_shown.specs.Shown.{shown}
@@ -49,7 +49,7 @@ returns-in-Done-clause-given g c =
       moves = λ files go k whole fuel a. a;
       safe = λ go k h. tt;
       fits = tt;
-      counts = λ old new. tt;
+      counts = λ faults. refl;
       kept = omega arith;
     })
 

@@ -6,7 +6,7 @@ returns-then-pay c = λ number mine. record {
   moves = λ files go k whole fuel a. c.if-pay.ensures.moves files whole fuel mine _ a;
   safe = λ go k h. h.1;
   fits = refl;
-  counts = λ old new. tt;
+  counts = λ faults. refl;
   kept = omega arith;
 }
 
@@ -15,6 +15,6 @@ returns-else-pay c = λ number mine. record {
   moves = λ files go k whole fuel a. c.if-pay.ensures.moves files whole fuel mine _ a;
   safe = λ go k h. tt;
   fits = tt;
-  counts = λ old new. tt;
+  counts = λ faults. refl;
   kept = omega arith;
 }

@@ -1,4 +1,4 @@
-use Rattle.std.proofs.Common.{◌≡◌, ℕ, Option, Err, refl, sym, ap, subst}
+use Rattle.std.proofs.Common.{◌≡◌, ℕ, Option, Err, refl, sym, ap, subst, ◌∙◌}
 use Rattle.std.specs.Option.{ForSome}
 use Rattle.tree_files.specs.Files.{Files}
 use Rattle.meaning_runs.proofs.Stand.{in_some}
@@ -21,6 +21,7 @@ steps-init g c = record {
   suits = suits_fresh c.args.look.now.stage (g.T.Tree.files c.args.tree.now) c.requires.fresh;
   kept = kept_refl _ _;
   holds = λ held known. known;
+  unfailed = refl;
   asked = asked_refl _ _;
 }
 
@@ -61,6 +62,7 @@ steps-preserved g c =
       suits = subst (λ (o : Option Files). ForSome o (λ f. Suits c.take_step.new.look.stage f)) c.steps.invariant.asked.files c.in-Ok.ensures.suits;
       kept = kept_trans _ _ _ first.mine old.mine new.mine c.steps.invariant.kept c.in-Ok.ensures.kept;
       holds = λ held known. c.in-Ok.ensures.holds held (c.steps.invariant.holds held known);
+      unfailed = subst (λ (it : Step). CountsStep (g.T.Tree.faults c.steps.tree) (g.T.Tree.faults c.take_step.new.tree) it) c.in-On.is taken.counts ∙ c.steps.invariant.unfailed;
       asked = asked_trans c.steps.invariant.asked c.in-Ok.ensures.asked;
     }
 
@@ -73,7 +75,7 @@ returns-in-Over-clause-searched g c =
     let taken = took files (g.T.Tree.files c.steps.tree) _ _ old.number first.number old.mine new.mine c.steps.purse c.take_step.new.purse _ _ c.in-Ok.step c.steps.invariant.asked.files c.steps.invariant.stays.number c.in-Ok.ensures.taken in
     record {
       moves = λ k whole fuel a. subst (λ (it : Step). AfterStep files whole fuel new.mine c.take_step.new.purse (means c.take_step.new.look) k it) c.in-Over.is (taken.moves k whole fuel (c.steps.invariant.moves k whole fuel a));
-      counts = over_counts _ _ _ c.in-Over.sought c.steps.invariant.asked.faults (subst (λ (it : Step). CountsStep (g.T.Tree.faults c.steps.tree) (g.T.Tree.faults c.take_step.new.tree) it) c.in-Over.is taken.counts);
+      counts = over_counts _ _ _ c.in-Over.sought c.steps.invariant.unfailed (subst (λ (it : Step). CountsStep (g.T.Tree.faults c.steps.tree) (g.T.Tree.faults c.take_step.new.tree) it) c.in-Over.is taken.counts);
     }
 
 pub returns-in-Over-clause-kept : goal.returns-in-Over-clause-kept

@@ -22,6 +22,7 @@ invariant-steps g l = record {
   suits : ForSome (g.T.Tree.files l.fn.tree) (λ f. Suits l.look.stage f);
   kept : AllKept (g.T.Tree.lists l.fn.tree) (g.T.Tree.lists l.tree) (g.P.Port.view l.fn.port).mine (g.P.Port.view l.port).mine;
   holds : Keeps (g.P.Port.view l.fn.port) (g.P.Port.view l.port);
+  unfailed : g.T.Tree.faults l.tree ≡ g.T.Tree.faults l.fn.tree;
   asked : Asked (g.T.Tree.files l.fn.tree) (g.T.Tree.files l.tree) (g.T.Tree.faults l.fn.tree) (g.T.Tree.faults l.tree);
 }
 

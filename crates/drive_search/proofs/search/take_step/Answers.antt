@@ -6,7 +6,7 @@ use Rattle.machine_shown.specs.Shown.{shown}
 use Rattle.drive_search.specs.Searching.{Fits}
 use Rattle.drive_search.proofs.Making.{in_at}
 use Rattle.drive_search.proofs.Results.{on_err_then}
-use Rattle.drive_search.proofs.Searching.{at_reads, safe_reads, may_give, counted}
+use Rattle.drive_search.proofs.Searching.{at_reads, safe_reads, may_give, counted, counts_same}
 use Rattle.drive_search.proofs.search.take_step.Goals as goal
 
 pub give_want-requires-clause-may : goal.give_want-requires-clause-may
@@ -26,7 +26,7 @@ returns-in-Ok-clause-taken g c =
     IfOk-weaker c.give_want.result _ _ (λ it given. record {
       moves = λ k whole fuel a. given.moves files (means c.next.new.self) k whole fuel (at_reads before after k c.in-Ok.ensures.goes a);
       safe = λ k h. given.safe (means c.next.new.self) k (safe_reads files before after (shown old.number old.mine) k c.in-Ok.ensures.goes h);
-      counts = given.counts (g.T.Tree.faults c.args.tree.now) (g.T.Tree.faults c.next.new.tree);
+      counts = counts_same c.in-Ok.ensures.faults_stay it (given.counts (g.T.Tree.faults c.args.tree.now));
     }) c.give_want.ensures.given
 
 pub returns-in-Ok-clause-fits : goal.returns-in-Ok-clause-fits

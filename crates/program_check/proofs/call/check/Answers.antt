@@ -1,6 +1,6 @@
-use Rattle.std.proofs.Common.{ℕ, List, refl, subst}
+use Rattle.std.proofs.Common.{refl}
 use Rattle.program_run.specs.Sinks.{Moment, at, moment}
-use Rattle.program_check.specs.Checking.{Checks, ChecksText}
+use Rattle.program_check.specs.Checking.{Checks}
 use Rattle.program_check.proofs.Saying.{no_trace, text_since}
 use Rattle.program_check.proofs.call.check.Goals as goal
 
@@ -15,7 +15,7 @@ returns-in-Ok-clause-answers g c =
     let status = c.check_opened.result.status in
     Checks.opened c.in-Ok.bytes c.in-Ok.ensures.ok
     (text_since first old new (record { files = opened.files_stay; faults = opened.faults_grow; out = refl; err = refl }) means c.in-Ok.bytes run status
-    (subst (λ (bytes : List ℕ). ChecksText means bytes run old new status) c.as_slice.ensures c.check_opened.ensures.answers))
+    c.check_opened.ensures.answers)
 
 pub returns-in-Err-clause-answers : goal.returns-in-Err-clause-answers
 returns-in-Err-clause-answers g c =

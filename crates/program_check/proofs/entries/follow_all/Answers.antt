@@ -5,12 +5,13 @@ use Rattle.tree_overlay.specs.Kinds.{IsBelowRoot}
 use Rattle.tree_overlay.specs.Told.{edited_told}
 use Rattle.words_rounds.specs.declared.rounds.Round.{Round}
 use Rattle.machine_events.specs.declared.event.Follow.{Follow}
-use Rattle.program_rounds.specs.Course.{told_in}
+use Rattle.program_rounds.specs.Rounds.{told_in}
 use Rattle.program_rounds.specs.Opened.{files_after}
 use Rattle.program_rounds.proofs.Coursing.{fits_at}
 use Rattle.program_rounds.proofs.Opening.{below_at, told_same}
 use Rattle.program_check.specs.Judge.{AreFollows}
 use Rattle.program_check.proofs.Following.{after_next, below_joined, front_many, rounds_more, told_next, whole_rounds}
+use Rattle.trace_check.specs.Threads.{list_of}
 use Rattle.program_check.proofs.entries.follow_all.Goals as goal
 
 pub loop-round-init : goal.loop-round-init
@@ -22,7 +23,7 @@ loop-round-init g c =
       edits = ap (λ (x : List Edit). edited_told x (g.T.Tree.files c.args.tree.now)) c.new-edits.ensures ∙ told_same (g.T.Tree.files c.args.tree.now);
       below = subst IsBelowRoot (sym c.new-edits.ensures) refl;
       many = ap length items;
-      each = subst (λ (fs : List Follow). AreFollows g.F.Followed.means c.args.fuel c.args.entries.now 0 [] (take (length fs) c.args.texts.now) fs) (sym items) (AreFollows.none 0);
+      each = subst (λ (fs : List Follow). AreFollows g.F.Followed.means c.args.fuel (list_of c.args.lists.now) 0 [] (take (length fs) c.args.texts.now) fs) (sym items) (AreFollows.none 0);
     }
 
 pub follow_next-requires-clause-before : goal.follow_next-requires-clause-before
@@ -66,9 +67,9 @@ loop-round-preserved g c =
     let all = c.requires.fit.many in
     let fits : k + length round.scripts ≤ length texts = omega (arith, fits_in, many, all) in
     let told : edited_told new tree ≡ edited_told round.edits (files_after tree (take i rounds)) = told_next tree (files_after tree (take i rounds)) old round.edits new went.edits inv.edits in
-    let here = subst (λ (f : Option Files). AreFollows means c.args.fuel c.args.entries.now 0 (told_in tree (take i rounds) ++ replicate (length round.scripts) (edited_told new f)) (take k texts ++ take (length round.scripts) (drop k texts)) follows) inv.files
-    (went.each (told_in tree (take i rounds)) (take k texts) (front_many means c.args.fuel c.args.entries.now k (length round.scripts) texts fits) inv.each) in
-    let next = rounds_more means c.args.fuel c.args.entries.now tree rounds i round low c.round-item.is texts k many fits (edited_told new tree) told follows here in
+    let here = subst (λ (f : Option Files). AreFollows means c.args.fuel (list_of c.args.lists.now) 0 (told_in tree (take i rounds) ++ replicate (length round.scripts) (edited_told new f)) (take k texts ++ take (length round.scripts) (drop k texts)) follows) inv.files
+    (went.each (told_in tree (take i rounds)) (take k texts) (front_many means c.args.fuel (list_of c.args.lists.now) k (length round.scripts) texts fits) inv.each) in
+    let next = rounds_more means c.args.fuel (list_of c.args.lists.now) tree rounds i round low c.round-item.is texts k many fits (edited_told new tree) told follows here in
     record {
       files = c.follow_next.ensures.files_stay ∙ inv.files;
       faults = omega (arith, later, grows);
@@ -81,4 +82,4 @@ loop-round-preserved g c =
 pub returns-clause-each : goal.returns-clause-each
 returns-clause-each g c =
     let inv = c.loop-round.invariant in
-    whole_rounds g.F.Followed.means c.args.fuel c.args.entries.now (g.T.Tree.files c.args.tree.now) c.args.rounds.now c.loop-round.round-index c.args.texts.now c.loop-round.follows.items c.loop-round-test.false c.requires.fit.many inv.many inv.each
+    whole_rounds g.F.Followed.means c.args.fuel (list_of c.args.lists.now) (g.T.Tree.files c.args.tree.now) c.args.rounds.now c.loop-round.round-index c.args.texts.now c.loop-round.follows.items c.loop-round-test.false c.requires.fit.many inv.many inv.each

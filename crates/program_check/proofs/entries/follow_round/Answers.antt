@@ -1,17 +1,19 @@
-use Rattle.std.proofs.Common.{◌≡◌, ◌≤◌, ◌<◌, ◌+◌, ◌++◌, ◌∙◌, ℕ, List, Option, IfSome, length, replicate, take, refl, arith, subst}
+use Rattle.std.proofs.Common.{◌≡◌, ◌≤◌, ◌<◌, ◌+◌, ◌++◌, ◌∙◌, ℕ, List, Option, IfSome, [], length, get_or, replicate, take, refl, arith, subst}
+use Rattle.std.proofs.lemmas.List.{get_or_default}
 use Rattle.tree_files.specs.Files.{Files}
 use Rattle.tree_overlay.specs.Told.{edited_told}
-use Rattle.machine_shown.specs.Own.{own}
 use Rattle.drive_follow.specs.Following.{Answers}
 use Rattle.machine_events.specs.declared.event.Follow.{Follow}
+use Rattle.machine_events.specs.declared.event.Pair.{Pair}
 use Rattle.program_check.proofs.Following.{round_none, round_more}
+use Rattle.trace_check.specs.Threads.{list_of, pairs_of}
 use Rattle.program_check.proofs.entries.follow_round.Goals as goal
 
 pub loop-i-init : goal.loop-i-init
 loop-i-init g c = record {
   files = refl;
   faults = omega arith;
-  each = λ trees before is all. round_none g.F.Followed.means c.args.fuel c.args.entries.now trees before c.args.texts.now c.args.follows.now.items (edited_told c.args.edits.now (g.T.Tree.files c.args.tree.now)) all;
+  each = λ trees before is all. round_none g.F.Followed.means c.args.fuel (list_of c.args.lists.now) trees before c.args.texts.now c.args.follows.now.items (edited_told c.args.edits.now (g.T.Tree.files c.args.tree.now)) all;
 }
 
 pub loop-i-preserved : goal.loop-i-preserved
@@ -26,13 +28,16 @@ loop-i-preserved g c =
     let later = c.loop-i.invariant.faults in
     let grows = c.follow_one.ensures.faults_grow in
     let follow : Follow = c.in_ok-follow.follow in
-    let here = subst (λ (f : Option Files). IfSome (edited_told c.args.edits.now f) (λ fs. Answers fs n (means n c.as_slice-text.result.now) c.args.fuel (own n c.args.entries.now) follow)) c.loop-i.invariant.files c.in_ok-follow.ensures.answers in
+    let held = c.requires.held in
+    let own : c.as_slice-own.result.now ≡ get_or c.args.lists.now n [] = c.as_slice-own.ensures ∙ (c.index-lists-at.is ∙ get_or_default c.args.lists.now n c.index-lists-at.result [] (omega (arith, low, held))) in
+    let told_here = subst (λ (ps : List Pair). IfSome (edited_told c.args.edits.now (g.T.Tree.files c.loop-i.tree)) (λ fs. Answers fs n (means n c.as_slice-text.result.now) c.args.fuel (pairs_of ps) follow)) own c.in_ok-follow.ensures.answers in
+    let here = subst (λ (f : Option Files). IfSome (edited_told c.args.edits.now f) (λ fs. Answers fs n (means n c.as_slice-text.result.now) c.args.fuel (list_of c.args.lists.now n) follow)) c.loop-i.invariant.files told_here in
     record {
       files = c.follow_one.ensures.files_stay ∙ c.loop-i.invariant.files;
       faults = omega (arith, later, grows);
       each = λ trees before is all.
           let count : n ≡ length before + i = omega (arith, is) in
-          round_more means c.args.fuel c.args.entries.now n i trees before xs c.loop-i.follows.items told x c.as_slice-text.result.now follow c.push.new.self.items count low c.index-texts-i.is c.as_slice-text.ensures c.in_ok-push.ensures.items
+          round_more means c.args.fuel (list_of c.args.lists.now) n i trees before xs c.loop-i.follows.items told x c.as_slice-text.result.now follow c.push.new.self.items count low c.index-texts-i.is c.as_slice-text.ensures c.in_ok-push.ensures.items
           (c.loop-i.invariant.each trees before is all) here;
     }
 

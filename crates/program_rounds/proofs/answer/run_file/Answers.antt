@@ -21,4 +21,4 @@ returns-clause-answers g c = λ words is.
     let read = c.rounds_of.ensures in
     let lists = read.lists_stay in
     let has : HasRounds (g.T.Tree.files c.args.tree.now) c.in-Some.file c.as_slice.result.now = subst (λ (rs : List Round). HasRounds (g.T.Tree.files c.args.tree.now) c.in-Some.file rs) (sym c.as_slice.ensures) c.in-Ok.ensures.ok in
-    c.run_list.ensures.answers words c.in-Some.file _ is c.in-Some.is has (record { files = read.files_stay; faults = read.faults_grow; lists = omega (arith, lists); out = refl; err = refl })
+    c.run_list.ensures.answers words c.in-Some.file _ is c.in-Some.is has (record { files = read.files_stay; faults = c.in-Ok.ensures.faults_stay; lists = omega (arith, lists); out = refl; err = refl })

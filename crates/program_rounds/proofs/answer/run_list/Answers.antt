@@ -6,7 +6,7 @@ use Rattle.program_rounds.proofs.answer.run_list.Goals as goal
 pub returns-in-Ok-clause-answers : goal.returns-in-Ok-clause-answers
 returns-in-Ok-clause-answers g c = λ words file first is names has since.
     let opened = c.open_rounds.ensures in
-    c.play.ensures.answers words file first is names has (later_since since opened.files_stay opened.faults_grow opened.lists_stay refl refl)
+    c.play.ensures.answers words file first is names has (later_since since opened.files_stay c.in-Ok.ensures.faults_stay opened.lists_stay refl refl)
 
 pub returns-in-Err-clause-answers : goal.returns-in-Err-clause-answers
 returns-in-Err-clause-answers g c = λ words file first is names has since.

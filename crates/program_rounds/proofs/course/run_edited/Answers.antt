@@ -1,7 +1,7 @@
 use Rattle.std.proofs.Common.{◌≡◌, ◌≤◌, ◌+◌, ◌∙◌, ℕ, subst}
 use Rattle.tree_files.specs.Count.{raised}
 use Rattle.tree_overlay.specs.Told.{edited_told}
-use Rattle.tree_rounds.specs.Rounds.{total}
+use Rattle.tree_rounds.specs.Rounds.{Absorbed, total}
 use Rattle.drive_round.specs.Ran.{counted}
 use Rattle.program_rounds.proofs.Coursing.{took_by}
 use Rattle.program_rounds.proofs.course.run_edited.Goals as goal
@@ -22,6 +22,6 @@ returns-in-Ok-run_over-clause-ok g c =
       counts = _;
       ran = c.in-Ok-run_over.ensures.ok (edited_told c.args.edits.now (g.T.Tree.files c.args.tree.now)) c.in-Ok.ensures.forks;
       took = took_by (λ fork. g.T.Tree.faults fork.tree) (λ fork. raised (g.T.Tree.lists fork.tree) fork.more) (counted g.T.Tree.faults g.T.Tree.lists c.args.tree.now) (counted g.T.Tree.faults g.T.Tree.lists now) trees
-          (subst (λ (n : ℕ). raised n (total (λ fork. g.T.Tree.faults fork.tree) trees) ≤ g.T.Tree.faults now) made.faults_stay took.faults)
+          (subst (λ (n : ℕ). Absorbed n (total (λ fork. g.T.Tree.faults fork.tree) trees) (g.T.Tree.faults now)) made.faults_stay took.faults)
           (subst (λ (n : ℕ). g.T.Tree.lists now ≤ n + total (λ fork. raised (g.T.Tree.lists fork.tree) fork.more) trees) made.lists_stay took.lists);
     }

@@ -6,7 +6,7 @@ use Rattle.program_run.proofs.answer.run_plan.Goals as goal
 pub returns-in-Ok-clause-answers : goal.returns-in-Ok-clause-answers
 returns-in-Ok-clause-answers g c = λ words is.
     let opened = c.open_all.ensures in
-    c.play.ensures.answers words _ is (record { files = opened.files_stay; faults = opened.faults_grow; lists = opened.lists_stay; out = refl; err = refl })
+    c.play.ensures.answers words _ is (record { files = opened.files_stay; faults = c.in-Ok.ensures.faults_stay; lists = opened.lists_stay; out = refl; err = refl })
 
 pub returns-in-Err-Refused-clause-answers : goal.returns-in-Err-Refused-clause-answers
 returns-in-Err-Refused-clause-answers g c = λ words is.

@@ -14,11 +14,11 @@ returns-in-Ok-clause-lists g c =
     let same = c.desk-1.given.1 (sym l.1) in
     rw same c.in-Ok.ensures.lists
 
-pub returns-in-Ok-clause-ended : goal.returns-in-Ok-clause-ended
-returns-in-Ok-clause-ended g c =
+pub returns-in-Ok-clause-meant : goal.returns-in-Ok-clause-meant
+returns-in-Ok-clause-meant g c =
     let l = c.run_on.ensures.stays.later c.run_on.new.port (continues_refl _, refl) in
     let same = c.desk-1.given.1 (sym l.1) in
-    rw same c.in-Ok.ensures.ended
+    rw same c.in-Ok.ensures.meant
 
 pub returns-in-Ok-clause-follows : goal.returns-in-Ok-clause-follows
 returns-in-Ok-clause-follows g c =

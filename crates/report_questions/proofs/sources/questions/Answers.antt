@@ -1,13 +1,9 @@
-use Rattle.std.proofs.Common.{◌≡◌, subst, IfOk}
-use Rattle.py_lexer.specs.SourceReading.{source}
-use Rattle.py_parser.specs.Parses.{Answer}
-use Rattle.report_questions.specs.Sources.{questions_by}
-use Rattle.report_questions.proofs.Faulty.{faulted}
+use Rattle.std.proofs.Common.{◌≡◌, subst, List, Ok}
+use Rattle.py_lexer.specs.Source.{Tokens}
+use Rattle.py_lexer.specs.declared.word.Token.{Token}
 use Rattle.report_questions.proofs.sources.questions.Goals as goal
 
-pub returns-in-Ok : goal.returns-in-Ok
-returns-in-Ok c =
-    subst (λ (a : Answer). IfOk c.script_questions.result (λ all. all ≡ questions_by c.args.home.now a (source c.args.src.now))) c.in-Ok.ensures.is c.script_questions.ensures
-
-pub returns-in-Err : goal.returns-in-Err
-returns-in-Err c = faulted c.args.home.now c.args.src.now c.in-Err.error c.fault_questions.result c.in-Err.ensures.is c.fault_questions.ensures
+pub token_questions-requires : goal.token_questions-requires
+token_questions-requires c =
+    let same : c.in-Ok.tokens ≡ c.as_slice.result.now = cc in
+    subst (λ (l : List Token). Tokens c.args.src.now (Ok l)) same c.in-Ok.ensures.given

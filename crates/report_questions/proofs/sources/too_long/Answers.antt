@@ -1,4 +1,3 @@
-use Rattle.std.proofs.Common.{◌≡◌}
 use Rattle.report_questions.proofs.Faulty.{too_long_asks}
 use Rattle.report_questions.proofs.sources.too_long.Goals as goal
 
