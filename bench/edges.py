@@ -174,7 +174,7 @@ def swapped(room, looks):
 
 def pipe_behind_stamp(room):
     """A file that becomes a pipe behind the look of the search is a fault of a file, and is not waited for."""
-    shown, came = swapped(room, 2)
+    shown, came = swapped(room, 1)
     return shown, came and came.status == 4 and came.err == "main.py: file fault\n" and came.out == "1\n"
 
 

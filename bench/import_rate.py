@@ -11,7 +11,8 @@ imported again and again. The time of a script is that of its process without th
 inside its process, without its start and with the script compiled before. Beside them stand the bare calls of the system
 without which no import goes: the file of each module is looked at, opened, read to its end and closed, by this Python.
 Prints the times, how many times CPython's each is, and what a module costs as there are more of them. Ends with status 1
-where four times the modules take more than MOST_GROWTH times the time.
+where one takes more than the part of CPython's time without bytecode files that WORK names, or where four times the
+modules take more than MOST_GROWTH times the time.
 """
 import os
 import pathlib
@@ -24,7 +25,7 @@ import scratch
 
 ROUNDS = 3
 FUEL = "--fuel=2000000"
-MOST_GROWTH = 5
+MOST_GROWTH = 2.2 * 2.2
 FLAT = (1_000, 4_000, 16_000)
 PACKAGES, IN_A_PACKAGE = 40, 40
 CHAIN = 95
@@ -86,14 +87,15 @@ def again():
     return {"main.py": "import m\n" * AGAIN, "m.py": "x = 1\n"}
 
 
-# the folders that are made, with their files, their search path, and how many imports the script makes
+# the folders that are made, with their files, their search path, how many imports the script makes, and which part of
+# CPython's time without bytecode files they may take at most, if that is bounded
 LONG_PATH = ":".join(f"d{n}" for n in range(ENTRIES))
 WORK = {
-    **{f"{count} flat modules": (flat(count), "", count) for count in FLAT},
-    f"{PACKAGES} packages of {IN_A_PACKAGE} modules": (packages(), "", PACKAGES * IN_A_PACKAGE),
-    f"a chain of {CHAIN} modules": (chain(), "", CHAIN),
-    f"{AT_THE_END} modules at the end of {ENTRIES} entries": (long_path(), LONG_PATH, AT_THE_END),
-    f"{AGAIN} imports of one module": (again(), "", AGAIN),
+    **{f"{count} flat modules": (flat(count), "", count, 0.25) for count in FLAT},
+    f"{PACKAGES} packages of {IN_A_PACKAGE} modules": (packages(), "", PACKAGES * IN_A_PACKAGE, 0.33),
+    f"a chain of {CHAIN} modules": (chain(), "", CHAIN, 0.16),
+    f"{AT_THE_END} modules at the end of {ENTRIES} entries": (long_path(), LONG_PATH, AT_THE_END, 0.30),
+    f"{AGAIN} imports of one module": (again(), "", AGAIN, None),
 }
 
 
@@ -139,23 +141,25 @@ def bare_calls(folder, files):
 
 
 def report(program, top):
-    """Measures each kind of work, prints it, and gives the seconds of each."""
+    """Measures each kind of work, prints it, and gives the seconds of each, and the names of those past their bounds."""
     empty = top / "empty"
     write(empty, {"main.py": ""})
     start = here(program, empty, "")
-    seconds = {}
-    for number, (name, (files, path, count)) in enumerate(WORK.items()):
+    seconds, passed = {}, []
+    for number, (name, (files, path, count, most)) in enumerate(WORK.items()):
         folder = top / f"w{number}"
         write(folder, files)
         spent = max(here(program, folder, path) - start, 1e-9)
         # (the folder has no bytecode files until the second of these has written them)
         without, kept = in_cpython(folder, path, False), in_cpython(folder, path, True)
         seconds[name] = spent
+        if most is not None and spent > most * without:
+            passed.append(name)
         print(f"{name}: {spent * 1e3:.1f} ms, {spent / count * 1e6:.1f} us each;", end=" ")
         print(f"CPython {kept * 1e3:.1f} ms with bytecode files ({spent / kept:.2f} times),", end=" ")
         print(f"{without * 1e3:.1f} ms without ({spent / without:.2f} times);", end=" ")
         print(f"the bare calls {bare_calls(folder, files) * 1e3:.1f} ms")
-    return seconds
+    return seconds, passed
 
 
 def main():
@@ -163,10 +167,12 @@ def main():
         top = pathlib.Path(top)
         (top / "program").mkdir()
         program = pathlib.Path(sys.argv[1]).resolve() if sys.argv[1:] else scratch.build(top / "program", "pyimport_main")
-        seconds = report(program, top)
+        seconds, passed = report(program, top)
     growths = [seconds[f"{b} flat modules"] / seconds[f"{a} flat modules"] for a, b in zip(FLAT, FLAT[1:])]
     print("four times the flat modules: " + ", ".join(f"{growth:.2f} times the time" for growth in growths))
-    sys.exit(1 if max(growths) > MOST_GROWTH else 0)
+    for name in passed:
+        print(f"too slow: {name}")
+    sys.exit(1 if passed or max(growths) > MOST_GROWTH else 0)
 
 
 if __name__ == "__main__":

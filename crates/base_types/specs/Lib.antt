@@ -1,2 +1,4 @@
 pub mod Path
 pub mod formers
+pub mod Held
+pub mod Halves

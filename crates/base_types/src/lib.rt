@@ -9,6 +9,7 @@ mod path;
 mod same;
 mod seq;
 mod text;
+mod wide;
 
 pub use exact::Exact;
 pub use limits::LONGEST_SOURCE;
@@ -17,6 +18,7 @@ pub use path::{Listing, TreePath};
 pub use same::Same;
 pub use seq::Seq;
 pub use text::Text;
+pub use wide::Wide;
 
 /// A list of texts.
 pub type Texts = Seq<Text>;

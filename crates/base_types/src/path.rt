@@ -18,7 +18,7 @@ use std::marker::Model;
 
 /// A place in a tree: the parts on the way from its root, none of them empty, `.` or `..`, and none
 /// holding a slash or a zero byte. Contracts see the list of parts, each as its bytes.
-#[derive(Debug, Drop)]
+#[derive(Debug)]
 pub struct TreePath {
     parts: Texts,
 }
@@ -264,4 +264,11 @@ fn joined_text(parts: &Texts) -> Result<Text, NoMemory>
         text.push_str(part.as_str())?;
     }
     Ok(text)
+}
+
+impl Drop for TreePath {
+    fn drop(self) {
+        let TreePath { parts } = self;
+        drop(parts);
+    }
 }

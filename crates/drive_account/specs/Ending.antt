@@ -52,6 +52,10 @@ pub data Broken (told : Option Files) (t : ℕ) (run : Run) (fuel : ℕ) (mine :
   in_run : (rest : Run) → Reaches told (spend fuel (shown_first t) run) 0 mine rest → Broken told t run fuel mine old new
   at_read : (k : ℕ) → k + 1 ≤ fuel → Rose old new → GivesUp told t run k mine true → Broken told t run fuel mine old new
 
+-- the same of a thread over a tree that changed
+abbrev pub BrokenOver : {T : Type 0} → (T → Option Files) → (T → ℕ) → T → T → ℕ → Run → ℕ → List (Event × Reply) → Type 0
+BrokenOver files faults old new t run fuel mine = Broken (files old) t run fuel mine (faults old) (faults new)
+
 -- what is held is what the script's own events show
 abbrev pub Holds : {S : Type 0} → View S → Held → Type 0
 Holds v held = held_in held ≡ (shown v.number v.mine).held

@@ -37,8 +37,8 @@ pub fn change_of(event: &Event) -> Result<Change, NoMemory>
     match event {
         Event::Take(name) => Ok(Change::Takes(name.copy()?)),
         Event::Release(name) => Ok(Change::Gives(Hold::Taken(name.copy()?))),
-        Event::Add { spec, text: _ } => Ok(Change::Adds(spec.name.copy()?)),
-        Event::AddLazy { spec, text: _ } => Ok(Change::Gives(Hold::Taken(spec.name.copy()?))),
+        Event::Add { spec, text: _ } => Ok(Change::Adds(spec.name().copy()?)),
+        Event::AddLazy { spec, text: _ } => Ok(Change::Gives(Hold::Taken(spec.name().copy()?))),
         Event::Finish { load, good: _ } => Ok(Change::Gives(Hold::Loading(*load))),
         Event::Rouse(_) => Ok(Change::Rouses),
         Event::ReloadBegin { mid, raw: _ } => Ok(Change::Begins(*mid)),

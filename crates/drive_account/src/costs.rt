@@ -44,7 +44,7 @@ pub fn reply_units(reply: &Reply) -> u64
         Reply::Loaded(_, text) => (text.len() / 64) as u64,
         Reply::Yours(_, text) => (text.len() / 64) as u64,
         Reply::Ns(state, _) => {
-            items_size(&state.parent_path).saturating_add(texts_size(&state.portions))
+            items_size(state.parent_path()).saturating_add(texts_size(state.portions()))
         }
         _ => 0,
     }

@@ -62,7 +62,6 @@ fn is_number(a: Option<u32>, b: Option<u32>) -> bool
 }
 
 /// All that a script holds, the innermost first.
-#[derive(Drop)]
 pub struct Held {
     holds: Seq<Hold>,
 }
@@ -124,5 +123,12 @@ impl Held {
             }
             at += 1;
         }
+    }
+}
+
+impl Drop for Held {
+    fn drop(self) {
+        let Held { holds } = self;
+        drop(holds);
     }
 }

@@ -1,5 +1,5 @@
 -- What contracts see of the worker of a thread.
-use Rattle.std.specs.Prelude.{◌≡◌, ℕ, zero, suc, ◌+◌, List, [], ◌∷◌, map, take, Option, Some, is_some, length, IsTrue, Result, slice_get}
+use Rattle.std.specs.Prelude.{◌≡◌, ℕ, zero, suc, ◌+◌, List, [], ◌∷◌, map, take, Option, Some, is_some, length, IsTrue, OnErr, Result, slice_get, true}
 use Rattle.std.specs.List.{All, AllZip}
 use Rattle.base_types.specs.declared.no_memory.NoMemory.{NoMemory}
 use Rattle.tree_files.specs.Files.{Files}
@@ -42,13 +42,15 @@ pub record IsNew (table : TableId) (w : Facts) : Type 0 where
   pub ready : IsReady (sight_of pass)
   pub first : mine_of pass ≡ []
 
--- it ran: its pass went on, and the number, the meaning and the files are as they were
+-- it ran: its pass went on, and knows that the shelf is stopped where memory was wanted;
+-- the number, the meaning and the files are as they were
 pub record HasWorked (fuel : ℕ) (old new : Facts) : Type 0 where
   pub before : Told
   pub was : old.pass ≡ Some before
   pub after : Told
   pub is : new.pass ≡ Some after
   pub continues : Continues (sight_of before) (sight_of after)
+  pub stopped : OnErr new.ran (after.stopped ≡ true)
   pub number : new.number ≡ old.number
   pub run : new.run ≡ old.run
   pub files : new.files ≡ old.files

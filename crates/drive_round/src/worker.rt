@@ -1,5 +1,5 @@
 //! The worker of a thread.
-ghost use Rattle.std.specs.Prelude.{◌≡◌, [], IfSome, Some};
+ghost use Rattle.std.specs.Prelude.{◌≡◌, [], IfSome, OnErr, Some, true};
 ghost use Rattle.machine_desk.specs.Sight.{IsReady, Continues};
 ghost use Rattle.trace_book.specs.Told.{sight_of, mine_of};
 ghost use Rattle.drive_round.specs.Ran.{RanOver};
@@ -41,6 +41,7 @@ impl<R: Wait, O: Outlet, G: Gate> Room<'_, R, O, G> {
         requires ready { IsReady (sight_of pass) }
         requires first { mine_of pass ≡ [] }
         ensures continues { Continues (sight_of pass) (sight_of result.0) }
+        ensures stopped { OnErr result.1 (result.0.stopped ≡ true) }
         ensures files { T.files tree.new ≡ T.files tree.old }
         ensures ran { RanOver T.files T.faults T.lists tree.old tree.new script
             (P.run program.now script) self.now.fuel (mine_of result.0) result.1 }
@@ -58,8 +59,10 @@ impl<R: Wait, O: Outlet, G: Gate> Room<'_, R, O, G> {
             script: _,
             made: _,
         } = desk;
-        let pass = if ran.is_ok() { desk.end() } else { desk.stop() };
-        (pass, ran)
+        match ran {
+            Ok(ending) => (desk.end(), Ok(ending)),
+            Err(refused) => (desk.stop(), Err(refused)),
+        }
     }
 }
 

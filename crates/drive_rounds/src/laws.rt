@@ -14,7 +14,8 @@ ghost use Rattle.drive_rounds.specs.Solo.{AreSafe, IsRun, Rises};
 pub fn rounds_have_one_history<T>()
     ensures { (told : T → Option Files) (faults lists : T → ℕ) (b : Begun) (trees : List Files) (runs : Runs) (fuel : ℕ)
         (h : List Entry) (olds news : List T) (results : Results) (old new : ℕ) → AreAlone (first b)
-        → length trees ≡ length (first b).rounds → map told olds ≡ map (λ f. Some f) trees → AreSafe runs → IsLegal (first b) h
-        → Rises faults olds news old new → AllPlayed told faults lists fuel h 0 runs olds news results
+        → length trees ≡ length (first b).rounds → map told olds ≡ map (λ f. Some f) trees → AreSafe runs
+        → IsLegal (first b) h → Rises faults olds news old new
+        → AllPlayed told faults lists fuel h 0 runs olds news results
         → IsRun trees runs fuel (first b) h results old new }
 {}

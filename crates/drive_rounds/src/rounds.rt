@@ -60,8 +60,8 @@ pub fn play_rounds<P: Program, T: Tree, O: Outlet>(
     requires few { length trees.old ≤ 16 }
     ensures opening { book.new.opening ≡ book.old.opening }
     ensures kept { Kept O.piece (O.out book.old.outlet) (O.out book.new.outlet) book.new.history }
-    ensures played { AllPlayed T.files T.faults T.lists fuel book.new.history 0 (map P.run programs.now) trees.old trees.new
-        results.new }
+    ensures played { AllPlayed T.files T.faults T.lists fuel book.new.history 0 (map P.run programs.now) trees.old
+        trees.new results.new }
 {
     for t in 0..trees.len() {
         match run_at_desk(alloc, book, &mut trees[t], &programs[t], t as u32, fuel) {

@@ -1,13 +1,11 @@
 -- What an import that is under way goes on by.
 use Rattle.std.specs.Prelude.{ℕ, List, false}
-use Rattle.py_value.specs.declared.value.NsState.{NsState}
 use Rattle.py_value.specs.declared.value.Value.{Value}
 use Rattle.meaning_script.specs.Pieces.{Piece}
 use Rattle.meaning_script.specs.Imports.{Inside, asks, finds}
 use Rattle.find_load.specs.Means.{does, lazily}
 use Rattle.find_load.specs.declared.words.In.{In}
 use Rattle.find_load.specs.declared.import.Stage.{Stage}
-use Rattle.find_load.specs.declared.import.Stage.TheVariants as stage
 use Rattle.find_load.specs.declared.import.Importer.{Importer}
 
 -- what it goes into
@@ -29,7 +27,3 @@ again p inside = asks (within p inside) p.turns false p.name
 -- the search for its name on a path and what follows, with the epoch of its lock
 abbrev pub found_on : Importer → ℕ → Inside → List Value → Piece
 found_on p epoch inside = finds (within p inside) (again p inside) p.name epoch
-
--- the stage at which the namespace with this state is made
-abbrev pub namespace_stage : NsState → Stage
-namespace_stage state = stage.NamespaceAdded state.epoch state.parent_path state.portions

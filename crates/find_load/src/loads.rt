@@ -3,7 +3,7 @@ ghost use Rattle.std.specs.Prelude.{IfOk};
 ghost use Rattle.meaning_script.specs.Imports.{adds, adds_lazy, adds_namespace, has_text, loads, makes, namespace_made, reads_file};
 ghost use Rattle.machine_events.specs.declared.event.Reply.TheVariants as replies;
 ghost use Rattle.find_load.specs.Means.{Goes};
-ghost use Rattle.find_load.specs.UnderWay.{again, does_at, namespace_stage, within};
+ghost use Rattle.find_load.specs.UnderWay.{again, does_at, within};
 ghost use Rattle.find_load.specs.declared.import.Stage.TheVariants as stages;
 ghost use Rattle.find_load.specs.declared.words.In.TheVariants as ins;
 
@@ -41,7 +41,7 @@ fn load(p: &mut Importer, found: Spec) -> Result<Want, NoMemory>
     ensures goes { IfOk result (Goes (λ inside. loads (within p.old inside)
         (again p.old inside) p.old.name found found.kind) p.new) }
 {
-    let file = match &found.kind {
+    let file = match found.kind() {
         SpecKind::Source { file } => path_of(file)?,
         SpecKind::Package { file, .. } => path_of(file)?,
         _ => {
@@ -67,12 +67,12 @@ fn add_namespace(
     let kind = SpecKind::Namespace {
         path: portions.copy()?,
     };
+    let spec = Spec::of(name, kind)?;
     let stage = Stage::NamespaceAdded {
         epoch,
         path,
         portions,
     };
-    let spec = Spec { name, kind };
     Ok(wait_for(p, stage, Want::Call(Event::Add { spec, text })))
 }
 
@@ -181,13 +181,17 @@ pub(crate) fn added_lazy(p: &mut Importer, reply: Reply) -> Result<Want, NoMemor
 /// The namespace was made: the path that it was found on is kept.
 pub(crate) fn namespace_added(
     p: &mut Importer,
-    state: NsState,
+    epoch: u64,
+    path: Items,
+    portions: Texts,
     reply: Reply,
 ) -> Result<Want, NoMemory>
-    ensures goes { IfOk result (Goes (does_at p.old (namespace_stage state) (ins.Replied reply)) p.new) }
+    ensures goes { IfOk result (Goes (does_at p.old (stages.NamespaceAdded epoch path portions)
+        (ins.Replied reply)) p.new) }
 {
     match reply {
         Reply::Load(load, mid) => {
+            let state = NsState::of(path, epoch, portions)?;
             let keep = Want::Call(Event::NsSet { mid, state });
             Ok(wait_for(p, Stage::NamespaceKept(load), keep))
         }

@@ -1,7 +1,7 @@
 //! What an import wants next.
 ghost use Rattle.std.specs.Prelude.{◌≡◌, IfOk, OnErr};
 ghost use Rattle.find_load.specs.Means.{Goes, means};
-ghost use Rattle.find_load.specs.UnderWay.{does_at, namespace_stage};
+ghost use Rattle.find_load.specs.UnderWay.{does_at};
 ghost use Rattle.find_load.specs.declared.import.Stage.TheVariants as stages;
 ghost use Rattle.find_load.specs.declared.words.In.TheVariants as ins;
 
@@ -12,9 +12,9 @@ use crate::looks::{ask, asked, take, taken};
 use crate::raises::{fail, misfit};
 use crate::waits::close;
 use crate::words::{In, Want};
-use base_types::{NoMemory, Seq};
+use base_types::{NoMemory, Seq, Texts};
 use meaning_state::{Fault, Flow};
-use py_value::{Items, NsState};
+use py_value::Items;
 use spec_core::{Dotted, Spec};
 
 /// The import begins.
@@ -166,11 +166,17 @@ fn after_body(p: &mut Importer, load: u32, input: In) -> Result<Want, NoMemory>
 }
 
 /// The reply to the making of a namespace.
-fn after_add_namespace(p: &mut Importer, state: NsState, input: In) -> Result<Want, NoMemory>
-    ensures goes { IfOk result (Goes (does_at p.old (namespace_stage state) input) p.new) }
+fn after_add_namespace(
+    p: &mut Importer,
+    epoch: u64,
+    path: Items,
+    portions: Texts,
+    input: In,
+) -> Result<Want, NoMemory>
+    ensures goes { IfOk result (Goes (does_at p.old (stages.NamespaceAdded epoch path portions) input) p.new) }
 {
     match input {
-        In::Replied(reply) => namespace_added(p, state, reply),
+        In::Replied(reply) => namespace_added(p, epoch, path, portions, reply),
         other => misfit(p, other),
     }
 }
@@ -252,14 +258,7 @@ fn step(p: &mut Importer, input: In) -> Result<Want, NoMemory>
             epoch,
             path,
             portions,
-        } => {
-            let state = NsState {
-                parent_path: path,
-                epoch,
-                portions,
-            };
-            after_add_namespace(p, state, input)
-        }
+        } => after_add_namespace(p, epoch, path, portions, input),
         Stage::NamespaceKept(load) => after_keep(p, load, input),
         Stage::Finished => after_finish(p, input),
         Stage::Released(fault) => after_release(p, fault, input),

@@ -115,7 +115,7 @@ fn name_of(state: &State, mid: u32) -> Result<Option<Dotted>, NoMemory>
 {
     match state.table.object(mid) {
         None => Ok(None),
-        Some(object) => Ok(Some(object.spec.name.clone()?)),
+        Some(object) => Ok(Some(object.spec.name().clone()?)),
     }
 }
 
@@ -141,8 +141,8 @@ pub(crate) fn begins(state: &State, event: &Event) -> Result<Option<Dotted>, NoM
     ensures { IfOk result (λ it. it ≡ begins state.now event.now) }
 {
     match event {
-        Event::Add { spec, .. } => some(&spec.name),
-        Event::ReloadTake { spec, .. } => some(&spec.name),
+        Event::Add { spec, .. } => some(spec.name()),
+        Event::ReloadTake { spec, .. } => some(spec.name()),
         Event::Rouse(mid) => name_of(state, *mid),
         _ => Ok(None),
     }

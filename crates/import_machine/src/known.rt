@@ -50,14 +50,15 @@ fn is_place_of(kind: &SpecKind, place: &Place) -> bool
 fn is_module_of(module: &ModRef, object: &Object) -> bool
     ensures { result ≡ is_module_of «module».now (Some object.now) }
 {
-    object.spec.name.text() == module.name.as_str() && is_place_of(&object.spec.kind, &module.place)
+    object.spec.name().text() == module.name().as_str()
+        && is_place_of(object.spec.kind(), module.place())
 }
 
 /// Whether the module exists, with the name and the place that the spec of its object gives.
 fn is_module(table: &Table, module: &ModRef) -> bool
     ensures { result ≡ is_module table.now «module».now }
 {
-    match table.object(module.mid) {
+    match table.object(module.mid()) {
         None => false,
         Some(object) => is_module_of(module, object),
     }

@@ -64,7 +64,7 @@ fn has_name(machine: &State, mid: u32, name: &Dotted) -> bool
 {
     match machine.table.object(mid) {
         None => false,
-        Some(object) => object.spec.name == *name,
+        Some(object) => *object.spec.name() == *name,
     }
 }
 
@@ -108,7 +108,7 @@ fn is_reloading(machine: &State, thread: u32, mid: u32, load: Option<u32>) -> bo
     let Some(object) = machine.table.object(mid) else {
         return false;
     };
-    match machine.table.reloading(&object.spec.name) {
+    match machine.table.reloading(object.spec.name()) {
         None => false,
         Some(reload) => {
             reload.thread == thread && reload.mid == mid && is_number(reload.load, load)
@@ -135,21 +135,21 @@ fn can_add(machine: &State, counts: &NameMap<u64>, thread: u32, spec: &Spec, tex
     requires { AreTold machine.now counts.now }
     ensures { result ≡ (has_spare machine.now thread spec.now.name && has_text spec.now.kind text.now) }
 {
-    has_spare(machine, counts, thread, &spec.name) && has_text(&spec.kind, text)
+    has_spare(machine, counts, thread, spec.name()) && has_text(spec.kind(), text)
 }
 
 fn can_add_lazy(machine: &State, counts: &NameMap<u64>, thread: u32, spec: &Spec) -> bool
     requires { AreTold machine.now counts.now }
     ensures { result ≡ (has_spare machine.now thread spec.now.name && has_body spec.now.kind) }
 {
-    has_spare(machine, counts, thread, &spec.name) && has_body(&spec.kind)
+    has_spare(machine, counts, thread, spec.name()) && has_body(spec.kind())
 }
 
 fn can_keep(machine: &State, mid: u32, state: &NsState) -> bool
     ensures { result ≡ (has_ns (slice_get machine.now.table.objects mid)
         && list_all (λ b. b) (map (names_modules machine.now.table) state.now.parent_path)) }
 {
-    has_ns(machine, mid) && all_name_modules(&machine.table, &state.parent_path)
+    has_ns(machine, mid) && all_name_modules(&machine.table, state.parent_path())
 }
 
 fn can_reload(machine: &State, thread: u32, mid: u32, spec: &Spec, text: &Seq<u8>) -> bool
@@ -158,8 +158,8 @@ fn can_reload(machine: &State, thread: u32, mid: u32, spec: &Spec, text: &Seq<u8
         && has_text spec.now.kind text.now) }
 {
     is_reloading(machine, thread, mid, None)
-        && has_name(machine, mid, &spec.name)
-        && has_text(&spec.kind, text)
+        && has_name(machine, mid, spec.name())
+        && has_text(spec.kind(), text)
 }
 
 // What the event asks beside the conditions on the thread.
@@ -199,7 +199,7 @@ fn fits(machine: &State, counts: &NameMap<u64>, thread: u32, event: &Event) -> b
         Event::ReloadEnd { mid, load } => is_reloading(machine, thread, *mid, *load),
         Event::AddLazy { spec, .. } => can_add_lazy(machine, counts, thread, spec),
         Event::Rouse(mid) => has_object(machine, *mid),
-        Event::Main { spec, .. } => is_source(&spec.kind),
+        Event::Main { spec, .. } => is_source(spec.kind()),
         Event::End { .. } => can_end(machine, thread),
     }
 }

@@ -1,5 +1,6 @@
 //! The machine, and what holds in every state of it.
 ghost use Rattle.std.specs.Prelude.{◌≡◌, ◌≤◌, ℕ, length, IfOk, OnOk, OnErr, IsTrue, List};
+ghost use Rattle.std.specs.FinMap as map;
 ghost use Rattle.std.specs.Option.{option_copied};
 ghost use Rattle.std.specs.List.{sum};
 ghost use Rattle.machine_events.specs.Fitting.{Fits};
@@ -23,7 +24,6 @@ use std::marker::Model;
 ///
 /// Beside the state it keeps how many loads of each name are open, so that no event's test looks through
 /// the loads.
-#[derive(Drop)]
 pub struct Machine {
     state: State,
     counts: NameMap<u64>,
@@ -99,6 +99,13 @@ impl Machine {
         gives(&self.state, event)
     }
 
+    /// The name of the lock that the thread waits for. It takes no memory.
+    pub fn awaited(&self, thread: u32) -> Option<&Dotted>
+        ensures { option_copied result ≡ map.get self.now.locks.waits thread }
+    {
+        self.state.locks.awaited(thread)
+    }
+
     /// The number of scripts. It takes no memory.
     pub fn scripts(&self) -> u32
         ensures { result ≡ scripts self.now }
@@ -111,5 +118,13 @@ impl Machine {
         ensures { IsSound self.now }
     {
         let _ = &self.state;
+    }
+}
+
+impl Drop for Machine {
+    fn drop(self) {
+        let Machine { state, counts } = self;
+        drop(state);
+        drop(counts);
     }
 }

@@ -35,13 +35,10 @@ fn script_object(alloc: Global, number: u32, script: &Text) -> Result<Object, No
     ensures { IfOk result (λ object. object ≡ script_object number script.now) }
 {
     let vars = script_vars(alloc, script)?;
+    let name = Dotted::known(alloc, KnownName::Main)?;
+    let file = script.copy()?;
     Ok(Object {
-        spec: Spec {
-            name: Dotted::known(alloc, KnownName::Main)?,
-            kind: SpecKind::Source {
-                file: script.copy()?,
-            },
-        },
+        spec: Spec::of(name, SpecKind::Source { file })?,
         phase: Phase::Ready,
         vars,
         ns: None,
@@ -100,13 +97,10 @@ fn built_in(alloc: Global, name: KnownName) -> Result<Object, NoMemory>
 {
     let name = Dotted::known(alloc, name)?;
     let mut vars = Vars::new(alloc);
-    let text = Value::Text(Text::from_str(alloc, name.text())?);
+    let text = Value::Text(name.owned()?);
     set(alloc, &mut vars, "__name__", text)?;
     Ok(Object {
-        spec: Spec {
-            name,
-            kind: SpecKind::Builtin,
-        },
+        spec: Spec::of(name, SpecKind::Builtin)?,
         phase: Phase::Ready,
         vars,
         ns: None,
@@ -153,7 +147,7 @@ fn add_cached(table: &mut Table, object: Object) -> Result<(), NoMemory>
     let Ok(mid) = u32::try_from(table.objects()) else {
         return Err(NoMemory);
     };
-    let name = object.spec.name.copy()?;
+    let name = object.spec.name().copy()?;
     let module = module_of(&object.spec, mid)?;
     let _mid = table.add_object(object)?;
     table.set_entry(&name, Slot::Module(module))

@@ -1,6 +1,6 @@
 //! Events, replies and entries.
 use crate::module::Slot;
-use base_types::{Listing, Seq, Text, Texts, TreePath};
+use base_types::{Listing, Seq, Text, Texts, TreePath, Wide};
 use py_value::{Items, ModRef, NsState, Raised, Value};
 use spec_core::{Dotted, Spec};
 
@@ -67,7 +67,7 @@ pub enum Event {
     PathGet,
     /// An item is put into the search path, at an index or last.
     PathAdd {
-        at: Option<i128>,
+        at: Option<Wide>,
         value: Value,
     },
     /// The kept listing of a directory is looked at.
@@ -126,7 +126,8 @@ pub enum Event {
         spec: Spec,
         text: Seq<u8>,
     },
-    /// The script has ended, with this many units paid.
+    /// The script has ended. `spent` is its budget, and where a call of the tree failed what had been paid
+    /// before the payment for that call.
     End {
         outcome: Outcome,
         spent: u64,
@@ -180,6 +181,15 @@ pub struct Entry {
     pub event: Event,
     pub reply: Reply,
 }
+
+// A history holds one entry for each event, and each event is moved on its way there.
+const _: () = prove!(size_of::<Event>() <= 64);
+
+const _: () = prove!(size_of::<Reply>() <= 40);
+
+const _: () = prove!(size_of::<Entry>() <= 112);
+
+const _: () = prove!(size_of::<Outcome>() == 16);
 
 /// An event of a thread that is known, with its reply.
 #[derive(Drop)]

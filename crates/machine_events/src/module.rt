@@ -2,7 +2,7 @@
 ghost use Rattle.std.specs.Prelude.{◌≡◌, IfOk};
 ghost use Rattle.machine_events.specs.Modules.{place_of, module_of};
 
-use base_types::{Exact, NoMemory, Text};
+use base_types::{Exact, NoMemory};
 use py_value::{ModRef, Place};
 use spec_core::{Spec, SpecKind};
 
@@ -13,6 +13,8 @@ pub enum Slot {
     Halted,
     Module(ModRef),
 }
+
+const _: () = prove!(size_of::<Slot>() == 16);
 
 fn place_of(kind: &SpecKind) -> Result<Place, NoMemory>
     ensures { IfOk result (λ place. place ≡ place_of kind.now) }
@@ -29,9 +31,5 @@ fn place_of(kind: &SpecKind) -> Result<Place, NoMemory>
 pub fn module_of(spec: &Spec, mid: u32) -> Result<ModRef, NoMemory>
     ensures { IfOk result (λ m. m ≡ module_of spec.now mid) }
 {
-    Ok(ModRef {
-        mid,
-        name: Text::from_str(spec.name.alloc(), spec.name.text())?,
-        place: place_of(&spec.kind)?,
-    })
+    ModRef::of(mid, spec.name().owned()?, place_of(spec.kind())?)
 }

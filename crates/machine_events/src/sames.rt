@@ -5,18 +5,6 @@ use crate::event::{Event, Outcome, Reply};
 use crate::module::Slot;
 use base_types::Same;
 
-fn is_same_index(a: &Option<i128>, b: &Option<i128>) -> bool
-    ensures { IsTrue result ↔ (a.now ≡ b.now) }
-{
-    match a {
-        None => b.is_none(),
-        Some(x) => match b {
-            None => false,
-            Some(y) => *x == *y,
-        },
-    }
-}
-
 impl Same for Slot {
     fn is_same(&self, other: &Slot) -> bool {
         match self {
@@ -145,7 +133,7 @@ impl Same for Event {
                 Event::PathAdd {
                     at: to_at,
                     value: to_value,
-                } => is_same_index(at, to_at) && value.is_same(to_value),
+                } => at.is_same(to_at) && value.is_same(to_value),
                 _ => false,
             },
             Event::DirGet { dir, part } => match other {

@@ -46,10 +46,10 @@ fn bind(
     match machine.table.entry(parent) {
         None => Ok(Reply::LostParent),
         Some(Slot::Module(module)) => {
-            if is_built_in_place(&module.place) {
+            if is_built_in_place(module.place()) {
                 return Ok(Reply::Kept(kept));
             }
-            let mid = module.mid;
+            let mid = module.mid();
             let tail = Text::from_str(name.alloc(), name.tail())?;
             let value = value_of(entry)?;
             machine.table.set(mid, tail, value)?;
@@ -143,6 +143,26 @@ fn close(machine: &mut State, thread: u32, load: u32, mid: u32, name: &Dotted)
     machine.locks.give(thread, name);
 }
 
+// The body of a load of this kind has ended, and with it the load.
+fn finish_load(
+    machine: &mut State,
+    thread: u32,
+    load: u32,
+    kind: LoadKind,
+    mid: u32,
+    good: bool,
+    name: &Dotted,
+) -> Result<Reply, NoMemory>
+    ensures reply { IfOk result (λ reply. reply ≡ (finish_entry machine.old kind good name.now).0) }
+    ensures ok { OnOk result
+        (machine.new ≡ closed thread load mid name.now (finish_entry machine.old kind good name.now).1) }
+    ensures err { OnErr result (machine.new ≡ machine.old) }
+{
+    let reply = finish_entry(machine, kind, good, name)?;
+    close(machine, thread, load, mid, name);
+    Ok(reply)
+}
+
 /// Finish: a body has ended. An `Err` changes nothing.
 pub fn finish(machine: &mut State, thread: u32, load: u32, good: bool) -> Result<Reply, NoMemory>
     ensures reply { IfOk result (λ reply. reply ≡ (finish machine.old thread load good).0) }
@@ -157,10 +177,8 @@ pub fn finish(machine: &mut State, thread: u32, load: u32, good: bool) -> Result
     let Some(object) = machine.table.object(mid) else {
         return Ok(Reply::Done);
     };
-    let name = object.spec.name.copy()?;
-    let reply = finish_entry(machine, kind, good, &name)?;
-    close(machine, thread, load, mid, &name);
-    Ok(reply)
+    let name = object.spec.name().copy()?;
+    finish_load(machine, thread, load, kind, mid, good, &name)
 }
 
 /// Release: a lock is given back without a load.

@@ -67,7 +67,7 @@ pub fn finish_reply(machine: &State, load: u32, good: bool) -> Result<Reply, NoM
         return Ok(Reply::Done);
     };
     if good {
-        return good_reply(machine, body.kind, &object.spec.name);
+        return good_reply(machine, body.kind, object.spec.name());
     }
     Ok(Reply::Kept(Slot::Absent))
 }

@@ -26,7 +26,7 @@ pub fn add_lazy(
         return Err(NoMemory);
     };
     let module = module_of(&spec, mid)?;
-    let name = spec.name.copy()?;
+    let name = spec.name().copy()?;
     let _numbers = machine.table.add_unit(
         spec,
         Phase::Lazy,
@@ -99,16 +99,16 @@ pub fn rouse(machine: &mut State, thread: u32, mid: u32) -> Result<Reply, NoMemo
     match object.phase {
         Phase::Ready => Ok(Reply::Ready),
         Phase::Initialising => {
-            if machine.locks.owns(thread, &object.spec.name) {
+            if machine.locks.owns(thread, object.spec.name()) {
                 return Ok(Reply::Ready);
             }
-            let own = object.spec.name.copy()?;
+            let own = object.spec.name().copy()?;
             let module = module_of(&object.spec, mid)?;
             wait_or(&mut machine.locks, thread, own, Reply::Cycle(module))
         }
         Phase::Lazy => {
             let load = object.load;
-            let name = object.spec.name.copy()?;
+            let name = object.spec.name().copy()?;
             rouse_lazy(machine, thread, mid, name, load)
         }
     }

@@ -36,16 +36,16 @@ pub fn reload_begin_reply(
     let Some(object) = machine.table.object(mid) else {
         return Ok(Reply::NotThere);
     };
-    if is_built_in(&object.spec.kind) {
+    if is_built_in(object.spec.kind()) {
         return Ok(Reply::Fixed);
     }
     if sleeping(machine, thread, raw, object) {
         return Ok(Reply::Sleeping);
     }
-    if !is_entry(machine, mid, &object.spec.name) {
+    if !is_entry(machine, mid, object.spec.name()) {
         return Ok(Reply::NotThere);
     }
-    enter_reply(machine, &object.spec.name)
+    enter_reply(machine, object.spec.name())
 }
 
 fn reload_start_reply(machine: &State, mid: u32) -> Result<Reply, NoMemory>
@@ -66,10 +66,10 @@ pub fn reload_take_reply(
 ) -> Result<Reply, NoMemory>
     ensures { (text : List ℕ) → IfOk result (λ reply. reply ≡ (reload_take machine.now thread mid spec.now text).0) }
 {
-    if !machine.locks.is_free(thread, &spec.name) {
-        return wait_reply(&machine.locks, thread, &spec.name, Reply::Deadlock);
+    if !machine.locks.is_free(thread, spec.name()) {
+        return wait_reply(&machine.locks, thread, spec.name(), Reply::Deadlock);
     }
-    if !is_entry(machine, mid, &spec.name) {
+    if !is_entry(machine, mid, spec.name()) {
         return Ok(Reply::NotThere);
     }
     reload_start_reply(machine, mid)
@@ -84,7 +84,7 @@ pub fn reload_end_reply(machine: &State, mid: u32, load: Option<u32>) -> Result<
     };
     match load {
         None => Ok(Reply::Done),
-        Some(_) => kept_or_lost(machine, &object.spec.name),
+        Some(_) => kept_or_lost(machine, object.spec.name()),
     }
 }
 
@@ -128,17 +128,17 @@ pub fn rouse_reply(machine: &State, thread: u32, mid: u32) -> Result<Reply, NoMe
     match object.phase {
         Phase::Ready => Ok(Reply::Ready),
         Phase::Initialising => {
-            if machine.locks.owns(thread, &object.spec.name) {
+            if machine.locks.owns(thread, object.spec.name()) {
                 return Ok(Reply::Ready);
             }
             let module = module_of(&object.spec, mid)?;
             wait_reply(
                 &machine.locks,
                 thread,
-                &object.spec.name,
+                object.spec.name(),
                 Reply::Cycle(module),
             )
         }
-        Phase::Lazy => rouse_lazy_reply(machine, thread, &object.spec.name, object.load),
+        Phase::Lazy => rouse_lazy_reply(machine, thread, object.spec.name(), object.load),
     }
 }

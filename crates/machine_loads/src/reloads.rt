@@ -16,7 +16,7 @@ pub(crate) fn is_entry(machine: &State, mid: u32, name: &Dotted) -> bool
     ensures { result ≡ is_entry mid (maps.get machine.now.table.cache name.now) }
 {
     match machine.table.entry(name) {
-        Some(Slot::Module(module)) => module.mid == mid,
+        Some(Slot::Module(module)) => module.mid() == mid,
         _ => false,
     }
 }
@@ -61,16 +61,16 @@ pub fn reload_begin(
     let Some(object) = machine.table.object(mid) else {
         return Ok(Reply::NotThere);
     };
-    if is_built_in(&object.spec.kind) {
+    if is_built_in(object.spec.kind()) {
         return Ok(Reply::Fixed);
     }
     if sleeping(machine, thread, raw, object) {
         return Ok(Reply::Sleeping);
     }
-    if !is_entry(machine, mid, &object.spec.name) {
+    if !is_entry(machine, mid, object.spec.name()) {
         return Ok(Reply::NotThere);
     }
-    let name = object.spec.name.copy()?;
+    let name = object.spec.name().copy()?;
     enter(machine, thread, mid, &name)
 }
 
@@ -87,7 +87,7 @@ fn reload_start(
     ensures ok { OnOk result (machine.new ≡ (reload_start machine.old thread mid spec.now text).1) }
     ensures err { OnErr result (machine.new ≡ machine.old) }
 {
-    let name = spec.name.copy()?;
+    let name = spec.name().copy()?;
     let restart = machine.table.restart_of(mid, spec)?;
     let load = machine.table.add_load(Load {
         kind: LoadKind::Reload,
@@ -98,7 +98,7 @@ fn reload_start(
     })?;
     match machine.locks.take_free(thread, name) {
         Ok(()) => {
-            machine.table.restart(mid, restart, &spec.name, load);
+            machine.table.restart(mid, restart, spec.name(), load);
             Ok(Reply::Load(load, mid))
         }
         Err(e) => {
@@ -121,11 +121,11 @@ pub fn reload_take(
     ensures ok { OnOk result (machine.new ≡ (reload_take machine.old thread mid spec text).1) }
     ensures err { OnErr result (machine.new ≡ machine.old) }
 {
-    if !machine.locks.is_free(thread, &spec.name) {
-        let name = spec.name.copy()?;
+    if !machine.locks.is_free(thread, spec.name()) {
+        let name = spec.name().copy()?;
         return wait_or(&mut machine.locks, thread, name, Reply::Deadlock);
     }
-    if !is_entry(machine, mid, &spec.name) {
+    if !is_entry(machine, mid, spec.name()) {
         return Ok(Reply::NotThere);
     }
     reload_start(machine, thread, mid, &spec, text)
@@ -180,6 +180,6 @@ pub fn reload_end(
     let Some(object) = machine.table.object(mid) else {
         return Ok(Reply::Done);
     };
-    let name = object.spec.name.copy()?;
+    let name = object.spec.name().copy()?;
     reload_leave(machine, thread, &name, load)
 }

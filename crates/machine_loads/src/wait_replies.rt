@@ -14,16 +14,16 @@ fn meet_reply(machine: &State, thread: u32, module: ModRef) -> Result<Reply, NoM
     ensures { IfOk result (λ reply. reply ≡ (ask_object machine.now thread «module»
         (slice_get machine.now.table.objects «module».mid)).0) }
 {
-    let Some(object) = machine.table.object(module.mid) else {
+    let Some(object) = machine.table.object(module.mid()) else {
         return Ok(Reply::Module(module));
     };
-    if object.phase != Phase::Initialising || machine.locks.owns(thread, &object.spec.name) {
+    if object.phase != Phase::Initialising || machine.locks.owns(thread, object.spec.name()) {
         return Ok(Reply::Module(module));
     }
     wait_reply(
         &machine.locks,
         thread,
-        &object.spec.name,
+        object.spec.name(),
         Reply::Cycle(module),
     )
 }

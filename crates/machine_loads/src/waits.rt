@@ -20,13 +20,13 @@ fn meet(machine: &mut State, thread: u32, module: ModRef) -> Result<Reply, NoMem
         (slice_get machine.old.table.objects «module».mid)).1) }
     ensures err { OnErr result (machine.new ≡ machine.old) }
 {
-    let Some(object) = machine.table.object(module.mid) else {
+    let Some(object) = machine.table.object(module.mid()) else {
         return Ok(Reply::Module(module));
     };
-    if object.phase != Phase::Initialising || machine.locks.owns(thread, &object.spec.name) {
+    if object.phase != Phase::Initialising || machine.locks.owns(thread, object.spec.name()) {
         return Ok(Reply::Module(module));
     }
-    let own = object.spec.name.copy()?;
+    let own = object.spec.name().copy()?;
     wait_or(&mut machine.locks, thread, own, Reply::Cycle(module))
 }
 

@@ -12,7 +12,7 @@ fn name_of(machine: &State, mid: u32) -> Option<&Dotted>
 {
     match machine.table.object(mid) {
         None => None,
-        Some(object) => Some(&object.spec.name),
+        Some(object) => Some(object.spec.name()),
     }
 }
 
@@ -34,7 +34,7 @@ pub fn gives<'a>(machine: &'a State, event: &'a Event) -> Option<&'a Dotted>
     match event {
         Event::Finish { load, .. } => name_of_load(machine, *load),
         Event::Release(name) => Some(name),
-        Event::AddLazy { spec, .. } => Some(&spec.name),
+        Event::AddLazy { spec, .. } => Some(spec.name()),
         Event::ReloadEnd { mid, load: Some(_) } => name_of(machine, *mid),
         _ => None,
     }

@@ -3,7 +3,7 @@ ghost use Rattle.std.specs.Prelude.{◌≡◌, ◌<◌, false, IfOk, OnOk, OnErr
 ghost use Rattle.machine_spec.specs.Search.{path_get, path_add, dir_get, dir_set, invalidate, ns_get, ns_set};
 ghost use Rattle.py_value.specs.declared.value.Value.{Value};
 
-use base_types::{Exact, Listing, NoMemory, Text, TreePath};
+use base_types::{Exact, Listing, NoMemory, Text, TreePath, Wide};
 use machine_events::Reply;
 use machine_spec::State;
 use module_table::KeptListing;
@@ -18,7 +18,7 @@ pub fn path_get(machine: &State) -> Result<Reply, NoMemory>
 }
 
 /// PathAdd: an item is put into the search path. An `Err` changes nothing.
-pub fn path_add(machine: &mut State, at: Option<i128>, value: Value) -> Result<Reply, NoMemory>
+pub fn path_add(machine: &mut State, at: Option<Wide>, value: Value) -> Result<Reply, NoMemory>
     ensures reply { IfOk result (λ reply. reply ≡ (path_add machine.old at value).0) }
     ensures ok { OnOk result (machine.new ≡ (path_add machine.old at value).1) }
     ensures err { OnErr result (machine.new ≡ machine.old) }

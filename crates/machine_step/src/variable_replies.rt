@@ -16,7 +16,7 @@ pub fn set_reply(machine: &State, thread: u32, mid: u32, raw: bool) -> Reply
     let Some(object) = machine.table.object(mid) else {
         return Reply::Done;
     };
-    if is_built_in(&object.spec.kind) {
+    if is_built_in(object.spec.kind()) {
         return Reply::Fixed;
     }
     if sleeping(machine, thread, raw, object) {
@@ -32,7 +32,7 @@ pub fn del_reply(machine: &State, thread: u32, mid: u32, name: &Text, raw: bool)
     let Some(object) = machine.table.object(mid) else {
         return Reply::Done;
     };
-    if is_built_in(&object.spec.kind) {
+    if is_built_in(object.spec.kind()) {
         return Reply::Fixed;
     }
     if sleeping(machine, thread, raw, object) {

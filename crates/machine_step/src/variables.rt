@@ -47,7 +47,7 @@ pub fn set_var(
     let Some(object) = machine.table.object(mid) else {
         return Ok(Reply::Done);
     };
-    if is_built_in(&object.spec.kind) {
+    if is_built_in(object.spec.kind()) {
         return Ok(Reply::Fixed);
     }
     if sleeping(machine, thread, raw, object) {
@@ -65,7 +65,7 @@ pub fn del_var(machine: &mut State, thread: u32, mid: u32, name: &Text, raw: boo
     let Some(object) = machine.table.object(mid) else {
         return Reply::Done;
     };
-    if is_built_in(&object.spec.kind) {
+    if is_built_in(object.spec.kind()) {
         return Reply::Fixed;
     }
     if sleeping(machine, thread, raw, object) {

@@ -108,18 +108,14 @@ pub enum Fault {
 fn plain(alloc: Global, kind: Kind, text: &str) -> Result<Raised, NoMemory>
     ensures { IfOk result (λ error. error ≡ table.raised kind text.now) }
 {
-    Ok(Raised {
-        kind,
-        text: Text::from_str(alloc, text)?,
-        name: None,
-    })
+    Raised::of(kind, Text::from_str(alloc, text)?, None)
 }
 
 /// A text between two others.
 fn joined(alloc: Global, front: &str, middle: &str, back: &str) -> Result<Text, NoMemory>
     ensures { IfOk result (λ text. text ≡ front.now ++ middle.now ++ back.now) }
 {
-    Ok(Text::from_string(format!(in alloc; "{front}{middle}{back}")?))
+    Text::from_string(format!(in alloc; "{front}{middle}{back}")?)
 }
 
 /// An error with a text around another one.
@@ -132,11 +128,7 @@ fn around(
 ) -> Result<Raised, NoMemory>
     ensures { IfOk result (λ error. error ≡ table.raised kind (front.now ++ middle.now ++ back.now)) }
 {
-    Ok(Raised {
-        kind,
-        text: joined(alloc, front, middle, back)?,
-        name: None,
-    })
+    Raised::of(kind, joined(alloc, front, middle, back)?, None)
 }
 
 /// The error of an attribute that a module lacks, with the texts around it.
@@ -175,7 +167,7 @@ fn no_attribute(
 fn counted(alloc: Global, front: &str, n: usize, back: &str) -> Result<Text, NoMemory>
     ensures { IfOk result (λ text. text ≡ front.now ++ decimal n ++ back.now) }
 {
-    Ok(Text::from_string(format!(in alloc; "{front}{n}{back}")?))
+    Text::from_string(format!(in alloc; "{front}{n}{back}")?)
 }
 
 /// The error of a call with so many arguments of a function that takes so many.
@@ -193,11 +185,8 @@ fn not_found(alloc: Global, front: &str, name: Text, back: &str) -> Result<Raise
     ensures { IfOk result (λ error. error ≡ table.not_found (front.now ++ name ++ back.now) name) }
 {
     let text = format!(in alloc; "{front}{}{back}", name.as_str())?;
-    Ok(Raised {
-        kind: Kind::ModuleNotFoundError,
-        text: Text::from_string(text),
-        name: Some(name),
-    })
+    let text = Text::from_string(text)?;
+    Raised::of(Kind::ModuleNotFoundError, text, Some(name))
 }
 
 /// The error of an import that has to do with the module of this name.
@@ -205,11 +194,8 @@ fn import_error(alloc: Global, front: &str, name: Text, back: &str) -> Result<Ra
     ensures { IfOk result (λ error. error ≡ table.import_error (front.now ++ name ++ back.now) name) }
 {
     let text = format!(in alloc; "{front}{}{back}", name.as_str())?;
-    Ok(Raised {
-        kind: Kind::ImportError,
-        text: Text::from_string(text),
-        name: Some(name),
-    })
+    let text = Text::from_string(text)?;
+    Raised::of(Kind::ImportError, text, Some(name))
 }
 
 /// The error of a wrong number of arguments for a built-in function or a method.
@@ -268,11 +254,7 @@ fn cannot_import(
 {
     let back = looked_in(alloc, is_initialising, module.as_str(), place)?;
     let text = joined(alloc, "cannot import name '", name, back.as_str())?;
-    Ok(Raised {
-        kind: Kind::ImportError,
-        text,
-        name: Some(module),
-    })
+    Raised::of(Kind::ImportError, text, Some(module))
 }
 
 /// The error that a fault is raised as.

@@ -10,7 +10,6 @@ use std::collections::BTreeMap;
 use std::marker::Model;
 
 /// The values of a call's local variables that are set, by their names (Language Reference 4.2.2).
-#[derive(Drop)]
 pub struct Locals {
     map: BTreeMap<Text, Value>,
 }
@@ -62,5 +61,12 @@ impl Locals {
         ensures after { self.new ≡ map.remove self.old name.now }
     {
         self.map.remove(name)
+    }
+}
+
+impl Drop for Locals {
+    fn drop(self) {
+        let Locals { map } = self;
+        drop(map);
     }
 }

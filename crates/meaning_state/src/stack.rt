@@ -8,7 +8,6 @@ use std::alloc::Global;
 use std::marker::Model;
 
 /// A stack: the list of its items, the one that was put last first.
-#[derive(Drop)]
 pub struct Stack<T> {
     items: Vec<T>,
 }
@@ -57,5 +56,12 @@ impl<T> Stack<T> {
         ensures { option_copied result ≡ first_of self.now }
     {
         self.items.last()
+    }
+}
+
+impl<T: Drop> Drop for Stack<T> {
+    fn drop(self) {
+        let Stack { items } = self;
+        drop(items);
     }
 }

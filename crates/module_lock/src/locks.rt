@@ -191,7 +191,6 @@ fn lower(locks: &mut NameMap<Lock>, thread: u32, name: &Dotted)
 }
 
 /// Locks by name, and the threads that wait for one. No waits close a cycle.
-#[derive(Drop)]
 pub struct Locks {
     locks: NameMap<Lock>,
     waits: NumberMap<Dotted>,
@@ -434,5 +433,18 @@ impl Locks {
         ensures { option_copied result ≡ map.get self.now.waits thread }
     {
         self.waits.get(thread)
+    }
+}
+
+impl Drop for Locks {
+    fn drop(self) {
+        let Locks {
+            locks,
+            waits,
+            queues,
+        } = self;
+        drop(locks);
+        drop(waits);
+        drop(queues);
     }
 }

@@ -12,7 +12,6 @@ use std::marker::Model;
 
 /// The slots of the cache by their names. Contracts see it as a finite map. A name is found by its hash, in a time
 /// that does not grow with the number of modules.
-#[derive(Drop)]
 pub struct Cache {
     map: IndexMap<Dotted, Slot>,
 }
@@ -67,5 +66,12 @@ impl Cache {
         ensures after { self.new ≡ map.remove self.old name.now }
     {
         self.map.swap_remove(name)
+    }
+}
+
+impl Drop for Cache {
+    fn drop(self) {
+        let Cache { map } = self;
+        drop(map);
     }
 }

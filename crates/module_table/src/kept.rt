@@ -9,7 +9,6 @@ use std::marker::Model;
 ///
 /// A tree lists a directory in byte order, so a name is looked for by halves, in the time of a few comparisons also
 /// where a folder has thousands of names. In a listing that is in another order each name is looked at.
-#[derive(Drop)]
 pub struct KeptListing {
     listing: Listing,
     is_sorted: bool,
@@ -65,4 +64,14 @@ fn has_part(names: &Texts, part: &Text) -> bool
         }
     }
     false
+}
+
+impl Drop for KeptListing {
+    fn drop(self) {
+        let KeptListing {
+            listing,
+            is_sorted: _,
+        } = self;
+        drop(listing);
+    }
 }

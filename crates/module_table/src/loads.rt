@@ -10,7 +10,6 @@ use std::alloc::Global;
 use std::marker::Model;
 
 /// The loads in the order of their numbers, from 0.
-#[derive(Drop)]
 pub struct Loads {
     items: Vec<Load>,
 }
@@ -110,5 +109,12 @@ impl Loads {
         ensures { result.now ≡ self.now }
     {
         self.items.as_slice()
+    }
+}
+
+impl Drop for Loads {
+    fn drop(self) {
+        let Loads { items } = self;
+        drop(items);
     }
 }

@@ -13,7 +13,6 @@ use std::alloc::Global;
 use std::marker::Model;
 
 /// The modules in the order of their numbers, from 0.
-#[derive(Drop)]
 pub struct Objects {
     items: Vec<Object>,
 }
@@ -142,5 +141,12 @@ impl Objects {
             self.items[at as usize].vars.set(name, value)?;
         }
         Ok(())
+    }
+}
+
+impl Drop for Objects {
+    fn drop(self) {
+        let Objects { items } = self;
+        drop(items);
     }
 }

@@ -7,7 +7,7 @@ ghost use Rattle.module_table.specs.Tables.{with_path_item, path_added};
 use crate::module::{Load, Phase};
 use crate::path::place_from;
 use crate::table::Table;
-use base_types::{NoMemory, Text, Texts};
+use base_types::{NoMemory, Text, Texts, Wide};
 use py_value::{NsState, Value};
 use spec_core::Spec;
 
@@ -68,7 +68,7 @@ impl Table {
 
     /// Puts a value into the search path, last or before an index, unless the path has 4,096 items. An
     /// `Err` changes nothing.
-    pub fn path_add(&mut self, at: Option<i128>, value: Value) -> Result<bool, NoMemory>
+    pub fn path_add(&mut self, at: Option<Wide>, value: Value) -> Result<bool, NoMemory>
         ensures added { IfOk result (λ added. added ≡ nat_lt (length self.old.path) 4096) }
         ensures ok { OnOk result (self.new ≡ path_added self.old at value) }
         ensures err { OnErr result (self.new ≡ self.old) }

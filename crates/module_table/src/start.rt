@@ -55,13 +55,13 @@ pub(crate) fn restart(alloc: Global, spec: &Spec, vars: &mut Vars) -> Result<(),
 {
     vars.set(
         Text::from_str(alloc, "__name__")?,
-        Value::Text(Text::from_str(alloc, spec.name.text())?),
+        Value::Text(spec.name().owned()?),
     )?;
     vars.set(
         Text::from_str(alloc, "__package__")?,
         Value::Text(Text::from_str(alloc, package_of(spec))?),
     )?;
-    kind_vars(alloc, &spec.kind, vars)
+    kind_vars(alloc, spec.kind(), vars)
 }
 
 /// The variables that a new module has.
@@ -103,7 +103,7 @@ pub(crate) fn main_vars(alloc: Global, spec: &Spec, vars: &Vars) -> Result<Vars,
         Text::from_str(alloc, "__package__")?,
         Value::Text(Text::from_str(alloc, package_of(spec))?),
     )?;
-    set_file(alloc, &spec.kind, &mut more)?;
+    set_file(alloc, spec.kind(), &mut more)?;
     Ok(more)
 }
 
@@ -112,11 +112,10 @@ pub fn start_ns(alloc: Global, kind: &SpecKind) -> Result<Option<NsState>, NoMem
     ensures { IfOk result (λ state. state ≡ start_ns kind.now) }
 {
     match kind {
-        SpecKind::Namespace { path } => Ok(Some(NsState {
-            parent_path: Seq::new(alloc),
-            epoch: 0,
-            portions: path.copy()?,
-        })),
+        SpecKind::Namespace { path } => {
+            let state = NsState::of(Seq::new(alloc), 0, path.copy()?)?;
+            Ok(Some(state))
+        }
         _ => Ok(None),
     }
 }

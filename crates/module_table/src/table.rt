@@ -19,7 +19,6 @@ use std::alloc::Global;
 
 /// The cache, the modules, their loads, the search path with its epoch, the reloads that are running,
 /// and the threads that have ended.
-#[derive(Drop)]
 pub struct Table {
     pub(crate) cache: Cache,
     pub(crate) objects: Objects,
@@ -145,7 +144,7 @@ impl Table {
     {
         let alloc = self.alloc();
         let vars = start_vars(alloc, &spec)?;
-        let ns = start_ns(alloc, &spec.kind)?;
+        let ns = start_ns(alloc, spec.kind())?;
         self.add_object(Object {
             spec,
             phase,
@@ -314,5 +313,25 @@ pub(crate) fn number(len: usize) -> Result<u32, NoMemory>
     match u32::try_from(len) {
         Ok(n) => Ok(n),
         Err(_) => Err(NoMemory),
+    }
+}
+
+impl Drop for Table {
+    fn drop(self) {
+        let Table {
+            cache,
+            objects,
+            loads,
+            path,
+            epoch: _,
+            reloading,
+            ended,
+        } = self;
+        drop(cache);
+        drop(objects);
+        drop(loads);
+        drop(path);
+        drop(reloading);
+        drop(ended);
     }
 }

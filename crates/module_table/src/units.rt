@@ -33,10 +33,10 @@ impl Table {
         let alloc = self.alloc();
         let mid = number(self.objects.len())?;
         let load = number(self.loads.len())?;
-        let name = spec.name.copy()?;
+        let name = spec.name().copy()?;
         let module = module_of(&spec, mid)?;
         let vars = start_vars(alloc, &spec)?;
-        let ns = start_ns(alloc, &spec.kind)?;
+        let ns = start_ns(alloc, spec.kind())?;
         let object = Object {
             spec,
             phase,
@@ -83,7 +83,7 @@ impl Table {
         };
         Ok(Restart {
             vars,
-            ns: start_ns(alloc, &spec.kind)?,
+            ns: start_ns(alloc, spec.kind())?,
         })
     }
 

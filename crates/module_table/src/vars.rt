@@ -10,7 +10,6 @@ use std::alloc::{AllocError, Global};
 use std::marker::Model;
 
 /// Variables in the order in which they were first set.
-#[derive(Drop)]
 pub struct Vars {
     map: IndexMap<Text, Value>,
 }
@@ -91,5 +90,12 @@ impl Clone for Vars {
 impl Exact for Vars {
     fn copy(&self) -> Result<Vars, NoMemory> {
         Ok(self.clone()?)
+    }
+}
+
+impl Drop for Vars {
+    fn drop(self) {
+        let Vars { map } = self;
+        drop(map);
     }
 }

@@ -13,7 +13,7 @@ pub fn fresh(state: &NsState, parent_path: &Items, epoch: u64) -> bool
     ensures test { result ≡ is_fresh state.now parent_path.now epoch }
     ensures exact { IsTrue result ↔ ((state.now.parent_path ≡ parent_path.now) × (state.now.epoch ≡ epoch)) }
 {
-    state.parent_path.is_same(parent_path) && state.epoch == epoch
+    state.parent_path().is_same(parent_path) && state.epoch() == epoch
 }
 
 /// The portions after a search.
@@ -37,9 +37,6 @@ pub fn recomputed(
 ) -> Result<NsState, NoMemory>
     ensures { IfOk result (λ it. it ≡ recomputed state.now parent_path.now epoch found.now) }
 {
-    Ok(NsState {
-        parent_path: parent_path.copy()?,
-        epoch,
-        portions: portions_after(&state.portions, found)?,
-    })
+    let portions = portions_after(state.portions(), found)?;
+    NsState::of(parent_path.copy()?, epoch, portions)
 }

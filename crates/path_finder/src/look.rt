@@ -60,7 +60,6 @@ pub enum Stage {
 }
 
 /// One search for a name on a path, step by step.
-#[derive(Drop)]
 pub struct Look {
     sought: Sought,
     path: Items,
@@ -308,9 +307,9 @@ impl Look {
         ensures same { (self.new.sought ≡ self.old.sought) × (self.new.path ≡ self.old.path) }
         ensures refused { OnErr result (self.new.stage ≡ self.old.stage) }
     {
-        let name = self.sought.name.copy()?;
+        let spec = Spec::of(self.sought.name.copy()?, kind)?;
         self.wait_at(Stage::Over);
-        Ok(LookWant::Done(Some(Found::Spec(Spec { name, kind }))))
+        Ok(LookWant::Done(Some(Found::Spec(spec))))
     }
 
     /// The entry does not decide. Its portion is kept, if it has one.
@@ -520,5 +519,21 @@ fn reply_of(input: LookIn) -> Option<Probe>
         LookIn::Start => None,
         LookIn::Paid => None,
         LookIn::Kept => None,
+    }
+}
+
+impl Drop for Look {
+    fn drop(self) {
+        let Look {
+            sought,
+            path,
+            at: _,
+            portions,
+            stage,
+        } = self;
+        drop(sought);
+        drop(path);
+        drop(portions);
+        drop(stage);
     }
 }

@@ -18,7 +18,7 @@ use Rattle.import_words.specs.Plans.{plan_of}
 use Rattle.import_words.specs.declared.plan.Plan.TheVariants as plans
 use Rattle.import_words.specs.declared.plan.RunPlan.{RunPlan}
 use Rattle.program_run.specs.Statuses.{want_of_memory}
-use Rattle.program_run.specs.Sinks.{At, Moment, Leaves}
+use Rattle.program_run.specs.Sinks.{At, Moment, IsShort, Leaves}
 use Rattle.program_run.specs.Scripts.{IsUnread}
 use Rattle.program_run.specs.Counts.{reads_of, lists_of}
 use Rattle.program_run.specs.Alone as alone
@@ -114,7 +114,7 @@ told_by (Some files) a b h it = h files it
 -- ---- from the moments of a fork to those of the tree that it was made of and that has taken in what it counted; of the
 -- fork's lists it has taken in no more than there were
 
-module _ (files files' files'' : Option Files) (faults f lists l lists' : ℕ) (out out' err err' : At) (inside : lists' ≤ raised lists l) where
+module _ (files files' files'' : Option Files) (faults f lists l lists' : ℕ) (out out' err err' : At) (inside : lists' ≤ raised lists l) (grown : faults ≤ raised faults f) where
   abbrev first : Moment
   first = record { files = files; faults = 0; lists = 0; out = out; err = err }
 
@@ -160,12 +160,15 @@ module _ (files files' files'' : Option Files) (faults f lists l lists' : ℕ) (
     leaves = leaves_by run.leaves;
   }
 
+  short_by : IsShort first last → IsShort old new
+  short_by s = let none : l ≤ 0 = s.lists in record { faults = grown; lists = omega (arith, none, inside); out = s.out; err = s.err }
+
   plain_by : (means : Means) (words : List Word) (run : RunPlan) (report : Report) → built (plan_of words) ≡ Some run → called.Answers means words first last report → called.Answers means words old new report
   plain_by means words run report is (called.Answers.refused none plan history same lists' leaves) = absurd (let bad : ◌≡◌ {A = Option RunPlan} None (Some run) = sym none ∙ is in cc bad)
   plain_by means words run report is (called.Answers.unopened it line b plan history why leaves) = called.Answers.unopened it line b plan history why (leaves_by leaves)
   plain_by means words run report is (called.Answers.unread it b plan history why leaves) = called.Answers.unread it b plan history (unread_by it.scripts why) (leaves_by leaves)
   plain_by means words run report is (called.Answers.ran it texts history b plan h opens has) = called.Answers.ran it texts history b plan h opens (ran_by means it texts history report.status has)
-  plain_by means words run report is (called.Answers.short it b plan history status o e) = called.Answers.short it b plan history status o e
+  plain_by means words run report is (called.Answers.short it b plan history status short) = called.Answers.short it b plan history status (short_by short)
 
   -- so a call over the fork ends as one over the tree
   pub answers_by : (means : Means) (words : List Word) (run : RunPlan) (report : Report) → Some (plans.Run run) ≡ plan_of words → Answers means words first last report → Answers means words old new report
@@ -174,12 +177,18 @@ module _ (files files' files'' : Option Files) (faults f lists l lists' : ℕ) (
   answers_by means words run report is (Answers.unopened it file rounds line asks none has why leaves) = Answers.unopened it file rounds line asks none has why (leaves_by leaves)
   answers_by means words run report is (Answers.unread it file asks none rose leaves) = Answers.unread it file asks none (rose_by faults f rose) (leaves_by leaves)
   answers_by means words run report is (Answers.ran it file rounds texts history asks h has opens ran) = Answers.ran it file rounds texts history asks h has opens (ran_in_rounds means it rounds texts history report.status ran)
-  answers_by means words run report is (Answers.short it file asks none status o e) = Answers.short it file asks none status o e
+  answers_by means words run report is (Answers.short it file asks none status short) = Answers.short it file asks none status (short_by short)
 
   match_by : (means : Means) (plan : RunPlan) (texts : List (List ℕ)) (status : ℕ) (h : Option (List Entry))
       → MatchOption h ((status ≡ want_of_memory) × (last ≡ first)) (λ history. plain.HasRun means plan texts first last (finished history status))
-      → MatchOption h ((status ≡ want_of_memory) × (new.out ≡ old.out) × (new.err ≡ old.err)) (λ history. plain.HasRun means plan texts old new (finished history status))
-  match_by means plan texts status None gives = (gives.0, ap (λ (m : Moment). m.out) gives.1, ap (λ (m : Moment). m.err) gives.1)
+      → MatchOption h ((status ≡ want_of_memory) × (new.faults ≡ old.faults) × IsShort old new) (λ history. plain.HasRun means plan texts old new (finished history status))
+  match_by means plan texts status None gives =
+      let none : f ≡ 0 = ap (λ (m : Moment). m.faults) gives.1 in
+      let unlisted : l ≡ 0 = ap (λ (m : Moment). m.lists) gives.1 in (
+        gives.0,
+        omega (arith, none, grown),
+        short_by (record { faults = omega arith; lists = omega (arith, unlisted); out = ap (λ (m : Moment). m.out) gives.1; err = ap (λ (m : Moment). m.err) gives.1 }),
+      )
   match_by means plan texts status (Some h) gives = ran_by means plan texts h status gives
 
   -- so programs over the fork leave what they leave over the tree
@@ -196,33 +205,40 @@ none_listed lists mid l first lists' same zero inside none = omega (arith, same,
 
 -- the same by what the calls of both trees say: those of the tree had been `midf` and `midl` when it took in the fork's
 pub answers_from : (means : Means) (words : List Word) (run : RunPlan) (report : Report) (m n : Moment) (files files' : Option Files) (faults midf faults' lists midl lists' : ℕ) (out out' err err' : At) → Some (plans.Run run) ≡ plan_of words
-    → m.files ≡ files → m.faults ≡ 0 → m.lists ≡ 0 → m.out ≡ out → m.err ≡ err → n.out ≡ out' → n.err ≡ err' → midf ≡ faults → midl ≡ lists → faults' ≡ raised midf n.faults → lists' ≤ raised midl n.lists
+    → m.files ≡ files → m.faults ≡ 0 → m.lists ≡ 0 → m.out ≡ out → m.err ≡ err → n.out ≡ out' → n.err ≡ err' → midf ≡ faults → midl ≡ lists → faults' ≡ raised midf n.faults → lists' ≤ raised midl n.lists → midf ≤ faults'
     → Answers means words m n report
     → Answers means words (record { files = files; faults = faults; lists = lists; out = out; err = err }) (record { files = files'; faults = faults'; lists = lists'; out = out'; err = err' }) report
-answers_from means words run report m n files files' faults midf faults' lists midl lists' out out' err err' is mf mz ml mo me no' ne' sf sl fs inside answers =
+answers_from means words run report m n files files' faults midf faults' lists midl lists' out out' err err' is mf mz ml mo me no' ne' sf sl fs inside grows answers =
     let begins : m ≡ record { files = files; faults = 0; lists = 0; out = out; err = err } = λ i. record { files = mf i; faults = mz i; lists = ml i; out = mo i; err = me i } in
     let ends : n ≡ record { files = n.files; faults = n.faults; lists = n.lists; out = out'; err = err' } = λ i. record { files = n.files; faults = n.faults; lists = n.lists; out = no' i; err = ne' i } in
     let few : lists' ≤ raised lists n.lists = subst (λ (x : ℕ). lists' ≤ raised x n.lists) sl inside in
-    let counted : Answers means words (record { files = files; faults = faults; lists = lists; out = out; err = err }) (record { files = files'; faults = raised faults n.faults; lists = lists'; out = out'; err = err' }) report =
-    answers_by files n.files files' faults n.faults lists n.lists lists' out out' err err' few means words run report is
-    (subst (λ (x : Moment). Answers means words x (record { files = n.files; faults = n.faults; lists = n.lists; out = out'; err = err' }) report) begins (subst (λ (x : Moment). Answers means words m x report) ends answers)) in
     let same : raised faults n.faults ≡ faults' = sym (fs ∙ ap (λ x. raised x n.faults) sf) in
+    let grown : faults ≤ raised faults n.faults = omega (arith, sf, grows, same) in
+    let counted : Answers means words (record { files = files; faults = faults; lists = lists; out = out; err = err }) (record { files = files'; faults = raised faults n.faults; lists = lists'; out = out'; err = err' }) report =
+    answers_by files n.files files' faults n.faults lists n.lists lists' out out' err err' few grown means words run report is
+    (subst (λ (x : Moment). Answers means words x (record { files = n.files; faults = n.faults; lists = n.lists; out = out'; err = err' }) report) begins (subst (λ (x : Moment). Answers means words m x report) ends answers)) in
     subst (λ (x : ℕ). Answers means words (record { files = files; faults = faults; lists = lists; out = out; err = err }) (record { files = files'; faults = x; lists = lists'; out = out'; err = err' }) report) same counted
 
 -- the same of programs
 pub gives_from : (means : Means) (plan : RunPlan) (texts : List (List ℕ)) (left : Left) (m n : Moment) (files files' : Option Files) (faults midf faults' lists midl lists' : ℕ) (out out' err err' : At)
-    → m.files ≡ files → m.faults ≡ 0 → m.lists ≡ 0 → m.out ≡ out → m.err ≡ err → n.out ≡ out' → n.err ≡ err' → midf ≡ faults → midl ≡ lists → faults' ≡ raised midf n.faults → lists' ≤ raised midl n.lists
+    → m.files ≡ files → m.faults ≡ 0 → m.lists ≡ 0 → m.out ≡ out → m.err ≡ err → n.out ≡ out' → n.err ≡ err' → midf ≡ faults → midl ≡ lists → faults' ≡ raised midf n.faults → lists' ≤ raised midl n.lists → midf ≤ faults'
     → plain.Gives means plan texts m n left
     → GivesInBundles means plan texts (record { files = files; faults = faults; lists = lists; out = out; err = err }) (record { files = files'; faults = faults'; lists = lists'; out = out'; err = err' }) left
-gives_from means plan texts left m n files files' faults midf faults' lists midl lists' out out' err err' mf mz ml mo me no' ne' sf sl fs inside gives =
+gives_from means plan texts left m n files files' faults midf faults' lists midl lists' out out' err err' mf mz ml mo me no' ne' sf sl fs inside grows gives =
     let begins : m ≡ record { files = files; faults = 0; lists = 0; out = out; err = err } = λ i. record { files = mf i; faults = mz i; lists = ml i; out = mo i; err = me i } in
     let ends : n ≡ record { files = n.files; faults = n.faults; lists = n.lists; out = out'; err = err' } = λ i. record { files = n.files; faults = n.faults; lists = n.lists; out = no' i; err = ne' i } in
     let few : lists' ≤ raised lists n.lists = subst (λ (x : ℕ). lists' ≤ raised x n.lists) sl inside in
-    let counted : GivesInBundles means plan texts (record { files = files; faults = faults; lists = lists; out = out; err = err }) (record { files = files'; faults = raised faults n.faults; lists = lists'; out = out'; err = err' }) left =
-    gives_by files n.files files' faults n.faults lists n.lists lists' out out' err err' few means plan texts left
-    (subst (λ (x : Moment). plain.Gives means plan texts x (record { files = n.files; faults = n.faults; lists = n.lists; out = out'; err = err' }) left) begins (subst (λ (x : Moment). plain.Gives means plan texts m x left) ends gives)) in
     let same : raised faults n.faults ≡ faults' = sym (fs ∙ ap (λ x. raised x n.faults) sf) in
+    let grown : faults ≤ raised faults n.faults = omega (arith, sf, grows, same) in
+    let counted : GivesInBundles means plan texts (record { files = files; faults = faults; lists = lists; out = out; err = err }) (record { files = files'; faults = raised faults n.faults; lists = lists'; out = out'; err = err' }) left =
+    gives_by files n.files files' faults n.faults lists n.lists lists' out out' err err' few grown means plan texts left
+    (subst (λ (x : Moment). plain.Gives means plan texts x (record { files = n.files; faults = n.faults; lists = n.lists; out = out'; err = err' }) left) begins (subst (λ (x : Moment). plain.Gives means plan texts m x left) ends gives)) in
     subst (λ (x : ℕ). GivesInBundles means plan texts (record { files = files; faults = faults; lists = lists; out = out; err = err }) (record { files = files'; faults = x; lists = lists'; out = out'; err = err' }) left) same counted
+
+-- nothing was written, and both counts are as they were
+pub unchanged : {files files' : Option Files} {faults faults' lists lists' : ℕ} {out err : At} → faults' ≡ faults → lists' ≡ lists
+    → IsShort (record { files = files; faults = faults; lists = lists; out = out; err = err }) (record { files = files'; faults = faults'; lists = lists'; out = out; err = err })
+unchanged f l = record { faults = omega (arith, f); lists = omega (arith, l); out = refl; err = refl }
 
 -- where no history was begun nothing changed
 pub unbegun : (means : Means) (plan : RunPlan) (texts : List (List ℕ)) (m n : Moment) (left : Left) → plain.Gives means plan texts m n left → left.history ≡ None → n.lists ≡ m.lists
@@ -232,12 +248,12 @@ unbegun means plan texts m n left gives none =
 
 -- memory was wanted before the words were followed
 pub ends_short : (means : Means) (words : List Word) (run : RunPlan) (old new : Moment) (report : Report) → Some (plans.Run run) ≡ plan_of words → report.plan ≡ Some (plans.Run run) → report.history ≡ None → report.status ≡ want_of_memory
-    → new.out ≡ old.out → new.err ≡ old.err → Answers means words old new report
-ends_short means words run old new report is plan none six out err = by run.rounds refl
+    → IsShort old new → Answers means words old new report
+ends_short means words run old new report is plan none six short = by run.rounds refl
   where
     by : (o : Option Word) → run.rounds ≡ o → Answers means words old new report
     by None at =
         let plain : rounds_plan (plan_of words) ≡ None = ap rounds_plan (sym is) ∙ ap (λ (o : Option Word). run_if (is_some o) run) at in
-        Answers.plain plain (called.Answers.short run (plain_built words run is plain) plan none six out err)
+        Answers.plain plain (called.Answers.short run (plain_built words run is plain) plan none six short)
     by (Some file) at =
-        Answers.short run file (record { run_is = ap rounds_plan (sym is) ∙ ap (λ (o : Option Word). run_if (is_some o) run) at; file_is = at; plan = plan }) none six out err
+        Answers.short run file (record { run_is = ap rounds_plan (sym is) ∙ ap (λ (o : Option Word). run_if (is_some o) run) at; file_is = at; plan = plan }) none six short

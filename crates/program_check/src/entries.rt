@@ -128,8 +128,8 @@ fn follow_all<F: Followed, T: Grove>(
 ) -> Result<Vec<Follow>, TreeFault>
     requires fit { Fit rounds.now texts.now }
     requires held { length texts.now ≤ length lists.now }
-    ensures each { IfOk result (λ it. AreFollows F.means fuel (list_of lists.now) 0 (told_in (T.files tree.old) rounds.now)
-        texts.now it.items) }
+    ensures each { IfOk result (λ it. AreFollows F.means fuel (list_of lists.now) 0
+        (told_in (T.files tree.old) rounds.now) texts.now it.items) }
     ensures failed { IsErrOf result TreeFault.Failed → Rose (T.faults tree.old) (T.faults tree.new) }
     ensures files_stay { T.files tree.new ≡ T.files tree.old }
     ensures faults_grow { T.faults tree.old ≤ T.faults tree.new }

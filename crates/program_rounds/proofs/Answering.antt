@@ -31,12 +31,12 @@ use Rattle.program_run.specs.Prints.{out_text}
 use Rattle.program_run.specs.Runs.{finished}
 use Rattle.program_run.specs.Together.{terms, AllActOn}
 use Rattle.program_run.specs.Scripts.{EachOpens}
-use Rattle.program_run.specs.Sinks.{At, Gets, Moment, Leaves, status_by}
+use Rattle.program_run.specs.Sinks.{At, Gets, Moment, IsShort, Leaves, status_by}
 use Rattle.program_run.specs.declared.open.Unopened.{Unopened}
 use Rattle.program_run.specs.declared.open.Unopened.TheVariants as unopened
 use Rattle.program_run.specs.declared.report.Report.{Report}
 use Rattle.program_run.specs.declared.report.Left.{Left}
-use Rattle.program_run.proofs.Answering.{act_since}
+use Rattle.program_run.proofs.Answering.{rose_since, cause_since, act_since}
 use Rattle.program_run.proofs.Meaning.{acts_on_since}
 use Rattle.program_rounds.specs.Answers.{Answers, Asks, IsLater, Tells, in_rounds, rounds_plan}
 use Rattle.program_rounds.specs.Opened.{HasRounds, WantsRounds, EachRoundOpens, StopsIn}
@@ -145,13 +145,6 @@ many_texts tree (round ∷ rounds) texts opens =
 
 -- ---- since an earlier moment
 
-rose_since : (first old new : ℕ) → first ≤ old → Rose old new → Rose first new
-rose_since first old new h r = omega (arith, h, r)
-
-cause_since : (stop : Option ℕ) (first old new : ℕ) → first ≤ old → HasCause stop old new → HasCause stop first new
-cause_since None first old new h c = tt
-cause_since (Some k) first old new h c = rose_since first old new h c
-
 causes_since : (turns : List Turn) (first old new : ℕ) → first ≤ old → HaveCauses turns old new → HaveCauses turns first new
 causes_since [] first old new h c = tt
 causes_since (turn ∷ turns) first old new h c = (cause_since turn.stop first old new h c.0, causes_since turns first old new h c.1)
@@ -214,30 +207,41 @@ later_since {first} {old} {new} since files faults lists out err =
       err = err ∙ since.err;
     }
 
+-- nothing has changed since a later moment
+short_since : (first old new : Moment) → IsLater first old → new ≡ old → IsShort first new
+short_since first old new since same =
+    let faults = ap (λ (m : Moment). m.faults) same ∙ since.faults in
+    let lists = ap (λ (m : Moment). m.lists) same in
+    let fewer = since.lists in
+    record { faults = omega (arith, faults); lists = omega (arith, lists, fewer); out = ap (λ (m : Moment). m.out) same ∙ since.out; err = ap (λ (m : Moment). m.err) same ∙ since.err }
+
 -- ---- how the call ends
 
 -- there are no rounds
 pub ends_without : (means : Means) (words : List Word) (old new : Moment) (report : Report) (run : RunPlan) (file : Word) (why : Unopened) → Asks words report run file → report.history ≡ None → WantsRounds old.files file old.faults new.faults why
-    → Tells why old new report.status → Answers means words old new report
-ends_without means words old new report run file (unopened.Refused line) asks none wants tells = Answers.no_rounds run file line.items asks none wants tells
-ends_without means words old new report run file unopened.Unread asks none wants tells = Answers.unread run file asks none wants tells
-ends_without means words old new report run file unopened.NoMemory asks none wants tells = Answers.short run file asks none tells.0 tells.1 tells.2
+    → Tells why old new report.status → old.faults ≤ new.faults → new.lists ≤ old.lists → Answers means words old new report
+ends_without means words old new report run file (unopened.Refused line) asks none wants tells grown fewer = Answers.no_rounds run file line.items asks none wants tells
+ends_without means words old new report run file unopened.Unread asks none wants tells grown fewer = Answers.unread run file asks none wants tells
+ends_without means words old new report run file unopened.NoMemory asks none wants tells grown fewer =
+    Answers.short run file asks none tells.0 (record { faults = grown; lists = fewer; out = tells.1; err = tells.2 })
 
 -- there are not all texts
 pub ends_unopened : (means : Means) (words : List Word) (first old new : Moment) (report : Report) (run : RunPlan) (file : Word) (rounds : List Round) (why : Unopened) → IsLater first old → Asks words report run file → report.history ≡ None
-    → HasRounds first.files file rounds → StopsIn old.files rounds old.faults new.faults why → Tells why first new report.status → Answers means words first new report
-ends_unopened means words first old new report run file rounds (unopened.Refused line) since asks none has stops tells =
+    → HasRounds first.files file rounds → StopsIn old.files rounds old.faults new.faults why → Tells why first new report.status → old.faults ≤ new.faults → new.lists ≤ old.lists → Answers means words first new report
+ends_unopened means words first old new report run file rounds (unopened.Refused line) since asks none has stops tells grown fewer =
     Answers.unopened run file rounds line.items asks none has (subst (λ (t : Option Files). StopsIn t rounds old.faults new.faults (unopened.Refused line)) since.files stops) tells
-ends_unopened means words first old new report run file rounds unopened.Unread since asks none has stops tells = Answers.unread run file asks none (rose_since first.faults old.faults new.faults (let same = since.faults in omega (arith, same)) stops) tells
-ends_unopened means words first old new report run file rounds unopened.NoMemory since asks none has stops tells = Answers.short run file asks none tells.0 tells.1 tells.2
+ends_unopened means words first old new report run file rounds unopened.Unread since asks none has stops tells grown fewer = Answers.unread run file asks none (rose_since first.faults old.faults new.faults (let same = since.faults in omega (arith, same)) stops) tells
+ends_unopened means words first old new report run file rounds unopened.NoMemory since asks none has stops tells grown fewer =
+    let faults = since.faults in
+    let lists = since.lists in
+    Answers.short run file asks none tells.0 (record { faults = omega (arith, faults, grown); lists = omega (arith, lists, fewer); out = tells.1; err = tells.2 })
 
 -- the scripts were opened, and then run
 module _ (means : Means) (words : List Word) (first old new : Moment) (run : RunPlan) (file : Word) (rounds : List Round) (texts : List (List ℕ)) (since : IsLater first old) (report : Report) (asks : Asks words report run file)
     (has : HasRounds first.files file rounds) (opens : EachRoundOpens old.files rounds texts) where
   played : (status : ℕ) (history : Option (List Entry)) → report.status ≡ status → report.history ≡ history → Gives means run rounds texts old new (record { status = status; history = history }) → Answers means words first new report
   played status None s h gives =
-      let same = gives.1 in
-      Answers.short run file asks h (s ∙ gives.0) (ap (λ (m : Moment). m.out) same ∙ since.out) (ap (λ (m : Moment). m.err) same ∙ since.err)
+      Answers.short run file asks h (s ∙ gives.0) (short_since first old new since gives.1)
   played status (Some history) s h gives =
       Answers.ran run file rounds texts history asks h has (subst (λ (x : Option Files). EachRoundOpens x rounds texts) since.files opens)
       (run_from means run rounds texts history report.status first old new since (subst (λ (n : ℕ). HasRun means run rounds texts old new (finished history n)) (sym s) gives))

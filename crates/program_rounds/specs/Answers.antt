@@ -9,7 +9,7 @@ use Rattle.import_words.specs.declared.plan.Plan.{Plan}
 use Rattle.import_words.specs.declared.plan.Plan.TheVariants as plans
 use Rattle.import_words.specs.declared.plan.RunPlan.{RunPlan}
 use Rattle.program_run.specs.Statuses.{refusal, tree_fault, sink_fault, want_of_memory}
-use Rattle.program_run.specs.Sinks.{Moment, Leaves, status_by}
+use Rattle.program_run.specs.Sinks.{Moment, IsShort, Leaves, status_by}
 use Rattle.program_run.specs.Alone.{Means}
 use Rattle.program_run.specs.Answers as alone
 use Rattle.program_run.specs.Answers.{run_if}
@@ -76,5 +76,4 @@ pub data Answers (means : Means) (words : List Word) (old new : Moment) (report 
       → HasRun means run rounds texts old new (finished history report.status) → Answers means words old new report
   -- memory was wanted before the history was begun: nothing is written
   short : (run : RunPlan) (file : Word) → Asks words report run file → report.history ≡ None
-      → report.status ≡ want_of_memory
-      → new.out ≡ old.out → new.err ≡ old.err → Answers means words old new report
+      → report.status ≡ want_of_memory → IsShort old new → Answers means words old new report

@@ -14,7 +14,7 @@ use Rattle.import_words.specs.Plans.{plan_of}
 use Rattle.import_words.specs.declared.plan.Plan.TheVariants as plans
 use Rattle.import_words.specs.declared.plan.RunPlan.{RunPlan}
 use Rattle.program_run.specs.Statuses.{sink_fault, want_of_memory}
-use Rattle.program_run.specs.Sinks.{At, Gets, Moment, IsSince, Leaves, status_by}
+use Rattle.program_run.specs.Sinks.{At, Gets, Moment, IsSince, IsShort, Leaves, status_by}
 use Rattle.program_run.specs.Scripts.{EachOpens, IsRefused, IsUnread, Stops}
 use Rattle.program_run.specs.declared.open.Unopened.{Unopened}
 use Rattle.program_run.specs.declared.open.Unopened.TheVariants as unopened
@@ -30,10 +30,10 @@ use Rattle.program_run.specs.declared.report.Left.{Left}
 use Rattle.program_run.proofs.Meaning.{acts_on_since}
 
 -- a count that rose since a later moment
-rose_since : (first old new : ℕ) → first ≤ old → Rose old new → Rose first new
+pub rose_since : (first old new : ℕ) → first ≤ old → Rose old new → Rose first new
 rose_since first old new h r = omega (arith, h, r)
 
-cause_since : (stop : Option ℕ) (first old new : ℕ) → first ≤ old → HasCause stop old new → HasCause stop first new
+pub cause_since : (stop : Option ℕ) (first old new : ℕ) → first ≤ old → HasCause stop old new → HasCause stop first new
 cause_since None first old new h c = tt
 cause_since (Some k) first old new h c = rose_since first old new h c
 
@@ -85,17 +85,23 @@ run_from means plan texts first old new h status since run =
       is = l.is;
     }
 
-pub short_by : (means : Means) (words : List Word) (old new : Moment) (r : Report) (run : RunPlan) → built (plan_of words) ≡ Some run → r ≡ record { status = want_of_memory; plan = Some (plans.Run run); history = None } → new.out ≡ old.out → new.err ≡ old.err
+pub short_by : (means : Means) (words : List Word) (old new : Moment) (r : Report) (run : RunPlan) → built (plan_of words) ≡ Some run → r ≡ record { status = want_of_memory; plan = Some (plans.Run run); history = None } → IsShort old new
     → Answers means words old new r
-short_by means words old new r run is e o q = Answers.short run is (ap (λ (x : Report). x.plan) e) (ap (λ (x : Report). x.history) e) (ap (λ (x : Report). x.status) e) o q
+short_by means words old new r run is e short = Answers.short run is (ap (λ (x : Report). x.plan) e) (ap (λ (x : Report). x.history) e) (ap (λ (x : Report). x.status) e) short
+
+-- nothing has changed since a later moment
+short_since : (first old new : Moment) → IsSince first old → new ≡ old → IsShort first new
+short_since first old new since same =
+    let faults = ap (λ (m : Moment). m.faults) same ∙ since.faults in
+    let lists = ap (λ (m : Moment). m.lists) same ∙ since.lists in
+    record { faults = omega (arith, faults); lists = omega (arith, lists); out = ap (λ (m : Moment). m.out) same ∙ since.out; err = ap (λ (m : Moment). m.err) same ∙ since.err }
 
 -- the scripts were opened, and then run
 module _ (means : Means) (words : List Word) (first old new : Moment) (run : RunPlan) (texts : List (List ℕ)) (since : IsSince first old) (is : built (plan_of words) ≡ Some run)
     (opens : EachOpens old.files run.scripts texts) (r : Report) (plan_is : r.plan ≡ Some (plans.Run run)) where
   played : (status : ℕ) (history : Option (List Entry)) → r.status ≡ status → r.history ≡ history → Gives means run texts old new (record { status = status; history = history }) → Answers means words first new r
   played status None s h gives =
-      let same = gives.1 in
-      Answers.short run is plan_is h (s ∙ gives.0) (ap (λ (m : Moment). m.out) same ∙ since.out) (ap (λ (m : Moment). m.err) same ∙ since.err)
+      Answers.short run is plan_is h (s ∙ gives.0) (short_since first old new since gives.1)
   played status (Some history) s h gives =
       Answers.ran run texts history is plan_is h (subst (λ (x : Option Files). EachOpens x run.scripts texts) since.files opens)
       (run_from means run texts first old new history r.status since (subst (λ (n : ℕ). HasRun means run texts old new (finished history n)) (sym s) gives))

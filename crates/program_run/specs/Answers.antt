@@ -8,7 +8,7 @@ use Rattle.import_words.specs.declared.plan.Plan.{Plan}
 use Rattle.import_words.specs.declared.plan.Plan.TheVariants as plans
 use Rattle.import_words.specs.declared.plan.RunPlan.{RunPlan}
 use Rattle.program_run.specs.Statuses.{refusal, tree_fault, sink_fault, want_of_memory}
-use Rattle.program_run.specs.Sinks.{Moment, Leaves, status_by}
+use Rattle.program_run.specs.Sinks.{Moment, IsShort, Leaves, status_by}
 use Rattle.program_run.specs.Scripts.{EachOpens, IsRefused, IsUnread}
 use Rattle.program_run.specs.Alone.{Means}
 use Rattle.program_run.specs.Runs.{HasRun, finished}
@@ -55,5 +55,4 @@ pub data Answers (means : Means) (words : List Word) (old new : Moment) (report 
       → HasRun means run texts old new (finished history report.status) → Answers means words old new report
   -- memory was wanted before the history was begun: nothing is written
   short : (run : RunPlan) → built (plan_of words) ≡ Some run → report.plan ≡ Some (plans.Run run)
-      → report.history ≡ None → report.status ≡ want_of_memory → new.out ≡ old.out → new.err ≡ old.err
-      → Answers means words old new report
+      → report.history ≡ None → report.status ≡ want_of_memory → IsShort old new → Answers means words old new report

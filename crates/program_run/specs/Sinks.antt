@@ -50,6 +50,15 @@ pub record IsSince (first now : Moment) : Type 0 where
   pub out : now.out ≡ first.out
   pub err : now.err ≡ first.err
 
+-- between these moments memory was wanted before a history was begun: nothing was written, and no folder was listed. A
+-- call of the tree that wants memory may count that among the failed ones, and a count of lists that stands past the
+-- greatest u64 may be cut to that
+pub record IsShort (old new : Moment) : Type 0 where
+  pub faults : old.faults ≤ new.faults
+  pub lists : new.lists ≤ old.lists
+  pub out : new.out ≡ old.out
+  pub err : new.err ≡ old.err
+
 -- a sink was to get a text. It has got the whole of it; or a write failed, which it has counted, and it has got a
 -- beginning; or memory was wanting, and it has got a beginning. It has counted nothing but a write that failed
 abbrev pub Gets : At → List ℕ → At → Flow → Type 0

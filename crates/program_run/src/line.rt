@@ -28,10 +28,10 @@ fn raised(alloc: Global, script: &str, error: &Raised) -> Result<Vec<u8>, NoMemo
     let mut line = Vec::new(alloc);
     line.extend_from_slice(script.as_bytes())?;
     line.extend_from_slice(b": ")?;
-    line.extend_from_slice(error.kind.name().as_bytes())?;
-    if error.text.len() > 0 {
+    line.extend_from_slice(error.kind().name().as_bytes())?;
+    if error.text().len() > 0 {
         line.extend_from_slice(b": ")?;
-        line.extend_from_slice(error.text.as_bytes())?;
+        line.extend_from_slice(error.text().as_bytes())?;
     }
     line.push(b'\n')?;
     Ok(line)

@@ -16,7 +16,7 @@ pub(crate) fn module_file(alloc: Global, number: u64) -> Result<Text, NoMemory>
     ensures file { IfOk result (λ it. it ≡ file_of (module_name number)) }
     ensures part { IfOk result (λ it. IsTrue (is_part it)) }
 {
-    Ok(Text::from_string(format!(in alloc; "m{number}.py")?))
+    Text::from_string(format!(in alloc; "m{number}.py")?)
 }
 
 #[tactic(auto, using(crate::proofs::Names::script_part))]
@@ -25,7 +25,7 @@ pub(crate) fn script_file(alloc: Global, script: u64) -> Result<Text, NoMemory>
     ensures file { IfOk result (λ it. it ≡ file_of (script_name script)) }
     ensures part { IfOk result (λ it. IsTrue (is_part it)) }
 {
-    Ok(Text::from_string(format!(in alloc; "s{script}.py")?))
+    Text::from_string(format!(in alloc; "s{script}.py")?)
 }
 
 #[tactic(auto, using(crate::proofs::Flat::flat_placed))]

@@ -365,6 +365,7 @@ item_piece w d (it.Begun stmts at) = begun (around_at w d) (slice_get stmts at)
 item_piece w d (it.Imports stmts at place) = imports_all (around_at w d) (drop place (aliases_of (slice_get stmts at)))
 item_piece w d (it.Alias stmts at place) = imports_some (around_at w d) (slice_get (aliases_of (slice_get stmts at)) place)
 item_piece w d (it.Import x is_parent is_lazy) = imports_at w d is_parent is_lazy x
+item_piece w d (it.Parent n is_parent) = imports_at w d is_parent false n
 item_piece w d (it.From stmts at) = from_some (around_at w d) (slice_get stmts at)
 item_piece w d (it.FromModule m x is_bound) = name_of (around_at w d) is_bound m x
 item_piece w d (it.AskSubmodules m xs) = asks_submodules (around_at w d) m xs

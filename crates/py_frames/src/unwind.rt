@@ -11,7 +11,7 @@ fn is_taken(leave: &Leave) -> bool
     ensures { result ≡ is_taken leave.now }
 {
     match leave {
-        Leave::Raised(error) => match error.kind {
+        Leave::Raised(error) => match error.kind() {
             Kind::ProfileError => false,
             _ => true,
         },
@@ -26,7 +26,7 @@ fn is_missing(leave: &Leave) -> bool
     ensures { result ≡ is_missing leave.now }
 {
     match leave {
-        Leave::Raised(error) => match error.kind {
+        Leave::Raised(error) => match error.kind() {
             Kind::AttributeError => true,
             _ => false,
         },

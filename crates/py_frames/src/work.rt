@@ -4,7 +4,7 @@ ghost use Rattle.std.specs.Prelude.{◌≡◌, [], ◌∷◌, MatchOption, OnOk,
 use crate::procedures::Procedure;
 use crate::replies::OnReply;
 use base_owners::{Boxed, Shared};
-use base_types::{NoMemory, Seq, Text, Texts};
+use base_types::{NoMemory, Seq, Text, Texts, Wide};
 use find_load::In;
 use machine_events::Event;
 use meaning_state::{Flow, Leave, Scope, Stack};
@@ -79,7 +79,7 @@ pub enum Item {
     },
     /// An entry is put into the search path, at its end or before this place.
     AddEntry {
-        at: Option<i128>,
+        at: Option<Wide>,
         value: Value,
     },
     /// A simple statement on the values of its operands.
@@ -149,6 +149,12 @@ pub enum Item {
         name: Text,
         is_parent: bool,
         is_lazy: bool,
+    },
+    /// The import of the parent of a name, as of a parent or as an `import` of it does. It is known to be a
+    /// dotted name, and so not read again.
+    Parent {
+        name: Dotted,
+        is_parent: bool,
     },
     /// A `from` statement, once its unit is paid.
     From {
@@ -400,7 +406,6 @@ pub enum Frame {
 }
 
 /// The work stack of a thread: the list of its frames, the next one first.
-#[derive(Drop)]
 pub struct Work {
     frames: Stack<Frame>,
 }
@@ -441,5 +446,12 @@ impl Work {
         ensures { MatchOption result ((self.old ≡ []) × (self.new ≡ [])) (λ frame. self.old ≡ frame ∷ self.new) }
     {
         self.frames.pop()
+    }
+}
+
+impl Drop for Work {
+    fn drop(self) {
+        let Work { frames } = self;
+        drop(frames);
     }
 }

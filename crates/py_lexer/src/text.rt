@@ -11,5 +11,5 @@ pub fn text_of(alloc: Global, chars: &[char]) -> Result<Text, NoMemory>
     ensures { IfOk result (λ t. t ≡ utf8_of chars.now) }
 {
     let text: String = chars.iter().copied().collect(alloc)?;
-    Ok(Text::from_string(text))
+    Text::from_string(text)
 }

@@ -9,4 +9,4 @@ mod source;
 
 pub use error::ParseError;
 pub use laws::one_answer;
-pub use source::parse;
+pub use source::{MAX_LEVELS, parse};

@@ -19,8 +19,8 @@ use source_lexemes::lexemes;
 use source_parse_statements::script;
 use std::alloc::Global;
 
-/// How many levels may be open.
-const MAX_LEVELS: usize = 64;
+/// How many levels of a source may be open.
+pub const MAX_LEVELS: usize = 64;
 
 /// Why a source without tokens has no tree.
 fn without_tokens(error: LexError) -> ParseError

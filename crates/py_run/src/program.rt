@@ -5,7 +5,7 @@ ghost use Rattle.tree_files.specs.Files.{Files};
 ghost use Rattle.machine_desk.specs.Sight.{Sight, IsReady, Continues};
 ghost use Rattle.meaning_runs.specs.Follows.{Follows};
 ghost use Rattle.meaning_runs.specs.Lists.{lists_in, ends_in};
-ghost use Rattle.drive_account.specs.Ending.{IsMeant, Broken, IsRead, outcome};
+ghost use Rattle.drive_account.specs.Ending.{IsMeant, BrokenOver, IsRead, outcome};
 ghost use Rattle.run_module.specs.Programs.{meaning_of_name};
 ghost use Rattle.step_calls.specs.Sources.{sources};
 
@@ -39,13 +39,13 @@ pub fn run_module_main<D: Desk, T: Tree>(
     ensures faults_grow { T.faults tree.old ≤ T.faults tree.new }
     ensures lists { OnOk result (T.lists tree.new ≤ T.lists tree.old + lists_in (D.sight desk.new).mine) }
     ensures goes_on { OnErr result (ends_in (D.sight desk.new).mine ≡ 0) }
-    ensures meant { IfOk result (λ ending. IsMeant (T.files tree.old) script (meaning_of_name sources script name.now) fuel
-        (D.sight desk.new).mine (outcome ending)) }
+    ensures meant { IfOk result (λ ending. IsMeant (T.files tree.old) script
+        (meaning_of_name sources script name.now) fuel (D.sight desk.new).mine (outcome ending)) }
     ensures follows { (files : Files) → T.files tree.old ≡ Some files
         → IfOk result (λ ending. Follows files script (meaning_of_name sources script name.now) fuel
         (D.sight desk.new).mine (outcome ending)) }
-    ensures part { OnErr result (Broken (T.files tree.old) script (meaning_of_name sources script name.now) fuel (D.sight desk.new).mine
-        (T.faults tree.old) (T.faults tree.new)) }
+    ensures part { OnErr result (BrokenOver T.files T.faults tree.old tree.new script
+        (meaning_of_name sources script name.now) fuel (D.sight desk.new).mine) }
     ensures read { IfOk result (λ ending. IsRead ending → Rose (T.faults tree.old) (T.faults tree.new)) }
     ensures unfailed { IfOk result (λ ending. (IsRead ending → ⊥) → T.faults tree.new ≡ T.faults tree.old) }
 {

@@ -5,7 +5,7 @@ ghost use Rattle.tree_files.specs.Files.{Files};
 ghost use Rattle.machine_desk.specs.Sight.{Sight, IsReady, Continues};
 ghost use Rattle.meaning_runs.specs.Follows.{Follows};
 ghost use Rattle.meaning_runs.specs.Lists.{lists_in, ends_in};
-ghost use Rattle.drive_account.specs.Ending.{IsMeant, Broken, IsRead, outcome};
+ghost use Rattle.drive_account.specs.Ending.{IsMeant, BrokenOver, IsRead, outcome};
 ghost use Rattle.meaning_script.specs.Meaning.{meaning};
 ghost use Rattle.step_calls.specs.Sources.{sources};
 
@@ -52,8 +52,8 @@ pub fn run_script<D: Desk, T: Tree>(
     ensures follows { (files : Files) → T.files tree.old ≡ Some files
         → IfOk result (λ ending. Follows files script (meaning sources script text.now) fuel (D.sight desk.new).mine
         (outcome ending)) }
-    ensures part { OnErr result (Broken (T.files tree.old) script (meaning sources script text.now) fuel (D.sight desk.new).mine
-        (T.faults tree.old) (T.faults tree.new)) }
+    ensures part { OnErr result (BrokenOver T.files T.faults tree.old tree.new script
+        (meaning sources script text.now) fuel (D.sight desk.new).mine) }
     ensures read { IfOk result (λ ending. IsRead ending → Rose (T.faults tree.old) (T.faults tree.new)) }
     ensures unfailed { IfOk result (λ ending. (IsRead ending → ⊥) → T.faults tree.new ≡ T.faults tree.old) }
 {

@@ -7,7 +7,7 @@ ghost use Rattle.machine_shown.specs.Shown.{shown_first};
 ghost use Rattle.meaning_runs.specs.Runs.{Safe};
 ghost use Rattle.meaning_runs.specs.Follows.{Follows};
 ghost use Rattle.meaning_runs.specs.Lists.{lists_in, ends_in};
-ghost use Rattle.drive_account.specs.Ending.{IsMeant, Broken, IsRead, outcome};
+ghost use Rattle.drive_account.specs.Ending.{IsMeant, BrokenOver, IsRead, outcome};
 ghost use Rattle.drive_loop.specs.Starts.{started};
 
 use crate::OnDesk;
@@ -40,8 +40,8 @@ pub(crate) fn run_thread<D: Desk, T: Tree>(
     ensures follows { (files : Files) → T.files tree.old ≡ Some files
         → IfOk result (λ ending. Follows files script (started script start) fuel (D.sight desk.new).mine
         (outcome ending)) }
-    ensures part { OnErr result (Broken (T.files tree.old) script (started script start) fuel (D.sight desk.new).mine
-        (T.faults tree.old) (T.faults tree.new)) }
+    ensures part { OnErr result (BrokenOver T.files T.faults tree.old tree.new script (started script start) fuel
+        (D.sight desk.new).mine) }
     ensures read { IfOk result (λ ending. IsRead ending → Rose (T.faults tree.old) (T.faults tree.new)) }
     ensures unfailed { IfOk result (λ ending. (IsRead ending → ⊥) → T.faults tree.new ≡ T.faults tree.old) }
 {

@@ -14,7 +14,7 @@ pub use kind::{Kind, Native};
 pub use measures::{nesting, size, truth};
 pub use names::{TypeName, type_name, type_of};
 pub use operator::{Applied, BinOp, CmpOp};
-pub use value::{ModRef, NsState, Place, Raised, Value};
+pub use value::{ModData, ModRef, NsData, NsState, Place, Raised, RaisedData, Value};
 
 /// Values in order.
 pub type Items = Seq<Value>;

@@ -13,7 +13,7 @@ pub fn truth(value: &Value) -> bool
     match value {
         Value::Nothing => false,
         Value::Bool(b) => *b,
-        Value::Int(n) => *n != 0,
+        Value::Int(n) => n.get() != 0,
         Value::Text(text) => text.len() != 0,
         Value::List(items) => items.len() != 0,
         Value::Tuple(items) => items.len() != 0,
@@ -50,7 +50,7 @@ fn size_of(value: &Value) -> u64
 {
     match value {
         Value::Text(text) => blocks(text),
-        Value::Error(error) => blocks(&error.text),
+        Value::Error(error) => blocks(error.text()),
         Value::List(items) => size_of_all(items),
         Value::Tuple(items) => size_of_all(items),
         _ => 0,

@@ -111,7 +111,7 @@ pub fn type_of(value: &Value) -> TypeName
         Value::Native(native) => native_type(*native),
         Value::Kind(_) => TypeName::Type,
         Value::Module(_) => TypeName::Module,
-        Value::Error(error) => TypeName::Error(error.kind),
+        Value::Error(error) => TypeName::Error(error.kind()),
         Value::SysModules => TypeName::Dict,
     }
 }

@@ -25,23 +25,25 @@ impl Same for Place {
 
 impl Same for ModRef {
     fn is_same(&self, other: &ModRef) -> bool {
-        self.mid == other.mid && self.name.is_same(&other.name) && self.place.is_same(&other.place)
+        self.mid() == other.mid()
+            && self.name().is_same(other.name())
+            && self.place().is_same(other.place())
     }
 }
 
 impl Same for Raised {
     fn is_same(&self, other: &Raised) -> bool {
-        self.kind.is_same(&other.kind)
-            && self.text.is_same(&other.text)
-            && self.name.is_same(&other.name)
+        self.kind().is_same(&other.kind())
+            && self.text().is_same(other.text())
+            && self.name().is_same(other.name())
     }
 }
 
 impl Same for NsState {
     fn is_same(&self, other: &NsState) -> bool {
-        self.parent_path.is_same(&other.parent_path)
-            && self.epoch == other.epoch
-            && self.portions.is_same(&other.portions)
+        self.parent_path().is_same(other.parent_path())
+            && self.epoch() == other.epoch()
+            && self.portions().is_same(other.portions())
     }
 }
 
@@ -59,7 +61,7 @@ fn are_same(a: &Value, b: &Value) -> bool
             _ => false,
         },
         Value::Int(x) => match b {
-            Value::Int(y) => *x == *y,
+            Value::Int(y) => x.get() == y.get(),
             _ => false,
         },
         Value::Text(x) => match b {

@@ -25,7 +25,7 @@ use spec_core::Dotted;
 fn ask(p: &mut Reloader, name: Dotted) -> Want
     ensures goes { ReloadGoes (λ inside. begins inside (called p.old name)) p.new result }
 {
-    let mid = p.module.mid;
+    let mid = p.module.mid();
     let begin = Want::Call(Event::ReloadBegin { mid, raw: false });
     wait_for(p, name, Awaited::Asked, begin)
 }
@@ -34,7 +34,7 @@ fn ask(p: &mut Reloader, name: Dotted) -> Want
 pub(crate) fn start(p: &mut Reloader) -> Result<Want, NoMemory>
     ensures goes { IfOk result (ReloadGoes (λ inside. reloads inside p.old.module) p.new) }
 {
-    match Dotted::read(&p.module.name)? {
+    match Dotted::read(p.module.name())? {
         None => fail(p, Fault::NotInProfile),
         Some(name) => Ok(ask(p, name)),
     }
@@ -73,11 +73,8 @@ pub(crate) fn begun(p: &mut Reloader, name: Dotted, reply: Reply) -> Result<Want
 fn rouse(p: &mut Reloader, name: Dotted) -> Result<Want, NoMemory>
     ensures goes { IfOk result (ReloadGoes (does_at p.old name await.Asked (ins.Replied replies.Sleeping)) p.new) }
 {
-    let module = ModRef {
-        mid: p.module.mid,
-        name: name.owned()?,
-        place: p.module.place.copy()?,
-    };
+    let place = p.module.place().copy()?;
+    let module = ModRef::of(p.module.mid(), name.owned()?, place)?;
     Ok(wait_for(p, name, Awaited::Roused, Want::Rouse(module)))
 }
 
@@ -95,7 +92,7 @@ pub(crate) fn begin_came(p: &mut Reloader, name: Dotted, reply: Reply) -> Result
 fn ask_raw(p: &mut Reloader, name: Dotted) -> Want
     ensures goes { ReloadGoes (λ inside. begins_raw inside (called p.old name)) p.new result }
 {
-    let mid = p.module.mid;
+    let mid = p.module.mid();
     let begin = Want::Call(Event::ReloadBegin { mid, raw: true });
     wait_for(p, name, Awaited::AskedRaw, begin)
 }

@@ -22,7 +22,7 @@ use spec_core::Dotted;
 pub(crate) fn end(p: &mut Reloader, name: Dotted, load: u32, flow: Flow) -> Want
     ensures goes { ReloadGoes (λ inside. ends (called p.old name) load flow) p.new result }
 {
-    let mid = p.module.mid;
+    let mid = p.module.mid();
     let end = Want::Call(Event::ReloadEnd {
         mid,
         load: Some(load),

@@ -81,7 +81,7 @@ fn read_source(
 fn locate(p: &mut Reloader, name: Dotted, epoch: u64, spec: Spec) -> Result<Want, NoMemory>
     ensures goes { IfOk result (ReloadGoes (λ inside. locates inside (called p.old name) epoch spec spec.kind) p.new) }
 {
-    let file = match &spec.kind {
+    let file = match spec.kind() {
         SpecKind::Source { file } => path_of(file)?,
         SpecKind::Package { file, .. } => path_of(file)?,
         _ => {

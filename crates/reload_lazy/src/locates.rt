@@ -131,7 +131,7 @@ fn stop_no_path(
     let path = Text::from_str(name.alloc(), "__path__")?;
     let fault = Fault::NoAttribute {
         is_initialising,
-        module: parent.name,
+        module: parent.name().copy()?,
         name: path,
     };
     Ok(stop(p, name, fault))

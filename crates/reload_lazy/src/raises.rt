@@ -19,7 +19,7 @@ use spec_core::Dotted;
 pub(crate) fn fail(p: &mut Reloader, fault: Fault) -> Result<Want, NoMemory>
     ensures goes { IfOk result (ReloadGoes (λ inside. fails fault) p.new) }
 {
-    let error = raised(p.module.name.alloc(), fault)?;
+    let error = raised(p.module.name().alloc(), fault)?;
     Ok(Want::End(Flow::Left(Leave::Raised(error))))
 }
 
@@ -43,7 +43,7 @@ pub(crate) fn misfit_reply(p: &mut Reloader, reply: Reply) -> Result<Want, NoMem
 pub(crate) fn stop(p: &mut Reloader, name: Dotted, fault: Fault) -> Want
     ensures goes { ReloadGoes (stops_at p.old name fault) p.new result }
 {
-    let mid = p.module.mid;
+    let mid = p.module.mid();
     let end = Want::Call(Event::ReloadEnd { mid, load: None });
     wait_for(p, name, Awaited::Stopped(fault), end)
 }
@@ -68,7 +68,7 @@ pub(crate) fn stop_not_found(p: &mut Reloader, name: Dotted) -> Result<Want, NoM
 pub(crate) fn stop_and(p: &mut Reloader, name: Dotted, leave: Leave) -> Want
     ensures goes { ReloadGoes (λ inside. stops_and (called p.old name) (flows.Left leave)) p.new result }
 {
-    let mid = p.module.mid;
+    let mid = p.module.mid();
     let end = Want::Call(Event::ReloadEnd { mid, load: None });
     wait_for(p, name, Awaited::Left(Flow::Left(leave)), end)
 }

@@ -43,7 +43,7 @@ fn close(p: &mut Rouser) -> NoMemory
 fn fail(p: &mut Rouser, fault: Fault) -> Result<Want, NoMemory>
     ensures goes { IfOk result (RouseGoes (λ inside. fails fault) p.new) }
 {
-    let error = raised(p.module.name.alloc(), fault)?;
+    let error = raised(p.module.name().alloc(), fault)?;
     Ok(Want::End(Flow::Left(Leave::Raised(error))))
 }
 
@@ -67,7 +67,7 @@ fn misfit_reply(p: &mut Rouser, reply: Reply) -> Result<Want, NoMemory>
 fn deadlock(p: &mut Rouser) -> Result<Want, NoMemory>
     ensures goes { IfOk result (RouseGoes (λ inside. fails (faults.Deadlock p.old.module.name)) p.new) }
 {
-    let name = p.module.name.copy()?;
+    let name = p.module.name().copy()?;
     fail(p, Fault::Deadlock(name))
 }
 
@@ -88,7 +88,7 @@ fn look(p: &mut Rouser) -> Want
     ensures goes { RouseGoes (again p.old) p.new result }
 {
     p.turns -= 1;
-    let look = Want::Call(Event::Rouse(p.module.mid));
+    let look = Want::Call(Event::Rouse(p.module.mid()));
     wait_for(p, RouseStage::Asked, look)
 }
 
@@ -122,9 +122,9 @@ fn run_body(p: &mut Rouser, load: u32, text: Seq<u8>) -> Result<Want, NoMemory>
     ensures goes { IfOk result (RouseGoes (does_at p.old stages.Asked (ins.Replied (replies.Yours load text))) p.new) }
 {
     let body = Want::Body {
-        mid: p.module.mid,
+        mid: p.module.mid(),
         load,
-        name: p.module.name.copy()?,
+        name: p.module.name().copy()?,
         text,
     };
     Ok(wait_for(p, RouseStage::Running(load), body))

@@ -41,10 +41,7 @@ fn spec_of(of: &ModRef, name: &Dotted, finding: &Finding) -> Result<Spec, NoMemo
         Finding::Space { portions, .. } => {
             let name = name.copy()?;
             let path = portions.copy()?;
-            Ok(Spec {
-                name,
-                kind: SpecKind::Namespace { path },
-            })
+            Spec::of(name, SpecKind::Namespace { path })
         }
     }
 }
@@ -66,7 +63,7 @@ fn event_of(of: &ModRef, name: &Dotted, finding: &Finding) -> Result<Event, NoMe
     let spec = spec_of(of, name, finding)?;
     let text = text_of(finding)?;
     Ok(Event::ReloadTake {
-        mid: of.mid,
+        mid: of.mid(),
         spec,
         text,
     })
@@ -139,7 +136,7 @@ fn run_body(p: &mut Reloader, name: Dotted, load: u32, text: Seq<u8>) -> Result<
     ensures goes { IfOk result (ReloadGoes (body_again p.old name load text) p.new) }
 {
     let body = Want::Body {
-        mid: p.module.mid,
+        mid: p.module.mid(),
         load,
         name: name.owned()?,
         text,
@@ -172,11 +169,7 @@ fn load_again(
             run_body(p, name, load, text)
         }
         Finding::Space { path, portions } => {
-            let state = NsState {
-                parent_path: path,
-                epoch,
-                portions,
-            };
+            let state = NsState::of(path, epoch, portions)?;
             Ok(keep_space(p, name, load, mid, state))
         }
     }

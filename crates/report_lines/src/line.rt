@@ -26,21 +26,21 @@ pub struct Line {
 fn arrow(alloc: Global, what: &str, means: &str) -> Result<Text, NoMemory>
     ensures { IfOk result (λ text. text ≡ what.now ++ codes " -> " ++ means.now) }
 {
-    Ok(Text::from_string(format!(in alloc; "{what} -> {means}")?))
+    Text::from_string(format!(in alloc; "{what} -> {means}")?)
 }
 
 /// A name of a module, with that it is in what the module means.
 fn arrow_in(alloc: Global, what: &str, means: &str) -> Result<Text, NoMemory>
     ensures { IfOk result (λ text. text ≡ what.now ++ codes " -> name in " ++ means.now) }
 {
-    Ok(Text::from_string(format!(in alloc; "{what} -> name in {means}")?))
+    Text::from_string(format!(in alloc; "{what} -> name in {means}")?)
 }
 
 /// A name of a module.
 fn member_of(alloc: Global, from: &str, name: &str) -> Result<Text, NoMemory>
     ensures { IfOk result (λ text. text ≡ from.now ++ codes ":" ++ name.now) }
 {
-    Ok(Text::from_string(format!(in alloc; "{from}:{name}")?))
+    Text::from_string(format!(in alloc; "{from}:{name}")?)
 }
 
 /// A module's name with one more part.
@@ -57,7 +57,7 @@ fn with_part(alloc: Global, from: &str, name: &str) -> Result<Text, NoMemory>
 fn line_mark(alloc: Global, line: u32) -> Result<Text, NoMemory>
     ensures { IfOk result (λ it. it ≡ spec.line_mark line) }
 {
-    Ok(Text::from_string(format!(in alloc; ":{line}: ")?))
+    Text::from_string(format!(in alloc; ":{line}: ")?)
 }
 
 /// A text in a line of a file.

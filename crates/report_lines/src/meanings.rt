@@ -43,12 +43,12 @@ fn value_text(alloc: Global, value: Value) -> Text
 }
 
 /// The text of what an operator gives.
-fn applied_text(alloc: Global, applied: Applied) -> Text
-    ensures { result ≡ spec.applied_text applied }
+fn applied_text(alloc: Global, applied: Applied) -> Result<Text, NoMemory>
+    ensures { IfOk result (λ text. text ≡ spec.applied_text applied) }
 {
     match applied {
-        Applied::Value(value) => value_text(alloc, value),
-        Applied::Raised(error) => error.text,
+        Applied::Value(value) => Ok(value_text(alloc, value)),
+        Applied::Raised(error) => error.text().copy(),
     }
 }
 
@@ -58,7 +58,7 @@ fn portions_text(portions: &Texts) -> Result<Text, NoMemory>
 {
     let list = Value::List(entries(portions)?);
     let applied = repr_of(portions.alloc(), &list)?;
-    Ok(applied_text(portions.alloc(), applied))
+    applied_text(portions.alloc(), applied)
 }
 
 /// A word before a text.

@@ -66,7 +66,7 @@ fn found_means(name: &Text, found: Option<Found>) -> Result<Meaning, NoMemory>
 {
     match found {
         None => Ok(Meaning::Missing(name.copy()?)),
-        Some(Found::Spec(spec)) => Ok(kind_means(spec.kind)),
+        Some(Found::Spec(spec)) => Ok(kind_means(spec.kind().copy()?)),
         Some(Found::Portions(portions)) => Ok(Meaning::Namespace(portions)),
     }
 }

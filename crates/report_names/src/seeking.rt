@@ -207,7 +207,8 @@ fn path_of(entry: &Text) -> Result<Option<TreePath>, NoMemory>
 
 /// What an entry of the path has for what is wanted.
 fn entry_offer<T: Tree>(tree: &mut T, wanted: &Wanted, entry: &Text) -> Result<Offer, TreeFault>
-    ensures told { ForSome (T.files tree.old) (λ f. IfOk result (λ it. it ≡ spec.entry_offer f wanted.now.part entry.now)) }
+    ensures told { ForSome (T.files tree.old) (λ f. IfOk result (λ it.
+        it ≡ spec.entry_offer f wanted.now.part entry.now)) }
     ensures failed { IsErrOf result TreeFault.Failed → Rose (T.faults tree.old) (T.faults tree.new) }
     ensures faults_stay { OnOk result (T.faults tree.new ≡ T.faults tree.old) }
     ensures files_stay { T.files tree.new ≡ T.files tree.old }
@@ -261,7 +262,8 @@ pub fn search<T: Tree>(tree: &mut T, name: Dotted, path: &Texts) -> Result<Optio
         match decided {
             Some(kind) => {
                 let name = name.copy()?;
-                return Ok(Some(Found::Spec(Spec { name, kind })));
+                let spec = Spec::of(name, kind)?;
+                return Ok(Some(Found::Spec(spec)));
             }
             None => {}
         }

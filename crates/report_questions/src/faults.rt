@@ -41,7 +41,7 @@ fn lexing_fault(alloc: Global, error: LexError) -> Result<Question, NoMemory>
 fn left_out(alloc: Global, what: &str) -> Result<Text, NoMemory>
     ensures { IfOk result (λ text. text ≡ codes "'" ++ what.now ++ codes "' is not in the profile") }
 {
-    Ok(Text::from_string(format!(in alloc; "'{what}' is not in the profile")?))
+    Text::from_string(format!(in alloc; "'{what}' is not in the profile")?)
 }
 
 /// A part of the language that is left out, in a line.

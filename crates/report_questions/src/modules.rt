@@ -66,7 +66,7 @@ pub fn package_of_file(folders: &Texts, name: &Text) -> Result<Option<Text>, NoM
         None => Ok(None),
         Some(module) => {
             let kind = kind_of(name);
-            let spec = Spec { name: module, kind };
+            let spec = Spec::of(module, kind)?;
             Ok(Some(Text::from_str(name.alloc(), package_of(&spec))?))
         }
     }

@@ -15,16 +15,13 @@ use crate::question::{Query, Question};
 use crate::relative::queries_of;
 use base_types::{NoMemory, Seq, Text};
 use py_lexer::{LexError, Token, tokens};
-use py_parser::{ParseError, parse};
+use py_parser::{MAX_LEVELS, ParseError, parse};
 use py_syntax::Script;
 use source_combinators::ReadError;
 use source_imports::{Import, imports_of};
 use source_lexemes::lexemes;
 use source_parse_statements::script;
 use std::alloc::Global;
-
-/// How many levels of a source may be open, as the parser has it.
-const MAX_LEVELS: usize = 64;
 
 /// Questions in one line.
 fn put_line(questions: &mut Seq<Question>, line: u32, queries: Seq<Query>) -> Result<(), NoMemory>

@@ -34,7 +34,7 @@ fn many_files(alloc: Global, count: u32) -> Result<Seq<Packed>, RowError> {
     let mut files = Seq::new(alloc);
     for n in 0..count {
         let number = FIRST_NUMBER.saturating_add(n);
-        let name = Text::from_string(format!(in alloc; "f{number}")?);
+        let name = Text::from_string(format!(in alloc; "f{number}")?)?;
         files.push(empty_file(alloc, &name)?)?;
     }
     Ok(files)
@@ -88,7 +88,7 @@ fn cut(alloc: Global, bytes: &[u8]) -> Result<Text, NoMemory> {
         }
     }
     let fronts = bytes.len();
-    Ok(Text::from_string(format!(in alloc; "{bundles} of {fronts} fronts")?))
+    Text::from_string(format!(in alloc; "{bundles} of {fronts} fronts")?)
 }
 
 /// The bundle, as a trace spells bytes.
@@ -116,7 +116,7 @@ fn counted(alloc: Global, files: &[Packed]) -> Result<Text, RowError> {
         Some(index) => index.items.len(),
         None => 0,
     };
-    Ok(Text::from_string(format!(in alloc; "{size} bytes, {found} files read")?))
+    Ok(Text::from_string(format!(in alloc; "{size} bytes, {found} files read")?)?)
 }
 
 /// The file of a row.

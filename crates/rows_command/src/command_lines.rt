@@ -70,9 +70,7 @@ fn named(alloc: Global, word: &str, text: &Text) -> Result<Text, NoMemory> {
 }
 
 fn generated(alloc: Global, seed: u64, modules: u32, scripts: u32) -> Result<Text, NoMemory> {
-    Ok(Text::from_string(format!(in alloc;
-        "gen, seed {seed}, {modules} modules, {scripts} scripts"
-    )?))
+    Text::from_string(format!(in alloc; "gen, seed {seed}, {modules} modules, {scripts} scripts")?)
 }
 
 fn plan(alloc: Global, plan: &Plan) -> Result<Text, NoMemory> {

@@ -52,7 +52,7 @@ fn shown(rt: &HostRuntime, want: &LookWant) -> Result<String, Fail> {
                 shown.push_str(portion.as_str())?;
             }
         }
-        LookWant::Done(Some(Found::Spec(spec))) => match &spec.kind {
+        LookWant::Done(Some(Found::Spec(spec))) => match spec.kind() {
             SpecKind::Source { file } => {
                 shown.push_str("module ")?;
                 shown.push_str(file.as_str())?;

@@ -17,7 +17,7 @@ fn stage(of: LoadStage) -> &'static str {
 fn told(alloc: Global, load: &Load) -> Result<Text, RowError> {
     let (thread, len) = (load.thread, load.text.len());
     let stage = stage(load.stage);
-    Ok(Text::from_string(format!(in alloc; "thread {thread}, {stage}, {len} bytes")?))
+    Ok(Text::from_string(format!(in alloc; "thread {thread}, {stage}, {len} bytes")?)?)
 }
 
 /// Whose load it is, how far it is, and how long its text is.
@@ -49,7 +49,7 @@ fn unit(alloc: Global, table: &mut Table, row: &mut Row<'_>) -> Answered {
     let text = lines(alloc, 0)?;
     let (kind, stage) = (LoadKind::Plain, LoadStage::Open);
     let (load, mid) = table.add_unit(spec, Phase::Initialising, kind, thread, text, stage)?;
-    Ok(Some(Text::from_string(format!(in alloc; "load {load}, module {mid}")?)))
+    Ok(Some(Text::from_string(format!(in alloc; "load {load}, module {mid}")?)?))
 }
 
 /// A module runs as a thread's program, with a text of so many line ends.
@@ -88,7 +88,7 @@ fn drop_last(table: &mut Table) -> Answered {
 fn count(alloc: Global, table: &Table) -> Answered {
     let listed = table.all_loads().len();
     let counted = table.loads();
-    Ok(Some(Text::from_string(format!(in alloc; "{counted}, {listed} listed")?)))
+    Ok(Some(Text::from_string(format!(in alloc; "{counted}, {listed} listed")?)?))
 }
 
 fn changes(alloc: Global, table: &mut Table, call: &str, row: &mut Row<'_>) -> Answered {

@@ -65,7 +65,7 @@ fn owner(alloc: Global, locks: &Locks, name: &Dotted) -> Result<Text, RowError> 
         Some(lock) => Ok(Text::from_string(format!(in alloc;
             "thread {}, {} times",
             lock.owner, lock.count
-        )?)),
+        )?)?),
     }
 }
 

@@ -1,7 +1,7 @@
 //! Calls on modules: their variables, phases and namespace states.
 
 use crate::tables::{Answered, number, source, text};
-use base_types::{Seq, Text};
+use base_types::{Seq, Text, Wide};
 use module_table::{Phase, Table};
 use py_value::{NsState, Value};
 use rows_words::{Row, RowError};
@@ -26,7 +26,10 @@ fn names(alloc: Global, table: &Table, mid: u32) -> Answered {
 
 fn value(alloc: Global, value: Option<&Value>) -> Answered {
     match value {
-        Some(Value::Int(n)) => Ok(Some(Text::from_string(format!(in alloc; "{n}")?))),
+        Some(Value::Int(n)) => {
+            let n = n.get();
+            Ok(Some(Text::from_string(format!(in alloc; "{n}")?)?))
+        }
         Some(_) => text(alloc, "another value"),
         None => text(alloc, "none"),
     }
@@ -47,7 +50,7 @@ fn named(alloc: Global, table: &Table, mid: u32) -> Answered {
     if (mid as u64) >= table.objects() {
         return text(alloc, "none");
     }
-    text(alloc, table.spec(mid).name.text())
+    text(alloc, table.spec(mid).name().text())
 }
 
 fn ready(table: &mut Table, mid: u32) -> Answered {
@@ -73,7 +76,7 @@ fn add(alloc: Global, table: &mut Table, row: &mut Row<'_>) -> Answered {
 
 /// Sets a variable to a number.
 fn set(table: &mut Table, mid: u32, name: Text, n: i128) -> Answered {
-    table.set(mid, name, Value::Int(n))?;
+    table.set(mid, name, Value::Int(Wide::of(n)))?;
     Ok(None)
 }
 
@@ -102,8 +105,8 @@ fn on_variable(alloc: Global, table: &mut Table, call: &str, row: &mut Row<'_>) 
 fn state(alloc: Global, table: &Table, mid: u32) -> Answered {
     match table.ns(mid) {
         Some(state) => {
-            let epoch = state.epoch;
-            Ok(Some(Text::from_string(format!(in alloc; "epoch {epoch}")?)))
+            let epoch = state.epoch();
+            Ok(Some(Text::from_string(format!(in alloc; "epoch {epoch}")?)?))
         }
         None => text(alloc, "none"),
     }
@@ -111,11 +114,7 @@ fn state(alloc: Global, table: &Table, mid: u32) -> Answered {
 
 /// Sets a namespace's state to one of this epoch.
 fn set_state(alloc: Global, table: &mut Table, mid: u32, epoch: u64) -> Answered {
-    let state = NsState {
-        parent_path: Seq::new(alloc),
-        epoch,
-        portions: Seq::new(alloc),
-    };
+    let state = NsState::of(Seq::new(alloc), epoch, Seq::new(alloc))?;
     table.set_ns(mid, state);
     Ok(None)
 }

@@ -1,7 +1,7 @@
 //! Calls on the search path and the epoch.
 
 use crate::tables::{Answered, number, yes};
-use base_types::Text;
+use base_types::{Text, Wide};
 use module_table::Table;
 use py_value::Value;
 use rows_words::{Row, RowError};
@@ -15,24 +15,28 @@ fn shown(alloc: Global, table: &Table) -> Answered {
     let mut told = Text::from_str(alloc, "path")?;
     for item in table.path().as_slice() {
         if let Value::Int(n) = item {
+            let n = n.get();
             told.push_str(format!(in alloc; " {n}")?.as_str())?;
         }
     }
     Ok(Some(told))
 }
 
-fn place(row: &mut Row<'_>) -> Result<Option<i128>, RowError> {
+fn place(row: &mut Row<'_>) -> Result<Option<Wide>, RowError> {
     if row.takes("last ") {
         Ok(None)
     } else {
-        Ok(Some(row.integer()?))
+        Ok(Some(Wide::of(row.integer()?)))
     }
 }
 
 /// Adds a number to the path, before an index or last.
 fn add(alloc: Global, table: &mut Table, row: &mut Row<'_>) -> Answered {
     let at = place(row)?;
-    yes(alloc, table.path_add(at, Value::Int(row.integer()?))?)
+    yes(
+        alloc,
+        table.path_add(at, Value::Int(Wide::of(row.integer()?)))?,
+    )
 }
 
 /// Puts a number into the path at an index.
@@ -40,7 +44,7 @@ fn insert(table: &mut Table, at: usize, n: i128) -> Answered {
     if at > table.path().len() {
         return Err(RowError::Unknown);
     }
-    table.path_insert(at, Value::Int(n))?;
+    table.path_insert(at, Value::Int(Wide::of(n)))?;
     Ok(None)
 }
 

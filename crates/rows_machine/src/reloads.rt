@@ -13,7 +13,7 @@ fn told(alloc: Global, reload: &Reload) -> Result<Text, RowError> {
         None => format!(in alloc; "thread {thread}, module {mid}")?,
         Some(load) => format!(in alloc; "thread {thread}, module {mid}, load {load}")?,
     };
-    Ok(Text::from_string(told))
+    Ok(Text::from_string(told)?)
 }
 
 /// Who reloads the name, which module, and the load that its body is.
@@ -38,7 +38,7 @@ fn leave(table: &mut Table, name: &Dotted) -> Answered {
 
 fn restart(table: &mut Table, mid: u32, spec: &Spec, load: u32) -> Answered {
     let restart = table.restart_of(mid, spec)?;
-    table.restart(mid, restart, &spec.name, load);
+    table.restart(mid, restart, spec.name(), load);
     Ok(None)
 }
 

@@ -92,7 +92,7 @@ fn stepped(
 pub fn answer(alloc: Global, machine: &mut Machine, row: &mut Row<'_>) -> Result<Text, RowError> {
     if row.takes("scripts") {
         let count = machine.scripts();
-        return Ok(Text::from_string(format!(in alloc; "{count}")?));
+        return Ok(Text::from_string(format!(in alloc; "{count}")?)?);
     }
     let gives = row.takes("gives ");
     let entry = made(alloc, row.all_text()?)?;

@@ -1,4 +1,6 @@
 //! Calls of the tables, by what they are about, and what those calls share.
+ghost use Rattle.std.specs.Prelude.{◌≡◌, Some, codes, IfOk, if◌then◌else◌};
+ghost use Rattle.std.specs.Fmt.{decimal};
 
 use crate::{cache, loads, modules, paths, reloads};
 use base_types::{Seq, Text};
@@ -11,18 +13,24 @@ use std::alloc::Global;
 pub type Answered = Result<Option<Text>, RowError>;
 
 /// An answer that is this text. An `Err` comes for want of memory alone.
-pub fn text(alloc: Global, of: &str) -> Answered {
+pub fn text(alloc: Global, of: &str) -> Answered
+    ensures { IfOk result (λ it. it ≡ Some of.now) }
+{
     Ok(Some(Text::from_str(alloc, of)?))
 }
 
 /// An answer that is `yes` or `no`. An `Err` comes for want of memory alone.
-pub fn yes(alloc: Global, answer: bool) -> Answered {
+pub fn yes(alloc: Global, answer: bool) -> Answered
+    ensures { IfOk result (λ it. it ≡ Some (if answer then codes "yes" else codes "no")) }
+{
     text(alloc, if answer { "yes" } else { "no" })
 }
 
 /// An answer that is a number, in decimal digits. An `Err` comes for want of memory alone.
-pub fn number(alloc: Global, number: u64) -> Answered {
-    Ok(Some(Text::from_string(format!(in alloc; "{number}")?)))
+pub fn number(alloc: Global, number: u64) -> Answered
+    ensures { IfOk result (λ it. it ≡ Some (decimal number)) }
+{
+    Ok(Some(Text::from_string(format!(in alloc; "{number}")?)?))
 }
 
 /// The dotted name that comes next. `Unknown` where what stands there is none.
@@ -34,10 +42,7 @@ pub fn dotted(alloc: Global, row: &mut Row<'_>) -> Result<Dotted, RowError> {
 pub fn source(alloc: Global, row: &mut Row<'_>) -> Result<Spec, RowError> {
     let name = dotted(alloc, row)?;
     let file = Text::from_str(alloc, "file.py")?;
-    Ok(Spec {
-        name,
-        kind: SpecKind::Source { file },
-    })
+    Ok(Spec::of(name, SpecKind::Source { file })?)
 }
 
 /// A text of this many line ends.

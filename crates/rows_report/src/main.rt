@@ -118,11 +118,11 @@ fn count(alloc: Global, walk: &mut Walk, tree: &mut MemTree) -> Answered {
     for lines in 0..MOST_LINES {
         match walk.next(tree) {
             Ok(Some(line)) => drop(line),
-            Ok(None) => return Ok(Some(Text::from_string(format!(in alloc; "{lines} lines")?))),
+            Ok(None) => return Ok(Some(Text::from_string(format!(in alloc; "{lines} lines")?)?)),
             Err(TreeFault::Failed) => {
                 return Ok(Some(Text::from_string(format!(in alloc;
                     "{lines} lines, then a fault"
-                )?)));
+                )?)?));
             }
             Err(TreeFault::NoMemory) => return Err(RowError::NoMemory),
         }
@@ -154,7 +154,7 @@ impl Room {
             None => return Err(RowError::Unknown),
         }
         let count = self.lines.len();
-        Ok(Some(Text::from_string(format!(in alloc; "{count} lines")?)))
+        Ok(Some(Text::from_string(format!(in alloc; "{count} lines")?)?))
     }
 
     /// The next line of a file.

@@ -115,7 +115,7 @@ pub fn each_budget<R: Threads + Wait + Sync>(
             break;
         }
         if enough == Some(true) {
-            return Ok(Text::from_string(format!(in alloc; "{units} units, and no lock is left")?));
+            return Ok(Text::from_string(format!(in alloc; "{units} units, and no lock is left")?)?);
         }
         before = out;
     }

@@ -1,4 +1,5 @@
 //! A call: its words, the files of its tree, its sinks, and the calls of the tree that fail.
+ghost use Rattle.std.specs.Prelude.{◌≡◌, [], None};
 
 use base_types::{Seq, Text, TreePath};
 use rows_words::RowError;
@@ -36,7 +37,11 @@ pub struct Call {
 impl Call {
     /// A call without words on an empty tree, of which no call fails. Each output takes all bytes, and no outcome is
     /// allowed yet.
-    pub fn new(alloc: Global) -> Call {
+    pub fn new(alloc: Global) -> Call
+        ensures lists { (result.holdings.items ≡ []) × (result.words.items ≡ []) × (result.fails.items ≡ [])
+            × (result.allowed.items ≡ []) }
+        ensures rooms { (result.out_room ≡ None) × (result.err_room ≡ None) }
+    {
         Call {
             holdings: Vec::new(alloc),
             words: Vec::new(alloc),
@@ -48,7 +53,11 @@ impl Call {
     }
 
     /// Forgets what fails, which is said for one run alone.
-    pub fn forget(&mut self) {
+    pub fn forget(&mut self)
+        ensures forgotten { (self.new.fails.items ≡ []) × (self.new.out_room ≡ None) × (self.new.err_room ≡ None) }
+        ensures kept { (self.new.holdings ≡ self.old.holdings) × (self.new.words ≡ self.old.words)
+            × (self.new.allowed ≡ self.old.allowed) }
+    {
         self.fails.clear();
         self.out_room = None;
         self.err_room = None;
@@ -122,7 +131,9 @@ pub fn tree(alloc: Global, call: &Call) -> Result<MemTree, RowError> {
 }
 
 /// A sink that takes so many bytes, or all.
-pub fn sink(alloc: Global, room: Option<u64>) -> MemSink {
+pub fn sink(alloc: Global, room: Option<u64>) -> MemSink
+    ensures { result.room ≡ room }
+{
     match room {
         Some(room) => MemSink::failing_after(alloc, room),
         None => MemSink::new(alloc),

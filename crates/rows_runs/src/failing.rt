@@ -106,7 +106,7 @@ fn calls_told(alloc: Global, opening: u64, calls: u64) -> Result<Text, RowError>
     let others = calls.saturating_sub(opening);
     Ok(Text::from_string(format!(in alloc;
         "{opening} calls of the tree open scripts, {others} are for imports, and each is a file fault"
-    )?))
+    )?)?)
 }
 
 /// How many calls of the tree the call makes. Where one of them fails, the status must be 4 and the output a front of what
@@ -158,11 +158,11 @@ fn fills<R: Threads + Wait + Sync>(
 }
 
 fn otherwise(alloc: Global, room: usize) -> Result<Text, RowError> {
-    Ok(Text::from_string(format!(in alloc; "otherwise with room for {room}")?))
+    Ok(Text::from_string(format!(in alloc; "otherwise with room for {room}")?)?)
 }
 
 fn rooms_told(alloc: Global, rooms: usize) -> Result<Text, RowError> {
-    Ok(Text::from_string(format!(in alloc; "each front of {rooms} bytes, and status 5")?))
+    Ok(Text::from_string(format!(in alloc; "each front of {rooms} bytes, and status 5")?)?)
 }
 
 /// What comes of the call with each room of its output that is too small.

@@ -110,8 +110,8 @@ pub fn each_room<R: Threads + Wait + Sync>(
     let len = err.bytes().len();
     for room in 0..len {
         if !keeps_prefix(rt, alloc, call, err.bytes(), room)? {
-            return Ok(Text::from_string(format!(in alloc; "otherwise with room for {room}")?));
+            return Ok(Text::from_string(format!(in alloc; "otherwise with room for {room}")?)?);
         }
     }
-    Ok(Text::from_string(format!(in alloc; "a prefix of {len} bytes, and status 5")?))
+    Ok(Text::from_string(format!(in alloc; "a prefix of {len} bytes, and status 5")?)?)
 }

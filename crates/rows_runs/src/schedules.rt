@@ -201,5 +201,5 @@ pub fn each_run<R: Threads + Wait + Sync>(
     }
     Ok(Text::from_string(format!(in alloc;
         "as allowed, {RUNS} times, and each trace is replayed"
-    )?))
+    )?)?)
 }

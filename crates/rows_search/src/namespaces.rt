@@ -63,12 +63,9 @@ impl Namespaces {
     pub fn begun(alloc: Global, row: &mut Row<'_>) -> Result<Namespaces, RowError> {
         let (parent_path, epoch) = place(alloc, row)?;
         row.must("found")?;
+        let portions = portions(alloc, row)?;
         Ok(Namespaces {
-            state: NsState {
-                parent_path,
-                epoch,
-                portions: portions(alloc, row)?,
-            },
+            state: NsState::of(parent_path, epoch, portions)?,
         })
     }
 
@@ -82,7 +79,7 @@ impl Namespaces {
             Some(Found::Portions(portions(alloc, row)?))
         };
         self.state = recomputed(&self.state, &path, epoch, &found)?;
-        told(alloc, &self.state.portions)
+        told(alloc, self.state.portions())
     }
 
     /// Whether the state is fresh, or what it is after a new search.

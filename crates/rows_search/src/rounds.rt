@@ -57,7 +57,7 @@ pub fn answer(alloc: Global, row: &mut Row<'_>) -> Result<Text, RowError> {
             Ok(told)
         }
         Err(RoundsError::At { line }) => {
-            Ok(Text::from_string(format!(in alloc; "refused in line {line}")?))
+            Ok(Text::from_string(format!(in alloc; "refused in line {line}")?)?)
         }
         Err(RoundsError::NoMemory) => Err(RowError::NoMemory),
     }

@@ -4,7 +4,7 @@ ghost use Rattle.path_finder.specs.Looking.{input_kind, want_kind};
 
 use crate::trees::{path, put_dir, put_file};
 use base_spelling::write_source;
-use base_types::{Text, TreePath};
+use base_types::{Text, TreePath, Wide};
 use path_finder::{Found, LoadFault, Look, LookIn, LookWant, Probe, load_text};
 use py_value::{Items, Value};
 use rows_words::{Row, RowError};
@@ -21,7 +21,7 @@ const TEXT: &[u8] = b"pass\n";
 /// An entry of a search path; `#` is one that is no text.
 fn entry(alloc: Global, entry: &str) -> Result<Value, RowError> {
     if entry == "#" {
-        return Ok(Value::Int(7));
+        return Ok(Value::Int(Wide::of(7)));
     }
     Ok(Value::Text(Text::from_str(alloc, entry)?))
 }
@@ -119,7 +119,7 @@ fn shown(alloc: Global, want: &LookWant) -> Result<Text, RowError> {
         LookWant::Done(Some(Found::Portions(portions))) => {
             put_all(text(alloc, "portions")?, portions.as_slice())
         }
-        LookWant::Done(Some(Found::Spec(spec))) => kind(alloc, &spec.kind),
+        LookWant::Done(Some(Found::Spec(spec))) => kind(alloc, spec.kind()),
         _ => text(alloc, "no answer"),
     }
 }

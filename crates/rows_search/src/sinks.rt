@@ -77,7 +77,7 @@ fn streamed(alloc: Global, row: &mut Row<'_>) -> Result<Text, RowError> {
     let first = word(write_whole(&mut out, row.quoted(alloc)?.as_bytes()))?;
     let left = room.get();
     let second = word(write_whole(&mut out, row.quoted(alloc)?.as_bytes()))?;
-    Ok(Text::from_string(format!(in alloc; "{first} with room for {left}, {second}")?))
+    Ok(Text::from_string(format!(in alloc; "{first} with room for {left}, {second}")?)?)
 }
 
 /// What a closed stream takes.

@@ -59,8 +59,8 @@ fn refusal(alloc: Global, fault: TreeFault) -> Answered {
 fn stamp_text(alloc: Global, stamp: Stamp) -> Answered {
     match stamp {
         Stamp::Absent => told(alloc, "absent"),
-        Stamp::Dir(time) => Ok(Some(Text::from_string(format!(in alloc; "dir {time}")?))),
-        Stamp::File(size) => Ok(Some(Text::from_string(format!(in alloc; "file {size}")?))),
+        Stamp::Dir(time) => Ok(Some(Text::from_string(format!(in alloc; "dir {time}")?)?)),
+        Stamp::File(size) => Ok(Some(Text::from_string(format!(in alloc; "file {size}")?)?)),
     }
 }
 
@@ -86,7 +86,7 @@ fn shown<T: Tree>(alloc: Global, tree: &mut T, at: &TreePath) -> Result<Text, Tr
     match tree.stamp(at)? {
         Stamp::Absent => Ok(Text::from_str(alloc, "absent")?),
         Stamp::Dir(time) => {
-            let mut shown = Text::from_string(format!(in alloc; "dir {time}")?);
+            let mut shown = Text::from_string(format!(in alloc; "dir {time}")?)?;
             for name in tree.list(at)?.as_slice() {
                 shown.push_str(" ")?;
                 shown.push_str(name.as_str())?;
@@ -96,7 +96,7 @@ fn shown<T: Tree>(alloc: Global, tree: &mut T, at: &TreePath) -> Result<Text, Tr
         Stamp::File(size) => {
             let mut bytes = [0u8; 3];
             let count = tree.read(at, 1, &mut bytes)?;
-            Ok(Text::from_string(format!(in alloc; "file {size}: {count} {bytes:?}")?))
+            Ok(Text::from_string(format!(in alloc; "file {size}: {count} {bytes:?}")?)?)
         }
     }
 }

@@ -1,4 +1,7 @@
 //! What the readers of an expression, of a line and of a script give for the tokens of a source, with so many levels left.
+ghost use Rattle.std.specs.Prelude.{◌≡◌, ◌∷◌, [], codes};
+ghost use Rattle.std.specs.List.{list_any};
+ghost use Rattle.std.specs.Str.{bytes_eq};
 
 use crate::tokens::fault;
 use crate::trees::printed;
@@ -21,7 +24,10 @@ const TOP: Context = Context {
 };
 
 /// Whether the word is that of a call that is answered here: the reader of an expression, of a line or of a script.
-pub fn is_call(word: &str) -> bool {
+pub fn is_call(word: &str) -> bool
+    ensures { result ≡ list_any (bytes_eq word.now)
+        (codes "expression" ∷ codes "line" ∷ codes "script" ∷ []) }
+{
     matches!(word, "expression" | "line" | "script")
 }
 
@@ -35,7 +41,7 @@ fn refusal(alloc: Global, error: ReadError) -> Result<Text, RowError> {
                 Refusal::Syntax => "invalid syntax",
             };
             let left = fault.left;
-            Ok(Text::from_string(format!(in alloc; "{why}, {left} tokens left")?))
+            Ok(Text::from_string(format!(in alloc; "{why}, {left} tokens left")?)?)
         }
     }
 }
@@ -47,7 +53,7 @@ fn told(alloc: Global, body: Seq<Stmt>, left: usize) -> Result<Text, RowError> {
     };
     let text = printed(alloc, b"", &script)?;
     let text = text.as_str();
-    Ok(Text::from_string(format!(in alloc; "{text}, {left} tokens left")?))
+    Ok(Text::from_string(format!(in alloc; "{text}, {left} tokens left")?)?)
 }
 
 fn expression_of(alloc: Global, room: usize, tokens: &[Lexeme]) -> Result<Text, RowError> {

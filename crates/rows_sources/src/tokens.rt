@@ -57,7 +57,7 @@ fn by_lines(alloc: Global, tokens: &[Token]) -> Result<Text, RowError> {
 pub fn fault(alloc: Global, error: &LexError) -> Result<Text, RowError> {
     match error {
         LexError::NoMemory => Err(RowError::NoMemory),
-        error => Ok(Text::from_string(format!(in alloc; "{error}")?)),
+        error => Ok(Text::from_string(format!(in alloc; "{error}")?)?),
     }
 }
 
@@ -67,7 +67,7 @@ pub fn answer(alloc: Global, source: &[u8]) -> Result<Text, RowError> {
         Ok(tokens) => {
             let count = tokens.len();
             if count > MOST_SHOWN {
-                return Ok(Text::from_string(format!(in alloc; "{count} tokens")?));
+                return Ok(Text::from_string(format!(in alloc; "{count} tokens")?)?);
             }
             by_lines(alloc, tokens.as_slice())
         }

@@ -19,9 +19,9 @@ pub fn refusal(alloc: Global, error: &ParseError) -> Result<Text, RowError> {
         ParseError::NoMemory => Err(RowError::NoMemory),
         ParseError::Profile { line, what } => {
             let what = what.as_str();
-            Ok(Text::from_string(format!(in alloc; "{what} is left out, in line {line}")?))
+            Ok(Text::from_string(format!(in alloc; "{what} is left out, in line {line}")?)?)
         }
-        error => Ok(Text::from_string(format!(in alloc; "{error}")?)),
+        error => Ok(Text::from_string(format!(in alloc; "{error}")?)?),
     }
 }
 
@@ -36,7 +36,7 @@ fn shown(alloc: Global, source: &[u8], text: &Text) -> Result<Text, RowError> {
     } else {
         ""
     };
-    Ok(Text::from_string(format!(in alloc; "{len} bytes{same}")?))
+    Ok(Text::from_string(format!(in alloc; "{len} bytes{same}")?)?)
 }
 
 /// Whether what is printed is parsed and printed again as it is.

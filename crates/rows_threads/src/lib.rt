@@ -5,6 +5,8 @@
 #[cfg(test)]
 mod gates;
 #[cfg(test)]
+mod groves;
+#[cfg(test)]
 mod sinks;
 #[cfg(test)]
 mod stopped;

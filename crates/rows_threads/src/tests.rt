@@ -1,9 +1,10 @@
 //! Whole calls whose threads pass a gate.
 use crate::gates::{First, Flag, Pace, Until};
+use crate::groves::Forked;
 use crate::sinks::Flagged;
 use crate::stopped::stops;
 use base_types::{Text, TreePath};
-use pyimport::pyimport;
+use pyimport::{OpenGate, pyimport};
 use std::alloc::Global;
 use std::sync::Wait;
 use std::test::Fail;
@@ -145,6 +146,48 @@ fn comes_first<R: Threads + Wait + Sync>(rt: &R, alloc: Global) -> Result<bool, 
     comes_first_to(rt, alloc, &written, &quiet)
 }
 
+// The status of a call over a tree that can be forked so often.
+fn status_with<'x, R: Threads + Wait + Sync>(
+    rt: &R,
+    alloc: Global,
+    line: &str,
+    most: u64,
+    forks: &'x Flag,
+) -> Result<u8, Fail> {
+    let mut tree = Forked {
+        tree: printing(alloc)?,
+        most,
+        forks,
+    };
+    let words = words(alloc, line)?;
+    let mut out = MemSink::new(alloc);
+    let mut err = MemSink::new(alloc);
+    let report = pyimport(
+        rt,
+        alloc,
+        words.as_slice(),
+        &mut tree,
+        &mut out,
+        &mut err,
+        &OpenGate,
+    );
+    Ok(report.status)
+}
+
+// Whether a call over a tree that can be forked so often has this status, and forks it so often.
+fn forks<R: Threads + Wait + Sync>(
+    rt: &R,
+    alloc: Global,
+    line: &str,
+    most: u64,
+    status: u8,
+    times: u64,
+) -> Result<bool, Fail> {
+    let flag = Flag::new();
+    let came = status_with(rt, alloc, line, most, &flag)?;
+    Ok(came == status && flag.raised() == times)
+}
+
 // No script goes from one event to the next alone: a body that runs one to its end first, or keeps the
 // turn between two events, holds the other back until the gate gives up.
 #[test]
@@ -152,6 +195,22 @@ fn two_scripts_keep_pace(rt: HostRuntime) -> Result<(), Fail> {
     for at in 1..7 {
         assert!(rt; keep_pace(&rt, rt.alloc(), at)?);
     }
+    Ok(())
+}
+
+// One script runs on the tree that is handed in, in the thread of the call.
+#[test]
+fn one_script_makes_no_fork(rt: HostRuntime) -> Result<(), Fail> {
+    assert!(rt; forks(&rt, rt.alloc(), "run s0.py", 0, 0, 0)?);
+    Ok(())
+}
+
+// Of several scripts each gets a fork of its own. Where one cannot be made, memory is wanted before any begins.
+#[test]
+fn each_of_several_scripts_has_a_fork(rt: HostRuntime) -> Result<(), Fail> {
+    assert!(rt; forks(&rt, rt.alloc(), "run s0.py s1.py", 16, 0, 2)?);
+    assert!(rt; forks(&rt, rt.alloc(), "run s0.py s1.py s0.py", 16, 0, 3)?);
+    assert!(rt; forks(&rt, rt.alloc(), "run s0.py s1.py", 1, 6, 1)?);
     Ok(())
 }
 

@@ -37,7 +37,7 @@ fn told(alloc: Global, text: &[u8], trace: &Trace) -> Result<Text, RowError> {
     } else {
         "written otherwise"
     };
-    Ok(Text::from_string(format!(in alloc; "{count} entries, {how}")?))
+    Ok(Text::from_string(format!(in alloc; "{count} entries, {how}")?)?)
 }
 
 /// What comes of reading a text.
@@ -46,7 +46,7 @@ fn read(alloc: Global, text: &[u8]) -> Result<Text, RowError> {
         Ok(trace) => told(alloc, text, &trace),
         Err(TraceError::At { line, cause: why }) => {
             let why = cause(why);
-            Ok(Text::from_string(format!(in alloc; "refused in line {line}: {why}")?))
+            Ok(Text::from_string(format!(in alloc; "refused in line {line}: {why}")?)?)
         }
         Err(TraceError::NoMemory) => Err(RowError::NoMemory),
     }
@@ -78,7 +78,7 @@ fn prefixes(alloc: Global, text: &[u8]) -> Result<Text, RowError> {
     for n in 0..text.len() {
         let (prefix, _) = text.split_at(n);
         if !is_told_of_a_prefix(alloc, prefix)? {
-            return Ok(Text::from_string(format!(in alloc; "otherwise at {n}")?));
+            return Ok(Text::from_string(format!(in alloc; "otherwise at {n}")?)?);
         }
     }
     Ok(Text::from_str(alloc, "the entries so far, or cut in the last line")?)

@@ -47,14 +47,14 @@ fn yes(alloc: Global, answer: bool) -> Result<Text, RowError> {
 }
 
 fn number(alloc: Global, number: u64) -> Result<Text, RowError> {
-    Ok(Text::from_string(format!(in alloc; "{number}")?))
+    Ok(Text::from_string(format!(in alloc; "{number}")?)?)
 }
 
 /// A value as `repr` writes it, or its length where it is long.
 fn shown(alloc: Global, value: &Value) -> Result<Text, RowError> {
     if let Some(len) = length_of(value) {
         if len > MOST_SHOWN {
-            return Ok(Text::from_string(format!(in alloc; "{len} long")?));
+            return Ok(Text::from_string(format!(in alloc; "{len} long")?)?);
         }
     }
     match repr_of(alloc, value)? {
@@ -67,9 +67,9 @@ fn shown(alloc: Global, value: &Value) -> Result<Text, RowError> {
 fn outcome(alloc: Global, applied: Applied) -> Result<Text, RowError> {
     match applied {
         Applied::Raised(raised) => {
-            let kind = raised.kind.name();
-            let text = raised.text.as_str();
-            Ok(Text::from_string(format!(in alloc; "{kind}: {text}")?))
+            let kind = raised.kind().name();
+            let text = raised.text().as_str();
+            Ok(Text::from_string(format!(in alloc; "{kind}: {text}")?)?)
         }
         Applied::Value(value) => shown(alloc, &value),
     }

@@ -1,4 +1,7 @@
 //! Dotted names, identifiers, relative names, packages, and maps by name and by number.
+ghost use Rattle.std.specs.Prelude.{◌≡◌, ◌∷◌, [], codes};
+ghost use Rattle.std.specs.List.{list_any};
+ghost use Rattle.std.specs.Str.{bytes_eq};
 
 use base_types::{Exact, Text, Texts, TreePath};
 use rows_words::{Row, RowError};
@@ -9,7 +12,12 @@ use spec_core::{
 use std::alloc::Global;
 
 /// Whether the word is that of a call that is answered here: one on names, on paths or on maps.
-pub fn is_call(word: &str) -> bool {
+pub fn is_call(word: &str) -> bool
+    ensures { result ≡ list_any (bytes_eq word.now)
+        (codes "dotted" ∷ codes "tail" ∷ codes "front" ∷ codes "parent" ∷
+        codes "child" ∷ codes "identifier" ∷ codes "normal" ∷ codes "keyword" ∷
+        codes "resolve" ∷ codes "package" ∷ codes "map" ∷ codes "path" ∷ []) }
+{
     matches!(
         word,
         "dotted"
@@ -105,12 +113,12 @@ fn package(alloc: Global, row: &mut Row<'_>) -> Result<Text, RowError> {
         _ => return Err(RowError::Unknown),
     };
     let name = dotted(alloc, row)?;
-    let spec = Spec { name, kind };
+    let spec = Spec::of(name, kind)?;
     text(alloc, package_of(&spec))
 }
 
 fn told(alloc: Global, got: Option<u32>, taken: Option<u32>) -> Result<Text, RowError> {
-    Ok(Text::from_string(format!(in alloc; "{got:?}, taken {taken:?}")?))
+    Ok(Text::from_string(format!(in alloc; "{got:?}, taken {taken:?}")?)?)
 }
 
 fn name_map(alloc: Global, row: &mut Row<'_>) -> Result<Text, RowError> {
@@ -161,7 +169,7 @@ fn path(alloc: Global, row: &mut Row<'_>) -> Result<Text, RowError> {
             let parts = path.parts().len();
             let text = path.text()?;
             let text = text.as_str();
-            Ok(Text::from_string(format!(in alloc; "{text}, {parts} parts")?))
+            Ok(Text::from_string(format!(in alloc; "{text}, {parts} parts")?)?)
         }
         None => text(alloc, "refused"),
     }

@@ -1,6 +1,8 @@
 //! Values as rows spell them, which is as Python does.
+ghost use Rattle.std.specs.Prelude.{◌≡◌, IfSome};
+ghost use Rattle.py_value.specs.Names.{kind_name};
 
-use base_types::Text;
+use base_types::{Text, Wide};
 use py_value::{Items, Kind, ModRef, Native, Place, Raised, Value};
 use rows_words::{Row, RowError};
 use std::alloc::Global;
@@ -43,7 +45,9 @@ const NATIVES: [Native; 9] = [
 const MOST_PARTS: u32 = 1000;
 
 /// The kind of this name.
-pub fn kind_named(name: &str) -> Option<Kind> {
+pub fn kind_named(name: &str) -> Option<Kind>
+    ensures { IfSome result (λ kind. kind_name kind ≡ name.now) }
+{
     for kind in KINDS {
         if kind.name() == name {
             return Some(kind);
@@ -70,7 +74,7 @@ fn closes(row: &mut Row<'_>) -> Result<(), RowError> {
 fn zeros(alloc: Global, n: u64) -> Result<Items, RowError> {
     let mut items = Items::new(alloc);
     for _ in 0..n {
-        items.push(Value::Int(0))?;
+        items.push(Value::Int(Wide::of(0)))?;
     }
     Ok(items)
 }
@@ -99,11 +103,7 @@ fn deep(alloc: Global, n: u64) -> Result<Items, RowError> {
 fn error(alloc: Global, kind: Kind, row: &mut Row<'_>) -> Result<Value, RowError> {
     let text = row.quoted(alloc)?;
     closes(row)?;
-    Ok(Value::Error(Raised {
-        kind,
-        text,
-        name: None,
-    }))
+    Ok(Value::Error(Raised::of(kind, text, None)?))
 }
 
 /// Where a module comes from: a file, `built-in` or `namespace`.
@@ -126,7 +126,7 @@ fn module(alloc: Global, row: &mut Row<'_>) -> Result<Value, RowError> {
     row.must(",")?;
     let place = place(alloc, row)?;
     closes(row)?;
-    Ok(Value::Module(ModRef { mid, name, place }))
+    Ok(Value::Module(ModRef::of(mid, name, place)?))
 }
 
 /// A function, behind its bracket: its name.
@@ -185,7 +185,7 @@ fn atom(alloc: Global, row: &mut Row<'_>) -> Result<Value, RowError> {
         return Ok(Value::Text(row.quoted(alloc)?));
     }
     if row.is_integer() {
-        return Ok(Value::Int(row.integer()?));
+        return Ok(Value::Int(Wide::of(row.integer()?)));
     }
     let name = row.name()?;
     if row.takes("(") {

@@ -1,4 +1,7 @@
 //! Numbers, texts and sources as traces and rounds files spell them.
+ghost use Rattle.std.specs.Prelude.{◌≡◌, ◌∷◌, [], codes};
+ghost use Rattle.std.specs.List.{list_any};
+ghost use Rattle.std.specs.Str.{bytes_eq};
 
 use base_spelling::{read_number, read_quoted, read_source, write_quoted, write_source};
 use base_types::{Seq, Text};
@@ -6,7 +9,11 @@ use rows_words::{Row, RowError};
 use std::alloc::Global;
 
 /// Whether the word is that of a call that is answered here: one on how a number, a text or a source is spelled.
-pub fn is_call(word: &str) -> bool {
+pub fn is_call(word: &str) -> bool
+    ensures { result ≡ list_any (bytes_eq word.now)
+        (codes "number" ∷ codes "text" ∷
+        codes "source" ∷ codes "bytes" ∷ codes "quote" ∷ []) }
+{
     matches!(word, "number" | "text" | "source" | "bytes" | "quote")
 }
 
@@ -16,7 +23,7 @@ fn refused(alloc: Global) -> Result<Text, RowError> {
 
 fn number(alloc: Global, field: &[u8]) -> Result<Text, RowError> {
     match read_number(field) {
-        Some(number) => Ok(Text::from_string(format!(in alloc; "{number}")?)),
+        Some(number) => Ok(Text::from_string(format!(in alloc; "{number}")?)?),
         None => refused(alloc),
     }
 }
@@ -43,7 +50,7 @@ fn bytes(alloc: Global, field: &[u8]) -> Result<Text, RowError> {
         return refused(alloc);
     };
     let bytes = bytes.as_slice();
-    Ok(Text::from_string(format!(in alloc; "{bytes:?}")?))
+    Ok(Text::from_string(format!(in alloc; "{bytes:?}")?)?)
 }
 
 /// What is read of the field behind the call, which is the rest of the row; `quote` takes a field by its bytes.

@@ -1,4 +1,6 @@
 //! The words of a row.
+ghost use Rattle.std.specs.Prelude.{◌≡◌, ◌==◌, ◌∷◌, [], IfNone, IfOk, OnOk, OnErr, IfSome, MatchBool, true, false, length, drop, take};
+ghost use Rattle.rows_words.specs.Rows.{without_blanks, behind_blank, begins, left_behind};
 
 use base_spelling::{read_number, read_quoted, read_source};
 use base_types::{NoMemory, Seq, Text};
@@ -77,70 +79,115 @@ fn push_all(all: &mut Seq<u8>, piece: &[u8]) -> Result<(), NoMemory> {
     Ok(())
 }
 
-fn text_of(bytes: &[u8]) -> Result<&str, RowError> {
+fn text_of(bytes: &[u8]) -> Result<&str, RowError>
+    ensures { IfOk result (λ text. text.now ≡ bytes.now) }
+{
     match str::from_utf8(bytes) {
         Ok(text) => Ok(text),
         Err(_) => Err(RowError::Unknown),
     }
 }
 
-fn without_blanks(bytes: &[u8]) -> &[u8] {
-    let blanks = bytes.iter().position(|b| *b != b' ');
-    let (_, rest) = bytes.split_at(blanks.unwrap_or(bytes.len()).min(bytes.len()));
+#[tactic(auto, unfolding(crate::specs::Rows::without_blanks))]
+fn without_blanks(bytes: &[u8]) -> &[u8]
+    ensures { result.now ≡ without_blanks bytes.now }
+{
+    let mut rest = bytes;
+    'blanks: while let [b' ', behind @ ..] = rest {
+        rest = behind;
+    }
     rest
+}
+
+/// Without one blank at the front.
+#[tactic(auto, unfolding(crate::specs::Rows::behind_blank))]
+fn behind_blank(bytes: &[u8]) -> &[u8]
+    ensures { result.now ≡ behind_blank bytes.now }
+{
+    match bytes {
+        [b' ', rest @ ..] => rest,
+        _ => bytes,
+    }
 }
 
 impl<'a> Row<'a> {
     /// The row that a line is. All of the line is left, but for the blanks at its front.
-    pub fn of(line: &'a str) -> Row<'a> {
+    pub fn of(line: &'a str) -> Row<'a>
+        ensures { result.rest.now ≡ without_blanks line.now }
+    {
         Row {
             rest: without_blanks(line.as_bytes()),
         }
     }
 
     /// Whether nothing is left.
-    pub fn is_done(&self) -> bool {
+    pub fn is_done(&self) -> bool
+        ensures { result ≡ (length self.now.rest.now == 0) }
+    {
         self.rest.is_empty()
     }
 
     /// The bytes that are left.
-    pub fn left(&self) -> &'a [u8] {
+    pub fn left(&self) -> &'a [u8]
+        ensures { result.now ≡ self.now.rest.now }
+    {
         self.rest
     }
 
-    fn cut(&mut self, len: usize) -> &'a [u8] {
-        let len = len.min(self.rest.len());
+    /// So many bytes of the front, and all where there are fewer.
+    fn cut(&mut self, len: usize) -> &'a [u8]
+        ensures front { result.now ≡ take len self.old.rest.now }
+        ensures rest { self.new.rest.now ≡ left_behind self.old.rest.now len }
+    {
+        if len >= self.rest.len() {
+            return self.all();
+        }
         let (front, rest) = self.rest.split_at(len);
         self.rest = without_blanks(rest);
         front
     }
 
     /// All that is left, blanks at its end too.
-    pub fn all(&mut self) -> &'a [u8] {
-        self.cut(self.rest.len())
+    pub fn all(&mut self) -> &'a [u8]
+        ensures all { result.now ≡ self.old.rest.now }
+        ensures done { self.new.rest.now ≡ [] }
+    {
+        let all = self.rest;
+        self.rest = &[];
+        all
     }
 
     /// All that stands behind this sign and one blank, with the blanks at its front; `None` where the sign does not stand
     /// at the front.
-    pub fn line_behind(&mut self, sign: &str) -> Option<&'a [u8]> {
+    pub fn line_behind(&mut self, sign: &str) -> Option<&'a [u8]>
+        ensures none { IfNone result (begins self.old.rest.now sign.now ≡ false) }
+        ensures stays { IfNone result (self.new.rest.now ≡ self.old.rest.now) }
+        ensures stands { IfSome result (λ line. begins self.old.rest.now sign.now ≡ true) }
+        ensures behind { IfSome result (λ line. line.now ≡ behind_blank (drop (length sign.now) self.old.rest.now)) }
+        ensures done { IfSome result (λ line. self.new.rest.now ≡ []) }
+    {
         if !self.rest.starts_with(sign.as_bytes()) {
             return None;
         }
-        let all = self.all();
-        let (_, line) = all.split_at(sign.len().min(all.len()));
-        match line.split_first() {
-            Some((b' ', kept)) => Some(kept),
-            _ => Some(line),
-        }
+        let (_, line) = self.all().split_at(sign.len());
+        Some(behind_blank(line))
     }
 
     /// All that is left, as a text.
-    pub fn all_text(&mut self) -> Result<&'a str, RowError> {
+    pub fn all_text(&mut self) -> Result<&'a str, RowError>
+        ensures all { IfOk result (λ text. text.now ≡ self.old.rest.now) }
+        ensures done { self.new.rest.now ≡ [] }
+    {
         text_of(self.all())
     }
 
     /// Takes this off the front, where it must stand.
-    pub fn must(&mut self, sign: &str) -> Result<(), RowError> {
+    pub fn must(&mut self, sign: &str) -> Result<(), RowError>
+        ensures stands { OnOk result (begins self.old.rest.now sign.now ≡ true) }
+        ensures taken { OnOk result (self.new.rest.now ≡ left_behind self.old.rest.now (length sign.now)) }
+        ensures other { OnErr result (begins self.old.rest.now sign.now ≡ false) }
+        ensures stays { OnErr result (self.new.rest.now ≡ self.old.rest.now) }
+    {
         if self.takes(sign) {
             Ok(())
         } else {
@@ -149,7 +196,11 @@ impl<'a> Row<'a> {
     }
 
     /// Whether this stands at the front, and is taken off.
-    pub fn takes(&mut self, sign: &str) -> bool {
+    pub fn takes(&mut self, sign: &str) -> bool
+        ensures stands { result ≡ begins self.old.rest.now sign.now }
+        ensures rest { MatchBool result (self.new.rest.now ≡ left_behind self.old.rest.now (length sign.now))
+            (self.new.rest.now ≡ self.old.rest.now) }
+    {
         let found = self.rest.starts_with(sign.as_bytes());
         if found {
             self.cut(sign.len());
@@ -205,7 +256,9 @@ impl<'a> Row<'a> {
     }
 
     /// Whether a quoted text is next.
-    pub fn is_quoted(&self) -> bool {
+    pub fn is_quoted(&self) -> bool
+        ensures { result ≡ begins self.now.rest.now (34 ∷ []) }
+    {
         self.rest.first() == Some(&b'"')
     }
 

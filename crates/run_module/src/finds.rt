@@ -63,7 +63,7 @@ fn run_kind(p: &mut ModuleStart, spec: Spec, text: Seq<u8>) -> Result<Want, NoMe
     ensures goes { IfOk result (Goes (λ inside. runs_kind inside p.old.script (packaged p.old inside) spec spec.kind
         text) p.new) }
 {
-    match &spec.kind {
+    match spec.kind() {
         SpecKind::Source { .. } => make_main(p, spec, text),
         SpecKind::Package { .. } => {
             drop(spec);
@@ -102,8 +102,8 @@ pub(crate) fn opened(
 
 /// The file of the spec is to be read. A text that is no tree path names no file.
 fn read_file(p: &mut ModuleStart, spec: Spec, file: Option<TreePath>) -> Result<Want, NoMemory>
-    ensures goes { IfOk result (Goes (λ inside. reads_file inside p.old.script (missing p.old) (packaged p.old inside) spec
-        file) p.new) }
+    ensures goes { IfOk result (Goes (λ inside. reads_file inside p.old.script (missing p.old) (packaged p.old inside)
+        spec file) p.new) }
 {
     match file {
         Some(file) => Ok(wait_for(p, Stage::File(spec), Want::File(file))),
@@ -116,7 +116,7 @@ fn load(p: &mut ModuleStart, found: Spec) -> Result<Want, NoMemory>
     ensures goes { IfOk result (Goes (λ inside. loads inside p.old.script (missing p.old) (packaged p.old inside) found
         found.kind) p.new) }
 {
-    let file = match &found.kind {
+    let file = match found.kind() {
         SpecKind::Source { file } => path_of(file)?,
         SpecKind::Package { file, .. } => path_of(file)?,
         _ => {

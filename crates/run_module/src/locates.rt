@@ -36,7 +36,8 @@ fn read_search_path(p: &mut ModuleStart) -> Want
 
 /// The entry of the parent is read.
 fn read_entry(p: &mut ModuleStart, parent: Dotted) -> Result<Want, NoMemory>
-    ensures goes { IfOk result (Goes (λ inside. reads_path inside (found_on p.old inside) p.old.name (Some parent)) p.new) }
+    ensures goes { IfOk result (Goes (λ inside. reads_path inside (found_on p.old inside) p.old.name (Some parent))
+        p.new) }
 {
     let entry = Want::Call(Event::TabGet(parent.copy()?));
     Ok(wait_for(p, Stage::ParentEntry(parent), entry))
@@ -56,8 +57,8 @@ pub(crate) fn locate(p: &mut ModuleStart) -> Result<Want, NoMemory>
 
 /// The parent is imported, if the name has one.
 fn import_parent(p: &mut ModuleStart) -> Result<Want, NoMemory>
-    ensures goes { IfOk result (Goes (λ inside. after_parent inside (reads_path inside (found_on p.old inside) p.old.name
-        (parent_of p.old.name)) (parent_of p.old.name)) p.new) }
+    ensures goes { IfOk result (Goes (λ inside. after_parent inside (reads_path inside (found_on p.old inside)
+        p.old.name (parent_of p.old.name)) (parent_of p.old.name)) p.new) }
 {
     match parent_of(&p.name)? {
         Some(parent) => Ok(wait_for(p, Stage::Parent, Want::Import(parent))),
@@ -108,7 +109,8 @@ fn read_path(p: &mut ModuleStart, parent: Dotted, module: ModRef) -> Want
 
 /// What stands in the parent's entry.
 fn on_parent(p: &mut ModuleStart, parent: Dotted, slot: Slot) -> Result<Want, NoMemory>
-    ensures goes { IfOk result (Goes (λ inside. on_parent inside (found_on p.old inside) p.old.name parent slot) p.new) }
+    ensures goes { IfOk result (Goes (λ inside. on_parent inside (found_on p.old inside) p.old.name parent slot)
+        p.new) }
 {
     match slot {
         Slot::Absent => lost(p, parent),

@@ -45,11 +45,7 @@ pub(crate) fn misfit_reply(p: &mut ModuleStart, reply: Reply) -> Result<Want, No
 fn refuse(p: &mut ModuleStart, text: Text) -> Result<Want, NoMemory>
     ensures goes { IfOk result (Goes (λ inside. refuses text) p.new) }
 {
-    let error = Raised {
-        kind: Kind::ImportError,
-        text,
-        name: None,
-    };
+    let error = Raised::of(Kind::ImportError, text, None)?;
     fail(p, Fault::Given(error))
 }
 
@@ -59,13 +55,13 @@ fn absent_text(alloc: Global, home: &Option<Dotted>, name: &Dotted) -> Result<Te
 {
     let name = name.text();
     match home {
-        None => Ok(Text::from_string(format!(in alloc; "No module named {name}")?)),
+        None => Text::from_string(format!(in alloc; "No module named {name}")?),
         Some(home) => {
             let home = home.text();
             let text = format!(in alloc;
                 "No module named {name}; '{home}' is a package and cannot be directly executed"
             )?;
-            Ok(Text::from_string(text))
+            Text::from_string(text)
         }
     }
 }
@@ -75,7 +71,7 @@ fn built_in_text(alloc: Global, name: &Dotted) -> Result<Text, NoMemory>
     ensures { IfOk result (λ text. text ≡ built_in_text name.now) }
 {
     let name = name.text();
-    Ok(Text::from_string(format!(in alloc; "No code object available for {name}")?))
+    Text::from_string(format!(in alloc; "No code object available for {name}")?)
 }
 
 /// Nothing was found of the name.

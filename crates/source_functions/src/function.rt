@@ -28,7 +28,6 @@ fn has(names: &IndexSet<Text>, name: &Text) -> bool
 
 /// A function of a script (Language Reference 8.7) with the names that are local in it (4.2.1), which contracts see as the
 /// function. Whether a name is local is answered by a hash, so it takes a time that does not grow with the body.
-#[derive(Drop)]
 pub struct Function {
     def: Shared<FuncDef>,
     bound: IndexSet<Text>,
@@ -84,5 +83,18 @@ impl Function {
         ensures { result ≡ is_local self.now name.now }
     {
         has(&self.bound, name) && !has(&self.globals, name)
+    }
+}
+
+impl Drop for Function {
+    fn drop(self) {
+        let Function {
+            def,
+            bound,
+            globals,
+        } = self;
+        drop(def);
+        drop(bound);
+        drop(globals);
     }
 }

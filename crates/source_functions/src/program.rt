@@ -9,7 +9,6 @@ use py_syntax::{Script, Stmt};
 use std::marker::Model;
 
 /// A script with its functions at hand, which contracts see as the script.
-#[derive(Drop)]
 pub struct Program {
     script: Script,
     functions: Found,
@@ -56,5 +55,13 @@ impl Program {
         ensures { option_copied result ≡ function_of self.now number }
     {
         self.functions.get(number as usize)
+    }
+}
+
+impl Drop for Program {
+    fn drop(self) {
+        let Program { script, functions } = self;
+        drop(script);
+        drop(functions);
     }
 }

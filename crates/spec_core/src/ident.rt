@@ -5,7 +5,7 @@ ghost use Rattle.std.specs.Str.{chars, bytes_eq};
 ghost use Rattle.spec_core.specs.Identifiers.{starts_identifier, continues_identifier, is_identifier, is_keyword, is_name, is_dotted, normal_form};
 
 use crate::parts::around_last_dot;
-use base_types::{NoMemory, Text};
+use base_types::{Exact, NoMemory, Text};
 use std::alloc::Global;
 use unicode_ident::{is_xid_continue, is_xid_start};
 use unicode_normalization::{is_nfkc, to_nfkc};
@@ -36,22 +36,41 @@ pub fn is_ident(text: &Text) -> bool
 pub fn ident_of(text: &Text) -> Result<Text, NoMemory>
     ensures { IfOk result (λ it. it ≡ normal_form text.now) }
 {
-    Ok(Text::from_string(to_nfkc(text.alloc(), text.as_str())?))
+    if text.as_str().is_ascii() {
+        return text.copy();
+    }
+    Text::from_string(to_nfkc(text.alloc(), text.as_str())?)
 }
 
-const KEYWORDS: [&str; 35] = [
-    "False", "None", "True", "and", "as", "assert", "async", "await", "break", "class", "continue",
-    "def", "del", "elif", "else", "except", "finally", "for", "from", "global", "if", "import",
-    "in", "is", "lambda", "nonlocal", "not", "or", "pass", "raise", "return", "try", "while",
-    "with", "yield",
+// The keywords with fewer than four bytes, with four or five, and with more.
+const SHORT: [&str; 11] = [
+    "and", "as", "def", "del", "for", "if", "in", "is", "not", "or", "try",
+];
+
+const MIDDLE: [&str; 15] = [
+    "False", "None", "True", "async", "await", "break", "class", "elif", "else", "from", "pass",
+    "raise", "while", "with", "yield",
+];
+
+const LONG: [&str; 9] = [
+    "assert", "continue", "except", "finally", "global", "import", "lambda", "nonlocal", "return",
 ];
 
 /// Whether the text is a keyword (Language Reference 2.3.1). It takes no memory.
-#[tactic(auto, unfolding(crate::specs::Identifiers::is_keyword))]
 pub fn is_keyword(text: &str) -> bool
     ensures { result ≡ is_keyword text.now }
 {
-    is_among(text, &KEYWORDS)
+    let length = text.len();
+    if length < 2 {
+        return false;
+    }
+    if length < 4 {
+        return is_among(text, &SHORT);
+    }
+    if length < 6 {
+        return is_among(text, &MIDDLE);
+    }
+    is_among(text, &LONG)
 }
 
 fn is_among(text: &str, words: &[&str]) -> bool

@@ -10,7 +10,6 @@ use std::collections::BTreeMap;
 use std::marker::Model;
 
 /// A map from names.
-#[derive(Drop)]
 pub struct NameMap<V> {
     pub(crate) map: BTreeMap<Dotted, V>,
 }
@@ -81,7 +80,6 @@ impl<V> NameMap<V> {
 }
 
 /// A map from tree paths.
-#[derive(Drop)]
 pub struct PathMap<V> {
     map: BTreeMap<TreePath, V>,
 }
@@ -152,7 +150,6 @@ impl<V> PathMap<V> {
 }
 
 /// A map from numbers.
-#[derive(Drop)]
 pub struct NumberMap<V> {
     pub(crate) map: BTreeMap<u32, V>,
 }
@@ -212,5 +209,26 @@ impl<V> NumberMap<V> {
         ensures after { self.new ≡ map.remove self.old number }
     {
         self.map.remove(&number)
+    }
+}
+
+impl<V: Drop> Drop for NameMap<V> {
+    fn drop(self) {
+        let NameMap { map } = self;
+        drop(map);
+    }
+}
+
+impl<V: Drop> Drop for PathMap<V> {
+    fn drop(self) {
+        let PathMap { map } = self;
+        drop(map);
+    }
+}
+
+impl<V: Drop> Drop for NumberMap<V> {
+    fn drop(self) {
+        let NumberMap { map } = self;
+        drop(map);
     }
 }

@@ -21,7 +21,7 @@ use std::marker::Model;
 
 /// A dotted name: identifiers joined by single dots, each in its own normal form NFKC and none a keyword. Contracts
 /// see its bytes.
-#[derive(Debug, Drop)]
+#[derive(Debug)]
 pub struct Dotted {
     text: Text,
 }
@@ -193,5 +193,12 @@ impl Hash for Dotted {
 
     fn hash<H: Hasher>(&self, state: &mut H) {
         self.text.hash(state);
+    }
+}
+
+impl Drop for Dotted {
+    fn drop(self) {
+        let Dotted { text } = self;
+        drop(text);
     }
 }

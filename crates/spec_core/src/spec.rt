@@ -1,9 +1,12 @@
 //! What a search finds for a name.
-ghost use Rattle.std.specs.Prelude.{◌≡◌};
+ghost use Rattle.std.specs.Prelude.{◌≡◌, IfOk};
 ghost use Rattle.spec_core.specs.Packages.{package_of};
 
 use crate::name::Dotted;
 use base_types::{Exact, NoMemory, Same, Text, Texts};
+use std::alloc::AllocError;
+use std::marker::Model;
+use std::sync::Arc;
 
 /// What kind of module a name is.
 #[derive(Clone, Debug, Drop)]
@@ -18,11 +21,72 @@ pub enum SpecKind {
     Namespace { path: Texts },
 }
 
-/// What the search found for a name.
-#[derive(Clone, Debug, Drop)]
-pub struct Spec {
+/// A name, and what kind of module the search found for it.
+#[derive(Debug, Drop)]
+pub struct SpecData {
     pub name: Dotted,
     pub kind: SpecKind,
+}
+
+/// What a search found for a name. It is small, a copy is one owner more, and contracts see what was found.
+#[derive(Debug)]
+pub struct Spec {
+    held: Arc<SpecData>,
+}
+
+const _: () = prove!(size_of::<Spec>() == 8);
+
+impl Model for Spec {
+    ghost use Rattle.spec_core.specs.declared.spec.SpecData.{SpecData};
+    ghost use Rattle.std.specs.Arc.{arc_value};
+
+    ghost Value = { SpecData };
+
+    ghost view = { λ it. arc_value it.held };
+}
+
+impl Spec {
+    /// What a search found for a name. An `Err` comes for want of memory alone.
+    pub fn of(name: Dotted, kind: SpecKind) -> Result<Spec, NoMemory>
+        ensures { IfOk result (λ it. it ≡ record { name = name; kind = kind }) }
+    {
+        let alloc = name.alloc();
+        let data = SpecData { name, kind };
+        Ok(Spec {
+            held: Arc::new(alloc, data)?,
+        })
+    }
+
+    /// The name.
+    pub fn name(&self) -> &Dotted
+        ensures { result.now ≡ self.now.name }
+    {
+        &self.held.name
+    }
+
+    /// What kind of module it is.
+    pub fn kind(&self) -> &SpecKind
+        ensures { result.now ≡ self.now.kind }
+    {
+        &self.held.kind
+    }
+}
+
+impl Clone for Spec {
+    ghost is_clone = { λ it other. other ≡ it };
+
+    fn clone(&self) -> Result<Spec, AllocError> {
+        Ok(Spec {
+            held: self.held.clone()?,
+        })
+    }
+}
+
+impl Drop for Spec {
+    fn drop(self) {
+        let Spec { held } = self;
+        drop(held);
+    }
 }
 
 impl Exact for SpecKind {
@@ -65,7 +129,7 @@ impl Same for SpecKind {
 
 impl Same for Spec {
     fn is_same(&self, other: &Spec) -> bool {
-        self.name.is_same(&other.name) && self.kind.is_same(&other.kind)
+        self.name().is_same(other.name()) && self.kind().is_same(other.kind())
     }
 }
 
@@ -74,10 +138,10 @@ impl Same for Spec {
 pub fn package_of(spec: &Spec) -> &str
     ensures { result.now ≡ package_of spec.now.name spec.now.kind }
 {
-    match spec.kind {
-        SpecKind::Package { .. } => spec.name.text(),
-        SpecKind::Namespace { .. } => spec.name.text(),
-        _ => match spec.name.parent() {
+    match spec.kind() {
+        SpecKind::Package { .. } => spec.name().text(),
+        SpecKind::Namespace { .. } => spec.name().text(),
+        _ => match spec.name().parent() {
             Some(parent) => parent.text(),
             None => "",
         },

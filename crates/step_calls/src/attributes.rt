@@ -99,7 +99,7 @@ fn is_missing(leave: &Leave) -> bool
     ensures { result ≡ is_missing leave.now }
 {
     match leave {
-        Leave::Raised(error) => match error.kind {
+        Leave::Raised(error) => match error.kind() {
             Kind::AttributeError => true,
             _ => false,
         },

@@ -16,18 +16,14 @@ use std::alloc::Global;
 fn plain(alloc: Global, kind: Kind, text: &str) -> Result<Raised, NoMemory>
     ensures { IfOk result (λ error. error ≡ raised kind text.now) }
 {
-    Ok(Raised {
-        kind,
-        text: Text::from_str(alloc, text)?,
-        name: None,
-    })
+    Raised::of(kind, Text::from_str(alloc, text)?, None)
 }
 
 /// Where in a source.
 fn place(alloc: Global, line: u32) -> Result<Text, NoMemory>
     ensures { IfOk result (λ text. text ≡ codes "line " ++ decimal line ++ codes ": ") }
 {
-    Ok(Text::from_string(format!(in alloc; "line {line}: ")?))
+    Text::from_string(format!(in alloc; "line {line}: ")?)
 }
 
 /// What is wrong in a line.
@@ -36,11 +32,7 @@ fn in_line(alloc: Global, kind: Kind, line: u32, what: &str) -> Result<Raised, N
 {
     let mut text = place(alloc, line)?;
     text.push_str(what)?;
-    Ok(Raised {
-        kind,
-        text,
-        name: None,
-    })
+    Raised::of(kind, text, None)
 }
 
 fn syntax_error(alloc: Global, line: u32, text: &str) -> Result<Raised, NoMemory>
@@ -77,7 +69,7 @@ fn lexing_error(alloc: Global, error: LexError) -> Result<Raised, NoMemory>
 fn without(alloc: Global, what: &str) -> Result<Text, NoMemory>
     ensures { IfOk result (λ text. text ≡ codes "'" ++ what.now ++ codes "' is not in the profile") }
 {
-    Ok(Text::from_string(format!(in alloc; "'{what}' is not in the profile")?))
+    Text::from_string(format!(in alloc; "'{what}' is not in the profile")?)
 }
 
 /// A part of the language that is left out.

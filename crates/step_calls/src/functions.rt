@@ -182,7 +182,8 @@ fn keep(
     ensures { IfOk result (Does thread.new (pieces (λ w d. spec.sourced
         (spec.around_at w (d - 1)) load index arguments «module» (parsings.Parsed program)) thread.old)) }
 {
-    let ModRef { mid, name, .. } = module;
+    let mid = module.mid();
+    let name = module.name().copy()?;
     let function = function_at(&program, index)?;
     let source = Source { mid, name, program };
     thread.state.kept.insert(load, source)?;

@@ -20,11 +20,10 @@ fn made_error(alloc: Global, kind: Kind, applied: Applied) -> Result<Applied, No
     ensures { IfOk result (λ made. made ≡ spec.made_error kind applied) }
 {
     match applied {
-        Applied::Value(value) => Ok(Applied::Value(Value::Error(Raised {
-            kind,
-            text: Text::from_str(alloc, text_of(&value))?,
-            name: None,
-        }))),
+        Applied::Value(value) => {
+            let text = Text::from_str(alloc, text_of(&value))?;
+            Ok(Applied::Value(Value::Error(Raised::of(kind, text, None)?)))
+        }
         Applied::Raised(error) => Ok(Applied::Raised(error)),
     }
 }
@@ -60,11 +59,7 @@ pub fn call_kind(
     ensures { IfOk result (Does thread.now (pieces (λ w d. spec.calls_kind kind values) thread.now)) }
 {
     if values.is_empty() {
-        let error = Raised {
-            kind,
-            text: Text::new(alloc),
-            name: None,
-        };
+        let error = Raised::of(kind, Text::new(alloc), None)?;
         return Ok(went(thread, Value::Error(error)));
     }
     match only(values) {

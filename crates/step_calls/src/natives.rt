@@ -11,7 +11,7 @@ use crate::loading::{import_lazily, invalidate, reload};
 use crate::operands::call_listed;
 use crate::print::print;
 use crate::values::give;
-use base_types::{Exact, NoMemory, Seq, Text};
+use base_types::{Exact, NoMemory, Seq, Text, Wide};
 use meaning_state::{Fault, Thread};
 use py_frames::{Item, Want};
 use py_value::{Native, Value, type_of};
@@ -100,7 +100,7 @@ fn give_length(alloc: Global, thread: &Thread, value: &Value) -> Result<Want, No
     ensures { IfOk result (Does thread.now (pieces (λ w d. gives_length value.now) thread.now)) }
 {
     match length_of(value) {
-        Some(length) => Ok(went(thread, Value::Int(length as i128))),
+        Some(length) => Ok(went(thread, Value::Int(Wide::of(length as i128)))),
         None => fail(alloc, thread, Fault::NoLength(type_of(value))),
     }
 }

@@ -137,7 +137,7 @@ pub fn go_on_catch(
     if is_listed(&value) {
         return wait_catch(alloc, thread, handlers, at, error, value);
     }
-    let taken = takes(error.kind, &value);
+    let taken = takes(error.kind(), &value);
     choose(alloc, thread, handlers, at, error, taken)
 }
 

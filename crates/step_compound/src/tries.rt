@@ -45,7 +45,7 @@ fn meet_error(
     ensures { IfOk result (Does thread.now (pieces (λ w d. meets (around_at w d) handlers.now error) thread.now)) }
 {
     let _ = thread;
-    match error.kind {
+    match error.kind() {
         Kind::ProfileError => Ok(Want::Go(Flow::Left(Leave::Raised(error)))),
         _ => Ok(Want::Then(Item::Match {
             handlers: handlers.share()?,

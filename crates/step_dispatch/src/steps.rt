@@ -102,6 +102,7 @@ use step_names::store;
 use step_names::stored;
 use step_procedures::begin_feed;
 use step_procedures::begin_import;
+use step_procedures::begin_parent;
 use step_procedures::fed as fed_procedure;
 use step_procedures::go_on_imported;
 use step_procedures::go_on_open;
@@ -203,6 +204,7 @@ fn begin_any(alloc: Global, item: Item, thread: &mut Thread) -> Result<Want, NoM
             is_parent,
             is_lazy,
         } => begin_import(alloc, name, is_parent, is_lazy, thread),
+        Item::Parent { name, is_parent } => begin_parent(alloc, name, is_parent, thread),
         Item::From { stmts, at } => begin_from(alloc, thread, stmts, at),
         Item::FromModule {
             module,

@@ -9,7 +9,7 @@ ghost use Rattle.py_frames.specs.declared.work.Item.TheVariants as items;
 
 use crate::gathering::operands;
 use base_owners::Shared;
-use base_types::{Exact, NoMemory, Seq};
+use base_types::{Exact, NoMemory, Seq, Wide};
 use meaning_state::{Fault, Thread};
 use py_frames::{Form, Frame, Item, Want};
 use py_syntax::Expr;
@@ -118,7 +118,7 @@ pub fn atom(alloc: Global, thread: &Thread, expr: Shared<Expr>) -> Result<Want, 
 {
     match expr.get() {
         Expr::Name(name) => read_name(alloc, thread, name),
-        Expr::Number(n) => Ok(given(thread, Applied::Value(Value::Int(*n)))),
+        Expr::Number(n) => Ok(given(thread, Applied::Value(Value::Int(Wide::of(*n))))),
         Expr::Str(text) => Ok(given(thread, limited(alloc, Value::Text(text.copy()?))?)),
         Expr::Nothing => Ok(given(thread, Applied::Value(Value::Nothing))),
         Expr::True => Ok(given(thread, Applied::Value(Value::Bool(true)))),

@@ -196,7 +196,7 @@ fn read_all(alloc: Global, thread: &Thread, module: ModRef) -> Result<Want, NoMe
 {
     let _ = thread;
     let event = Event::GetVar {
-        mid: module.mid,
+        mid: module.mid(),
         name: Text::from_str(alloc, "__all__")?,
         raw: false,
     };

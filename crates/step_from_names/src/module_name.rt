@@ -27,7 +27,7 @@ pub fn begin_from_module(
 {
     let _ = thread;
     let event = Event::GetVar {
-        mid: module.mid,
+        mid: module.mid(),
         name: name.copy()?,
         raw: false,
     };
@@ -52,7 +52,7 @@ fn take_namespace(
         (around_at w d) is_bound «module» name.now) thread.now)) }
 {
     if is_bound {
-        return replace(alloc, thread, module.mid, module.name, name);
+        return replace(alloc, thread, module.mid(), module.name().copy()?, name);
     }
     drop(module);
     fail(alloc, thread, Fault::NotInProfile)
@@ -88,7 +88,7 @@ fn look_up(
 ) -> Result<Want, NoMemory>
     ensures { IfOk result (Does thread.now (pieces (λ w d. looks_up «module» name is_initialising) thread.now)) }
 {
-    let full = joined_name(&module.name, &name)?;
+    let full = joined_name(module.name(), &name)?;
     let Some(entry) = Dotted::read(&full)? else {
         return fail(alloc, thread, Fault::NotInProfile);
     };
@@ -136,7 +136,7 @@ fn wake_for_name(
     let read = name.copy()?;
     let lazy = module.copy()?;
     let event = Event::GetVar {
-        mid: module.mid,
+        mid: module.mid(),
         name: read,
         raw: true,
     };
@@ -187,8 +187,8 @@ fn take_entry(
             thread,
             Fault::CannotImport {
                 is_initialising,
-                module: module.name,
-                place: module.place,
+                module: module.name().copy()?,
+                place: module.place().copy()?,
                 name,
             },
         ),

@@ -44,7 +44,7 @@ fn take_all(alloc: Global, thread: &Thread, module: ModRef, reply: Reply) -> Res
 {
     match reply {
         Reply::Value(value) => bind_all(alloc, thread, module, &value),
-        Reply::Unset(_) => Ok(Want::Call(Event::Names(module.mid), OnReply::Names(module))),
+        Reply::Unset(_) => Ok(Want::Call(Event::Names(module.mid()), OnReply::Names(module))),
         other => {
             drop(other);
             fail(alloc, thread, Fault::NotInProfile)
@@ -59,7 +59,7 @@ fn wake_for_all(alloc: Global, thread: &Thread, module: ModRef) -> Result<Want, 
     let name = Text::from_str(alloc, "__all__")?;
     let lazy = module.copy()?;
     let event = Event::GetVar {
-        mid: module.mid,
+        mid: module.mid(),
         name,
         raw: true,
     };

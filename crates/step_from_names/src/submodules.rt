@@ -29,7 +29,7 @@ pub fn begin_ask_submodules(
 {
     let _ = thread;
     let event = Event::GetVar {
-        mid: module.mid,
+        mid: module.mid(),
         name: Text::from_str(alloc, "__path__")?,
         raw: false,
     };
@@ -81,7 +81,7 @@ fn wake_for_path(
     let name = Text::from_str(alloc, "__path__")?;
     let lazy = module.copy()?;
     let event = Event::GetVar {
-        mid: module.mid,
+        mid: module.mid(),
         name,
         raw: true,
     };
@@ -162,7 +162,7 @@ pub fn begin_submodule(thread: &Thread, module: ModRef, name: Text) -> Result<Wa
 {
     let _ = thread;
     let event = Event::GetVar {
-        mid: module.mid,
+        mid: module.mid(),
         name: name.copy()?,
         raw: false,
     };
@@ -184,7 +184,7 @@ fn try_submodule(
     ensures { IfOk result (Does thread.now (pieces (λ w d. spec.tries_submodule (around_at w d)
         (joined «module».now.name name.now)) thread.now)) }
 {
-    let full = joined_name(&module.name, name)?;
+    let full = joined_name(module.name(), name)?;
     let Some(entry) = Dotted::read(&full)? else {
         return fail(alloc, thread, Fault::NotInProfile);
     };
@@ -235,7 +235,7 @@ fn wake_for_submodule(
     let owner = module.copy()?;
     let asked = name.copy()?;
     let event = Event::GetVar {
-        mid: module.mid,
+        mid: module.mid(),
         name: read,
         raw: true,
     };
@@ -278,8 +278,8 @@ fn is_name(name: &Text, other: &Option<Text>) -> bool
 fn is_missing(name: &Text, error: &Raised) -> bool
     ensures { result ≡ spec.is_missing name.now error.now.kind error.now.name }
 {
-    match error.kind {
-        Kind::ModuleNotFoundError => is_name(name, &error.name),
+    match error.kind() {
+        Kind::ModuleNotFoundError => is_name(name, error.name()),
         _ => false,
     }
 }

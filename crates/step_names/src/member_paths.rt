@@ -4,7 +4,7 @@ ghost use Rattle.meaning_script.specs.Meaning.{around_at};
 ghost use Rattle.meaning_script.specs.Names as spec;
 ghost use Rattle.py_frames.specs.Does.{Does, pieces};
 
-use base_types::{NoMemory, Text};
+use base_types::{Exact, NoMemory, Text};
 use meaning_state::Thread;
 use py_frames::Want;
 use py_value::{ModRef, Value};
@@ -24,7 +24,7 @@ pub fn member_value(
 {
     if is_namespace_path(&value) {
         drop(value);
-        return replace(alloc, thread, module.mid, module.name, name);
+        return replace(alloc, thread, module.mid(), module.name().copy()?, name);
     }
     drop(module);
     Ok(went(thread, value))

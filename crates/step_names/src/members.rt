@@ -46,8 +46,8 @@ fn error_member(
 ) -> Result<Want, NoMemory>
     ensures { IfOk result (Does thread.now (pieces (λ w d. spec.error_member error name.now) thread.now)) }
 {
-    if name.as_str() == "name" && is_import_kind(error.kind) {
-        return Ok(went(thread, name_value(error.name)));
+    if name.as_str() == "name" && is_import_kind(error.kind()) {
+        return Ok(went(thread, name_value(error.name().copy()?)));
     }
     fail(alloc, thread, Fault::NotInProfile)
 }
@@ -59,7 +59,7 @@ fn module_member(thread: &Thread, module: ModRef, name: Text) -> Result<Want, No
 {
     let _ = thread;
     let event = Event::GetVar {
-        mid: module.mid,
+        mid: module.mid(),
         name: name.copy()?,
         raw: false,
     };
@@ -100,7 +100,7 @@ fn member_awake(
     let read = name.copy()?;
     let lazy = module.copy()?;
     let event = Event::GetVar {
-        mid: module.mid,
+        mid: module.mid(),
         name: read,
         raw: true,
     };
@@ -131,7 +131,7 @@ fn member_known(
             thread,
             Fault::NoAttribute {
                 is_initialising,
-                module: module.name,
+                module: module.name().copy()?,
                 name,
             },
         ),
@@ -184,7 +184,7 @@ fn store_awake(
         thread.now)) }
 {
     let event = Event::SetVar {
-        mid: module.mid,
+        mid: module.mid(),
         name,
         value,
         raw: true,
@@ -227,7 +227,7 @@ fn set_module_member(
 {
     let _ = thread;
     let event = Event::SetVar {
-        mid: module.mid,
+        mid: module.mid(),
         name: name.copy()?,
         value: value.copy()?,
         raw: false,
@@ -273,7 +273,7 @@ fn delete_module_member(thread: &Thread, module: ModRef, name: Text) -> Result<W
 {
     let _ = thread;
     let event = Event::DelVar {
-        mid: module.mid,
+        mid: module.mid(),
         name: name.copy()?,
         raw: false,
     };
@@ -321,7 +321,7 @@ fn delete_awake(
     let deleted = name.copy()?;
     let lazy = module.copy()?;
     let event = Event::DelVar {
-        mid: module.mid,
+        mid: module.mid(),
         name: deleted,
         raw: true,
     };

@@ -1,10 +1,10 @@
 //! The reading of a module's path (Language Reference 5.4.5).
-ghost use Rattle.std.specs.Prelude.{◌≡◌};
+ghost use Rattle.std.specs.Prelude.{◌≡◌, IfOk};
 ghost use Rattle.meaning_script.specs.Pieces as pieces;
 ghost use Rattle.step_package_path.specs.declared.reader.Stage.TheVariants as stages;
 ghost use Rattle.py_value.specs.declared.value.Place.TheVariants as places;
 
-use base_types::Text;
+use base_types::{NoMemory, Text};
 use find_load::most;
 use py_value::{Items, ModRef, NsState, Place};
 use spec_core::Dotted;
@@ -71,19 +71,20 @@ impl PathReader {
         }
     }
 
-    /// The path of a namespace, whose `__path__` was read, by the number and the name of its module.
-    pub fn replacing(mid: u32, name: Text) -> PathReader
-        ensures { result ≡ record {
+    /// The path of a namespace, whose `__path__` was read, by the number and the name of its module. An `Err` comes
+    /// for want of memory alone.
+    pub fn replacing(mid: u32, name: Text) -> Result<PathReader, NoMemory>
+        ensures { IfOk result (λ reader. reader ≡ record {
           «module» = record { mid = mid; name = name; place = places.Namespace };
           turns = pieces.most;
           stage = stages.Replaces;
-        } }
+        }) }
     {
-        let place = Place::Namespace;
-        PathReader {
-            module: ModRef { mid, name, place },
+        let module = ModRef::of(mid, name, Place::Namespace)?;
+        Ok(PathReader {
+            module,
             turns: most(),
             stage: Stage::Replaces,
-        }
+        })
     }
 }

@@ -26,7 +26,7 @@ use spec_core::Dotted;
 fn fail(p: &mut PathReader, fault: Fault) -> Result<Want, NoMemory>
     ensures goes { IfOk result (Goes (λ inside. fails fault) p.new) }
 {
-    let error = raised(p.module.name.alloc(), fault)?;
+    let error = raised(p.module.name().alloc(), fault)?;
     Ok(Want::End(Flow::Left(Leave::Raised(error))))
 }
 
@@ -78,7 +78,7 @@ fn texts_of(texts: &Texts) -> Result<Items, NoMemory>
 fn has_portions(p: &mut PathReader, state: &NsState) -> Result<Want, NoMemory>
     ensures goes { IfOk result (Goes (λ inside. has_portions state.now) p.new) }
 {
-    let items = texts_of(&state.portions)?;
+    let items = texts_of(state.portions())?;
     Ok(has_path(p, items))
 }
 
@@ -93,11 +93,11 @@ fn read(p: &mut PathReader) -> Result<Want, NoMemory>
             units: most(),
         });
     }
-    let name = Text::from_str(p.module.name.alloc(), "__path__")?;
+    let name = Text::from_str(p.module.name().alloc(), "__path__")?;
     p.turns -= 1;
     p.stage = Stage::Read;
     Ok(Want::Call(Event::GetVar {
-        mid: p.module.mid,
+        mid: p.module.mid(),
         name,
         raw: false,
     }))
@@ -108,7 +108,7 @@ fn read_state(p: &mut PathReader) -> Want
     ensures goes { Goes (does_at p.old stages.Replaces ins.Start) p.new result }
 {
     p.stage = Stage::StateRead;
-    Want::Call(Event::NsGet(p.module.mid))
+    Want::Call(Event::NsGet(p.module.mid()))
 }
 
 /// The path that a module's `__path__` is.
@@ -161,10 +161,10 @@ fn path_came(p: &mut PathReader, reply: Reply) -> Result<Want, NoMemory>
 fn read_raw(p: &mut PathReader) -> Result<Want, NoMemory>
     ensures goes { IfOk result (Goes (λ inside. reads_raw inside p.old.turns p.old.module) p.new) }
 {
-    let name = Text::from_str(p.module.name.alloc(), "__path__")?;
+    let name = Text::from_str(p.module.name().alloc(), "__path__")?;
     p.stage = Stage::ReadRaw;
     Ok(Want::Call(Event::GetVar {
-        mid: p.module.mid,
+        mid: p.module.mid(),
         name,
         raw: true,
     }))
@@ -185,7 +185,7 @@ fn keep(p: &mut PathReader, state: NsState) -> Result<Want, NoMemory>
     ensures goes { IfOk result (Goes (λ inside. spec.keeps_state (space p.old.module) state) p.new) }
 {
     let kept = state.copy()?;
-    let mid = p.module.mid;
+    let mid = p.module.mid();
     p.stage = Stage::Kept(kept);
     Ok(Want::Call(Event::NsSet { mid, state }))
 }
@@ -286,7 +286,7 @@ fn below_parent(p: &mut PathReader, namespace: Namespace) -> Result<Want, NoMemo
 fn with_state(p: &mut PathReader, state: NsState, epoch: u64) -> Result<Want, NoMemory>
     ensures goes { IfOk result (Goes (does_at p.old stages.StateRead (ins.Replied (replies.Ns state epoch))) p.new) }
 {
-    match Dotted::read(&p.module.name)? {
+    match Dotted::read(p.module.name())? {
         None => {
             drop(state);
             fail(p, Fault::NotInProfile)

@@ -21,22 +21,11 @@ use std::alloc::Global;
 use step_package_path::PathReader;
 
 /// A procedure waits for the import of a parent.
-fn open_import(
-    name: &Dotted,
-    is_parent: bool,
-    procedure: Procedure,
-    thread: &Thread,
-) -> Result<Want, NoMemory>
-    ensures { IfOk result (Does thread.now (pieces (λ w d. waits_parent w d is_parent procedure name.now) thread.now)) }
+fn open_import(name: Dotted, is_parent: bool, procedure: Procedure, thread: &Thread) -> Want
+    ensures { Does thread.now (pieces (λ w d. waits_parent w d is_parent procedure name) thread.now) result }
 {
     let _ = thread;
-    let name = name.owned()?;
-    let item = Item::Import {
-        name,
-        is_parent,
-        is_lazy: false,
-    };
-    Ok(Want::Both(item, Frame::Open(procedure)))
+    Want::Both(Item::Parent { name, is_parent }, Frame::Open(procedure))
 }
 
 /// A procedure waits for the path of a module.
@@ -108,7 +97,7 @@ fn lift(
             };
             Ok(Want::Both(item, Frame::Open(procedure)))
         }
-        Wanted::Import(name) => open_import(&name, is_parent, procedure, thread),
+        Wanted::Import(name) => Ok(open_import(name, is_parent, procedure, thread)),
         Wanted::Path { module, turns } => open_path(alloc, module, turns, procedure, thread),
         Wanted::Rouse(module) => open_rouse(alloc, module, procedure, thread),
         Wanted::End(flow) => {
@@ -125,7 +114,8 @@ fn lift_step<P: Steps>(
     want: Wanted,
     thread: &Thread,
 ) -> Result<Want, NoMemory>
-    ensures { IfOk result (Does thread.now (pieces (λ w d. lifts w d P.imports_parent want (P.held procedure)) thread.now)) }
+    ensures { IfOk result (Does thread.now (pieces (λ w d.
+        lifts w d P.imports_parent want (P.held procedure)) thread.now)) }
 {
     let is_parent = procedure.is_parent();
     match procedure.hold(alloc) {
@@ -144,7 +134,8 @@ fn step<P: Steps>(
     input: In,
     thread: &Thread,
 ) -> Result<Want, NoMemory>
-    ensures { IfOk result (Does thread.now (pieces (λ w d. P.means (inside_by w d P.imports_parent) procedure input) thread.now)) }
+    ensures { IfOk result (Does thread.now (pieces (λ w d.
+        P.means (inside_by w d P.imports_parent) procedure input) thread.now)) }
 {
     let mut procedure = procedure.into_inner();
     match procedure.step(input) {

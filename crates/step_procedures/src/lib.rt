@@ -6,4 +6,4 @@ mod import;
 mod stepping;
 
 pub use feeding::{begin_feed, fed, go_on_open, replied_feed};
-pub use import::{begin_import, go_on_imported};
+pub use import::{begin_import, begin_parent, go_on_imported};

@@ -38,7 +38,7 @@ pub fn replace(
         (around_at w d).access mid «module» name.now) thread.now)) }
 {
     if name.as_str() == "__path__" {
-        let reader = Boxed::new(alloc, PathReader::replacing(mid, module))?;
+        let reader = Boxed::new(alloc, PathReader::replacing(mid, module)?)?;
         return Ok(Want::Then(Item::Feed(Procedure::Path(reader), In::Start)));
     }
     drop(module);

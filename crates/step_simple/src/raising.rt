@@ -41,11 +41,7 @@ fn raise_error(alloc: Global, thread: &Thread, value: Value) -> Result<Want, NoM
 {
     match value {
         Value::Kind(kind) => {
-            let error = Raised {
-                kind,
-                text: Text::new(alloc),
-                name: None,
-            };
+            let error = Raised::of(kind, Text::new(alloc), None)?;
             Ok(Want::Go(Flow::Left(Leave::Raised(error))))
         }
         Value::Error(error) => Ok(Want::Go(Flow::Left(Leave::Raised(error)))),

@@ -14,7 +14,7 @@ ghost use Rattle.py_frames.specs.declared.replies.OnReply.TheVariants as ons;
 
 use crate::arguments::{key_and_default, one, or_nothing, two};
 use base_owners::Shared;
-use base_types::{NoMemory, Seq, Text};
+use base_types::{NoMemory, Seq, Text, Wide};
 use machine_events::{Event, Reply};
 use meaning_state::{Fault, Thread};
 use py_frames::{Frame, Item, OnReply, Want};
@@ -61,12 +61,12 @@ fn nests_too_deep(value: &Value) -> bool
 }
 
 /// A value as a number.
-fn number_of(value: &Value) -> Option<i128>
+fn number_of(value: &Value) -> Option<Wide>
     ensures { result ≡ outcomes.number_of value.now }
 {
     match value {
-        Value::Bool(true) => Some(1),
-        Value::Bool(false) => Some(0),
+        Value::Bool(true) => Some(Wide::of(1)),
+        Value::Bool(false) => Some(Wide::of(0)),
         Value::Int(n) => Some(*n),
         _ => None,
     }
@@ -180,7 +180,7 @@ pub fn method(
 pub fn add_entry(
     alloc: Global,
     thread: &Thread,
-    at: Option<i128>,
+    at: Option<Wide>,
     value: Value,
 ) -> Result<Want, NoMemory>
     ensures { IfOk result (Does thread.now (begins (items.AddEntry at value) thread.now)) }

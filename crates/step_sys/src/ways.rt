@@ -41,11 +41,7 @@ fn key_error(alloc: Global, thread: &Thread, applied: Applied) -> Result<Want, N
     ensures { IfOk result (Does thread.now (pieces (λ w d. spec.key_error applied) thread.now)) }
 {
     let error = match applied {
-        Applied::Value(value) => Raised {
-            kind: Kind::KeyError,
-            text: text_or_none(alloc, value),
-            name: None,
-        },
+        Applied::Value(value) => Raised::of(Kind::KeyError, text_or_none(alloc, value), None)?,
         Applied::Raised(error) => error,
     };
     fail(alloc, thread, Fault::Given(error))

@@ -1,5 +1,6 @@
 -- Each kind of step keeps the rule of the shelf.
-use Rattle.std.proofs.Common.{◌≡◌, ◌≢◌, ◌⊎◌, ℕ, Bool, false, List, [], ◌∷◌, ◌++◌, length, set, Option, Some, None, refl, sym, ap, ◌∙◌, subst, inl, inr, ⊎_elim, arith, length-append, append-nil}
+use Rattle.std.proofs.Common.{◌≡◌, ◌≢◌, ◌⊎◌, ℕ, Bool, true, false, List, [], ◌∷◌, ◌++◌, length, set, Option, Some, None, refl, sym, ap, ◌∙◌, subst, inl, inr, ⊎_elim, arith, length-append, append-nil}
+use Rattle.std.proofs.lemmas.Bool.{false_from_ne_true}
 use Rattle.std.specs.Prelude.{slice_index, slice_set, ◌==◌}
 use mathlib.Core.Option as m
 use prog.Atomic.{either}
@@ -17,8 +18,8 @@ use Rattle.machine_book.proofs.Histories.{own_snoc}
 use Rattle.trace_book.proofs.Owns.{own_append, own_none}
 use Rattle.trace_book.specs.declared.view.View.{View}
 use Rattle.trace_book.specs.declared.view.Phase.TheVariants.{New, Idle, Holding}
-use Rattle.trace_book.specs.Views.{Has, Within, Rounded, next_of, is_spent, taken_numbers, taken_seen, holding, idle}
-use Rattle.trace_book.specs.Rule.{Sees, Speaks, Fits, place_of, Follows, Written, AtHome, Held, IsHeld, Shelved, Voices}
+use Rattle.trace_book.specs.Views.{Has, Within, Rounded, next_of, is_spent, taken_numbers, taken_seen, holding, idle_as}
+use Rattle.trace_book.specs.Rule.{NobodyHas, Sees, Speaks, Fits, place_of, Follows, Written, AtHome, Held, IsHeld, Shelved, Voices}
 use Rattle.trace_book.specs.Plays.{Seated, Fills, Takes, Notes, GivesBack}
 use Rattle.trace_book.proofs.Beginnings.{prefix_self, prefix_grows, all_set, set_at}
 
@@ -75,6 +76,13 @@ sees_longer h next seen ns mine who by id apart theirs ours follows sees =
     ))
     follows
 
+clash : {A : Type 0} (n : ℕ) → n ≡ 0 → n ≡ 2 → A
+clash n zero two = absurd (omega (arith, zero, two))
+
+-- where the turn is this, the view is right if it knows of a stop
+abbrev Tells : ℕ → View → Type 0
+Tells turn v = v.stopped ≡ true → turn ≡ 2
+
 pub sees_all : (next : List Entry) (ns : List ℕ) → Sees next ns next
 sees_all next ns = (prefix_self next, λ i has. refl)
 
@@ -113,6 +121,21 @@ module _ {O : Type 0} (piece : Pieces) (out : O → Outgo) where
   pub same_views : (o : Base) (s : Table) (id : ℕ) (v : View) → get_elem? s.views id ≡ m.some v → Keep o s → Keep o (record { words = s.words; homes = s.homes; views = set s.views id v })
   same_views o s id v at k = subst (λ (vs : List View). Keep o (record { words = s.words; homes = s.homes; views = vs })) (sym (set_again s.views id v at)) k
 
+  -- no view knows of a stop where the turn is not 2
+  going : (o : Base) (s : Table) (k : Keep o s) (turn n : ℕ) → s.words ≡ turn ∷ n ∷ [] → turn ≢ 2 → (by : ℕ) (v : View) → get_elem? s.views by ≡ m.some v → v.stopped ≡ true → ⊥
+  going o s k turn n words other by v at stopped = other (sym (ap (λ ws. slice_index ws 0) words) ∙ k.stops by v at stopped)
+
+  -- where the turn is 2 nobody has it
+  pub stays_stopped : (o : Base) (s : Table) → Keep o s → slice_index s.words 0 ≡ 2 → NobodyHas s
+  stays_stopped o s k two =
+      ⊎_elim
+      (λ (home : AtHome piece out o k.history s). home.none)
+      (λ (held : IsHeld k.history s). absurd (not_both (slice_index s.words 0) (ap (λ ws. slice_index ws 0) held.3.words) two))
+      k.place
+    where
+      not_both : (n : ℕ) → n ≡ 1 → n ≡ 2 → ⊥
+      not_both n one two = omega (arith, one, two)
+
   -- the turn is taken
   module _ (o : Base) (slots : ℕ) (s : Table) (k : Keep o s) (id : ℕ) (v : View) (at : get_elem? s.views id ≡ m.some v) (is : v.phase ≡ Idle) (voice : (i : ℕ) × Has i v.numbers × Within v.base i) where
     abbrev Taken : List ℕ → List (m.Option (Option B)) → Type 0
@@ -121,8 +144,8 @@ module _ {O : Type 0} (piece : Pieces) (out : O → Outgo) where
     live : is_spent v.phase ≡ false
     live = ap is_spent is
 
-    free : (home : AtHome piece out o k.history s) → Taken (0 ∷ length k.history ∷ []) (m.some (Some home.book) ∷ [])
-    free home =
+    free : (home : AtHome piece out o k.history s) → s.words ≡ 0 ∷ length k.history ∷ [] → Taken (0 ∷ length k.history ∷ []) (m.some (Some home.book) ∷ [])
+    free home words =
         let fit = k.each id v at in
         let b = home.book in
         let next = b.history in
@@ -137,6 +160,9 @@ module _ {O : Type 0} (piece : Pieces) (out : O → Outgo) where
             each = all_set (Fits o h k.who) s.views id (holding v next) (λ j u apart e. k.each j u e) (fits_holding o h k.who id v next live fit);
             some_one = voices_set o k.who s.views id v (holding v next) at (carries v (holding v next) (ap taken_numbers is) refl) k.some_one;
             round = k.round;
+            stops = all_set (λ j u. Tells 1 u) s.views id (holding v next)
+                (λ j u apart e stopped. absurd (going o s k 0 (length k.history) words (λ two. omega arith) j u e stopped))
+                (λ e. let no : false ≡ true = e in absurd (cc (no)));
             place = inr (
               id,
               holding v next,
@@ -159,20 +185,51 @@ module _ {O : Type 0} (piece : Pieces) (out : O → Outgo) where
               subst (λ (p : Base × List Entry). Written piece out p.0 p.1 b) (λ i. (sym (fit.base live) i, sym same i)) home.written,
               subst (λ l. Sees l v.numbers v.seen) (sym same) fit.sees,
             )),
-            (λ apart. absurd (apart refl)),
+            (λ found. false_from_ne_true v.stopped (going o s k 0 (length k.history) words (λ two. omega arith) id v at)),
+            (λ found. clash 0 refl found),
+            (λ apart other. absurd (apart refl)),
           ),
         )
 
-    -- the turn is another's, or the shelf is stopped
-    refused : (turn n : ℕ) → turn ≢ 0 → (turn == 0) ≡ false → s.words ≡ turn ∷ n ∷ [] → Taken s.words s.homes
-    refused turn n apart other words =
+    -- the turn is at 2, and the view knows that from now on
+    halts : (home : AtHome piece out o k.history s) → Taken (2 ∷ length k.history ∷ []) (m.some (Some home.book) ∷ [])
+    halts home =
+        let fit = k.each id v at in
+        let h = k.history in
+        let w = idle_as true v v.seen in (
+          w,
+          keeps,
+          tt,
+          record {
+            history = h;
+            who = k.who;
+            each = all_set (Fits o h k.who) s.views id w (λ j u apart e. k.each j u e) (record { base = λ _. fit.base live; sees = fit.sees; takes = sees_none h; speaks = fit.speaks; speaks_too = λ i b. absurd b });
+            some_one = voices_set o k.who s.views id v w at (carries v w (ap taken_numbers is) refl) k.some_one;
+            round = k.round;
+            stops = λ j u e stopped. refl;
+            place = inl (record {
+              turn = 2;
+              free = inr refl;
+              words = refl;
+              book = home.book;
+              homes = refl;
+              written = home.written;
+              none = all_set (λ j u. next_of u.phase ≡ None) s.views id w (λ j u apart e. home.none j u e) refl;
+            });
+          },
+          ((λ found. clash 2 found refl), (λ found. clash 2 found refl), (λ found. refl), (λ apart other. absurd (other refl))),
+        )
+
+    -- the turn is another's
+    refused : (turn n : ℕ) → turn ≢ 0 → turn ≢ 2 → (turn == 0) ≡ false → s.words ≡ turn ∷ n ∷ [] → Taken s.words s.homes
+    refused turn n apart going_on other words =
         let P : List ℕ → Type 0 = λ ws. Keep o (record { words = ws; homes = s.homes; views = s.views }) → Taken ws s.homes in
         subst P (sym words) (λ kept. (
           v,
           keeps,
           tt,
           subst (λ (b : Bool). Keep o (record { words = either b 1 turn ∷ n ∷ []; homes = s.homes; views = set s.views id v })) (sym other) (same_views o (record { words = turn ∷ n ∷ []; homes = s.homes; views = s.views }) id v at kept),
-          ((λ found. absurd (apart found)), (λ _. refl)),
+          ((λ found. absurd (apart found)), (λ found. absurd (apart found)), (λ found. absurd (going_on found)), (λ _ _. refl)),
         )) k
 
     taken : Taken s.words s.homes
@@ -180,10 +237,14 @@ module _ {O : Type 0} (piece : Pieces) (out : O → Outgo) where
         ⊎_elim
         (λ (home : AtHome piece out o k.history s).
         ⊎_elim
-        (λ (none : home.turn ≡ 0). at_words o s id (v, []) 0 (λ n. either (n == 0) 1 n) (Takes piece out (step slots 0 0 1 m.none) (v, [])) _ _ (home.words ∙ ap (λ t. t ∷ length k.history ∷ []) none) home.homes (free home))
-        (λ (two : home.turn ≡ 2). refused 2 (length k.history) (λ e. omega arith) refl (home.words ∙ ap (λ t. t ∷ length k.history ∷ []) two))
+        (λ (none : home.turn ≡ 0).
+        let words = home.words ∙ ap (λ t. t ∷ length k.history ∷ []) none in
+        at_words o s id (v, []) 0 (λ n. either (n == 0) 1 n) (Takes piece out (step slots 0 0 1 m.none) (v, [])) _ _ words home.homes (free home words))
+        (λ (two : home.turn ≡ 2).
+        let words = home.words ∙ ap (λ t. t ∷ length k.history ∷ []) two in
+        at_words o s id (v, []) 0 (λ n. either (n == 0) 1 n) (Takes piece out (step slots 0 0 1 m.none) (v, [])) _ _ words home.homes (halts home))
         home.free)
-        (λ (held : IsHeld k.history s). refused 1 (length held.2) (λ e. omega arith) refl held.3.words)
+        (λ (held : IsHeld k.history s). refused 1 (length held.2) (λ e. omega arith) (λ e. omega arith) refl held.3.words)
         k.place
 
   pub takes_turn : (o : Base) (slots : ℕ) (id : ℕ) (v : View) → v.phase ≡ Idle → (i : ℕ) × Has i v.numbers × Within v.base i → Allows (Keep o) slots id (v, []) 0 (λ n. either (n == 0) 1 n) (Takes piece out (step slots 0 0 1 m.none) (v, []))
@@ -206,6 +267,9 @@ module _ {O : Type 0} (piece : Pieces) (out : O → Outgo) where
           each = all_set (Fits o h k.who) s.views id (holding v b.history) (λ j u apart at'. k.each j u at') (fits_holding o h k.who id v b.history (ap is_spent is) (k.each id v at));
           some_one = voices_set o k.who s.views id v (holding v b.history) at (carries v (holding v b.history) (ap taken_numbers is) refl) k.some_one;
           round = k.round;
+          stops = all_set (λ j u. Tells 1 u) s.views id (holding v b.history)
+              (λ j u apart e stopped. absurd (going o s k 1 (length next) held.words (λ two. omega arith) j u e stopped))
+              (λ e. let no : false ≡ true = e in absurd (cc (no)));
           place = inr (
             id,
             holding v b.history,
@@ -233,7 +297,7 @@ module _ {O : Type 0} (piece : Pieces) (out : O → Outgo) where
       let held = holder o s k id v next at (ap next_of is) in
       let h = k.history in
       let fit = k.each id v at in
-      let w = idle v b.history in
+      let w = idle_as (turn == 2) v b.history in
       at_words o s id (v, (0, Some b) ∷ []) 0 (λ _. turn) (GivesBack (step slots 0 turn 0 m.none) (v, (0, Some b) ∷ [])) _ _ held.words (held.homes ∙ ap (λ p. place_of {O = O} p ∷ []) is) (
         w,
         gives,
@@ -252,6 +316,12 @@ module _ {O : Type 0} (piece : Pieces) (out : O → Outgo) where
               (record { base = λ _. fit.base live; sees = sees_all next v.numbers; takes = sees_none next; speaks = fit.speaks; speaks_too = λ i x. absurd x });
           some_one = voices_set o k.who s.views id v (w) at (carries v (w) (ap taken_numbers is) refl) k.some_one;
           round = subst (λ (x : Base). Rounded x next) (fit.base live) written.round;
+          stops = all_set (λ j u. Tells turn u) s.views id w
+              (λ j u apart e stopped. absurd (going o s k 1 (length next) held.words (λ two. omega arith) j u e stopped))
+              (λ stopped. ⊎_elim
+              (λ (zero : turn ≡ 0). let no : false ≡ true = sym (ap (λ (n : ℕ). n == 2) zero) ∙ stopped in absurd (cc (no)))
+              (λ (two : turn ≡ 2). two)
+              free);
           place = inl (record {
             turn = turn;
             free = free;
@@ -282,6 +352,9 @@ module _ {O : Type 0} (piece : Pieces) (out : O → Outgo) where
           each = all_set (Fits o h k.who) s.views id (holding v next) (λ j u apart at'. k.each j u at') (fits_holding o h k.who id v next (ap is_spent is) (k.each id v at));
           some_one = voices_set o k.who s.views id v (holding v next) at (carries v (holding v next) (ap taken_numbers is) refl) k.some_one;
           round = k.round;
+          stops = all_set (λ j u. Tells 1 u) s.views id (holding v next)
+              (λ j u apart e stopped. absurd (going o s k 1 (length next) held.words (λ two. omega arith) j u e stopped))
+              (λ e. let no : false ≡ true = e in absurd (cc (no)));
           place = inr (
             id,
             holding v next,

@@ -1,5 +1,5 @@
 -- The steps, at a seat as it stands.
-use Rattle.std.proofs.Common.{◌≡◌, ◌≢◌, ◌⊎◌, ⊎_elim, ℕ, zero, suc, ◌+◌, ◌-◌, ◌<◌, ◌≤◌, List, [], ◌∷◌, ◌++◌, length, get_or, Option, Some, None, append-nil, refl, sym, ap, ◌∙◌, subst, inl, arith, append_assoc}
+use Rattle.std.proofs.Common.{◌≡◌, ◌≢◌, ◌⊎◌, ⊎_elim, ℕ, zero, suc, ◌+◌, ◌-◌, ◌<◌, ◌≤◌, Bool, true, List, [], ◌∷◌, ◌++◌, length, get_or, Option, Some, None, append-nil, refl, sym, ap, ◌∙◌, subst, inl, arith, append_assoc}
 use Rattle.std.specs.Prelude.{◌==◌}
 use mathlib.Core.Option as m
 use prog.Atomic.{either}
@@ -22,9 +22,9 @@ use Rattle.machine_desk.proofs.Keeping.{kept_none, kept_next, continues_refl, re
 use Rattle.trace_book.specs.declared.view.Base.{Base}
 use Rattle.trace_book.specs.declared.view.View.{View}
 use Rattle.trace_book.specs.declared.view.Phase.TheVariants.{Idle, New}
-use Rattle.trace_book.specs.Views.{Has, Within, AllWithin, Rounded, base_of, outgo_of, first_view, numbers_from, view, holding, idle, joined, new_view}
+use Rattle.trace_book.specs.Views.{Has, Within, AllWithin, Rounded, base_of, outgo_of, first_view, numbers_from, view, holding, idle, idle_as, joined, new_view}
 use Rattle.trace_book.specs.Rule.{Sees, Shelved, Written}
-use Rattle.trace_book.specs.Plays.{Seated, Fills, Takes, Took, Notes, GivesBack, Merges, history_out}
+use Rattle.trace_book.specs.Plays.{Seated, Fills, Takes, Took, Notes, GivesBack, Merges, refused, history_out}
 use Rattle.trace_book.specs.Seats.{Rests, Ready, Busy, MayMake, entry, longer_by, Made, Noted}
 use Rattle.trace_book.specs.Told.{TableId, Told, told, view_in, new_pass, new_passes, seat_sight}
 use Rattle.trace_book.proofs.Keeps.{takes_turn, notes_entry, gives_back, fills_slot}
@@ -46,13 +46,13 @@ module _ {O : Type 0} (piece : Pieces) (out : O → Outgo) where
   abbrev At : Base → ℕ → ℕ → Seated O → ℕ → (ℕ → ℕ) → (ℕ → Seated O → Type 0) → Type 0
   At root slots id me i f then = Allows (Shelved piece out root) slots id me i f then
 
-  pub seat_is : (me : Seated O) (t : ℕ) → Ready me t → me ≡ (idle me.0 me.0.seen, [])
+  pub seat_is : (me : Seated O) (t : ℕ) → Ready me t → me ≡ (idle_as me.0.stopped me.0 me.0.seen, [])
   seat_is me t ready i = (ready.0.idle i, ready.1 i)
 
   pub takes_from : (root : Base) (slots id : ℕ) (me : Seated O) (t : ℕ) → Ready me t → At root slots id me 0 (λ n. either (n == 0) 1 n) (Takes piece out (step slots 0 0 1 m.none) me)
   takes_from root slots id me t ready =
       subst (λ (x : Seated O). At root slots id x 0 (λ n. either (n == 0) 1 n) (Takes piece out (step slots 0 0 1 m.none) x)) (sym (seat_is me t ready))
-      (takes_turn piece out root slots id (idle me.0 me.0.seen) refl (t, ready.0.number, ready.0.within))
+      (takes_turn piece out root slots id (idle_as me.0.stopped me.0 me.0.seen) refl (t, ready.0.number, ready.0.within))
 
   pub gives_from : (root : Base) (slots id : ℕ) (me : Seated O) (turn : ℕ) → Busy piece out me → (turn ≡ 0) ⊎ (turn ≡ 2) → At root slots id me 0 (λ _. turn) (GivesBack (step slots 0 turn 0 m.none) me)
   gives_from root slots id me turn busy free =
@@ -217,30 +217,25 @@ module _ {O : Type 0} (piece : Pieces) (out : O → Outgo) where
       )
 
   -- the same where no entry was made
-  pub looked : (z : TableId) (v : View) (me after : Seated O) (t : ℕ) (b : BoundTo O) → Rests v t → me ≡ (holding v b.history, (0, Some b) ∷ []) → Written piece out v.base b.history b → Sees b.history v.numbers v.seen
-      → after ≡ (idle me.0 (history_out me.1), []) → Ready after t × Continues (seat_sight z t v) (seat_sight z t after.0) × (own t after.0.seen ≡ own t v.seen)
-  looked z v me after t b rests is written sees gave =
+  pub looked : (z : TableId) (stopped : Bool) (v : View) (me after : Seated O) (t : ℕ) (b : BoundTo O) → Rests v t → me ≡ (holding v b.history, (0, Some b) ∷ []) → Written piece out v.base b.history b → Sees b.history v.numbers v.seen
+      → after ≡ (idle_as stopped me.0 (history_out me.1), []) → Ready after t × Continues (seat_sight z t v) (seat_sight z t after.0) × (own t after.0.seen ≡ own t v.seen)
+  looked z stopped v me after t b rests is written sees gave =
       let h = b.history in
-      let all : after ≡ (idle v h, []) = gave ∙ ap (λ (y : Seated O). (idle y.0 (history_out y.1), [])) is in
+      let all : after ≡ (idle_as stopped v h, []) = gave ∙ ap (λ (y : Seated O). (idle_as stopped y.0 (history_out y.1), [])) is in
       subst (λ (y : Seated O). Ready y t × Continues (seat_sight z t v) (seat_sight z t y.0) × (own t y.0.seen ≡ own t v.seen)) (sym all) (
         (record { idle = refl; number = rests.number; within = rests.within; round = written.round }, refl),
         record { opening = refl; number = refl; place = refl; seen = record { rest = sees.0.0; joined = sees.0.1 }; keeps = tt },
         sym (sees.1 t rests.number),
       )
 
-  -- what a call that did nothing leaves behind
-  pub stayed : (z : TableId) (me after : Seated O) (t : ℕ) → Ready me t → after ≡ me → Ready after t × Continues (seat_sight z t me.0) (seat_sight z t after.0) × (own t after.0.seen ≡ own t me.0.seen)
-  stayed z me after t ready same =
-      subst (λ (x : Seated O). Ready x t × Continues (seat_sight z t me.0) (seat_sight z t x.0) × (own t x.0.seen ≡ own t me.0.seen)) (sym same) (ready, continues_refl (seat_sight z t me.0), refl)
-
   -- the same two after the turn was taken
   pub called_from : (z : TableId) (me took_me after : Seated O) (t : ℕ) (e : Event) (r : Reply) → Ready me t → Took piece out me took_me
       → after ≡ (idle took_me.0 (longer_by took_me t e r), []) → Made took_me t e r → Ready after t × Continues (seat_sight z t me.0) (seat_sight z t after.0) × Gains (seat_sight z t me.0) (seat_sight z t after.0) e r
   called_from z me took_me after t e r ready took gave made = called z me.0 took_me after t e r took.0 ready.0 took.1 took.3 gave made
 
-  pub looked_from : (z : TableId) (me took_me after : Seated O) (t : ℕ) → Ready me t → Took piece out me took_me
-      → after ≡ (idle took_me.0 (history_out took_me.1), []) → Ready after t × Continues (seat_sight z t me.0) (seat_sight z t after.0) × (own t after.0.seen ≡ own t me.0.seen)
-  looked_from z me took_me after t ready took gave = looked z me.0 took_me after t took.0 ready.0 took.1 took.2 took.3 gave
+  pub looked_from : (z : TableId) (stopped : Bool) (me took_me after : Seated O) (t : ℕ) → Ready me t → Took piece out me took_me
+      → after ≡ (idle_as stopped took_me.0 (history_out took_me.1), []) → Ready after t × Continues (seat_sight z t me.0) (seat_sight z t after.0) × (own t after.0.seen ≡ own t me.0.seen)
+  looked_from z stopped me took_me after t ready took gave = looked z stopped me.0 took_me after t took.0 ready.0 took.1 took.2 took.3 gave
 
 pub numbers_above : (i k n : ℕ) → Has i (numbers_from k n) → k ≤ i
 numbers_above i k zero has = absurd has
@@ -268,6 +263,23 @@ pub passes_more : (z : TableId) (o : Base) (k i : ℕ) (old new : List Told) (p 
 passes_more z o k i old new p are grew is = grew ∙ ((λ j. are j ++ is j ∷ []) ∙ sym (new_passes-push z o k i))
 
 module _ {O : Type 0} where
+  -- what a call that found the shelf stopped leaves behind
+  pub turned_away : (z : TableId) (me after : Seated O) (t : ℕ) → Ready me t → after ≡ refused me → Ready after t × Continues (seat_sight z t me.0) (seat_sight z t after.0) × (own t after.0.seen ≡ own t me.0.seen)
+  turned_away z me after t ready is =
+      subst (λ (x : Seated O). Ready x t × Continues (seat_sight z t me.0) (seat_sight z t x.0) × (own t x.0.seen ≡ own t me.0.seen)) (sym is) (
+        (record { idle = refl; number = ready.0.number; within = ready.0.within; round = ready.0.round }, ready.1),
+        continues_refl (seat_sight z t me.0),
+        refl,
+      )
+
+  -- it knows of the stop
+  pub knows_stop : (me after : Seated O) → after ≡ refused me → after.0.stopped ≡ true
+  knows_stop me after is = ap (λ (x : Seated O). x.0.stopped) is
+
+  -- and so does one that gave the turn back at 2
+  pub knows_own_stop : (me after : Seated O) (seen : List Entry) → after ≡ (idle_as true me.0 seen, []) → after.0.stopped ≡ true
+  knows_own_stop me after seen is = ap (λ (x : Seated O). x.0.stopped) is
+
   pub named_again : (me : Seated O) (o : Base) (ns : List ℕ) (h : List Entry) → me ≡ (view o ns h Idle, []) → me ≡ (view me.0.base ns me.0.seen Idle, [])
   named_again me o ns h is =
       is ∙ (λ i. (view (sym (ap (λ (x : Seated O). x.0.base) is) i) ns (sym (ap (λ (x : Seated O). x.0.seen) is) i) Idle, []))

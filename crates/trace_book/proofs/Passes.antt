@@ -21,7 +21,7 @@ use Rattle.trace_book.proofs.Owns.{own_append, own_has, own_tail}
 use Rattle.trace_book.specs.declared.view.View.{View}
 use Rattle.trace_book.specs.declared.view.Phase.{Phase}
 use Rattle.trace_book.specs.declared.view.Phase.TheVariants.{New, Idle, Holding, Joined, Spent}
-use Rattle.trace_book.specs.Views.{Has, Within, AllWithin, Rounded, Opened, base_of, view, next_of, is_spent, taken_numbers, new_view, first_view, numbers_from, kept_of, handed, joined, spent, longer, longer_if}
+use Rattle.trace_book.specs.Views.{Has, Within, AllWithin, Rounded, Opened, base_of, view, view_as, next_of, is_spent, taken_numbers, new_view, first_view, numbers_from, kept_of, handed, joined, spent, longer, longer_if}
 use Rattle.trace_book.specs.Rule.{Sees, Speaks, Fits, Written, AtHome, IsHeld, Shelved, Holds, Voices}
 use Rattle.trace_book.specs.Plays.{Merges}
 use Rattle.trace_book.proofs.Beginnings.{rest_same, prefix_self, prefix_shorter, prefix_length, prefix_whole, all_set, at_end, set_at}
@@ -54,6 +54,7 @@ module _ {O : Type 0} (piece : Pieces) (out : O → Outgo) where
         each = one o v fits;
         some_one = λ i within. (v, refl, inl (round_numbers o i within));
         round = record { since = []; joined = append-nil o.first; each = tt };
+        stops = λ by u e stopped. starts v refl 1 by u e stopped;
         place = inr (
           0,
           v,
@@ -73,6 +74,13 @@ module _ {O : Type 0} (piece : Pieces) (out : O → Outgo) where
       first : (k n : ℕ) → 0 < n → Has k (numbers_from k n)
       first k zero h = absurd (omega arith)
       first k (suc n) h = inl refl
+
+      starts : (w : View) → w.stopped ≡ false → (turn by : ℕ) (v : View) → get_elem? (w ∷ []) by ≡ m.some v → v.stopped ≡ true → turn ≡ 2
+      starts w going turn zero v e stopped =
+          let same : w.stopped ≡ v.stopped = ap (λ (u : View). u.stopped) (m.some-injective _ _ e) in
+          let bad : false ≡ true = sym going ∙ (same ∙ stopped) in
+          absurd (cc bad)
+      starts w going turn (suc by) v e stopped = absurd (m.some-ne-none v (sym e))
 
       one : (o : Base) (w : View) → Fits o o.first (λ i. 0) 0 w → (by : ℕ) (v : View) → get_elem? (w ∷ []) by ≡ m.some v → Fits o o.first (λ i. 0) by v
       one o w fits zero v e = subst (Fits o o.first (λ i. 0) 0) (m.some-injective _ _ e) fits
@@ -271,6 +279,13 @@ module _ {O : Type 0} (piece : Pieces) (out : O → Outgo) where
             (at_end cut right u j at');
         some_one = split_voices;
         round = kept.round;
+        stops = λ by u e stopped. ⊎_elim
+            (λ old. all_set (λ j x. x.stopped ≡ true → slice_index s.words 0 ≡ 2) s.views id left
+            (λ j x other e' stopped'. kept.stops j x e' stopped')
+            (λ e'. let no : false ≡ true = e' in absurd (cc (no)))
+            by u old stopped)
+            (λ (x : (by ≡ length cut) × (right ≡ u)). let no : false ≡ u.stopped = ap (λ (y : View). y.stopped) x.1 in absurd (cc (no, stopped)))
+            (at_end cut right u by e);
         place = place_kept root h s (cut ++ right ∷ [])
             (λ by u busy at'. at_longer cut (right ∷ []) by u (set_else s.views id by left (λ same. busy (ap (λ (x : View). next_of x.phase) (m.some-injective u v (sym at' ∙ (ap (λ q. get_elem? s.views q) same ∙ at))))) ∙ at'))
             (λ by u at'. ⊎_elim
@@ -287,11 +302,11 @@ module _ {O : Type 0} (piece : Pieces) (out : O → Outgo) where
   splits_off root id v o k ns seen is apart = subst (λ (u : View). Splits (Keep root) id u (kept_of u) (handed u)) (sym is) (splits_plain root id o k ns seen apart)
 
   -- a view that does not have the turn takes in another
-  joins_plain : (root : Base) (id : ℕ) (o : Base) (ns : List ℕ) (seen : List Entry) (other : ℕ) (o' : Base) (ns' : List ℕ) (seen' : List Entry)
-      → Joins (Keep root) id (view o ns seen Idle) other (view o' ns' seen' Idle) (view o ns seen (Joined ns' seen')) spent
-  joins_plain root id o ns seen other o' ns' seen' s kept at apart at' =
-      let v : View = view o ns seen Idle in
-      let w : View = view o' ns' seen' Idle in
+  joins_plain : (root : Base) (id : ℕ) (b : Bool) (o : Base) (ns : List ℕ) (seen : List Entry) (other : ℕ) (b' : Bool) (o' : Base) (ns' : List ℕ) (seen' : List Entry)
+      → Joins (Keep root) id (view_as b o ns seen Idle) other (view_as b' o' ns' seen' Idle) (view o ns seen (Joined ns' seen')) spent
+  joins_plain root id b o ns seen other b' o' ns' seen' s kept at apart at' =
+      let v : View = view_as b o ns seen Idle in
+      let w : View = view_as b' o' ns' seen' Idle in
       let both : View = view o ns seen (Joined ns' seen') in
       let h = kept.history in
       let who = passed kept.who other id in
@@ -343,6 +358,12 @@ module _ {O : Type 0} (piece : Pieces) (out : O → Outgo) where
         each = all_set (Fits root h who) joined other spent (λ j u no e. each_both j u e no) fits_spent;
         some_one = join_voices;
         round = kept.round;
+        stops = all_set (λ j x. x.stopped ≡ true → slice_index s.words 0 ≡ 2) joined other spent
+            (λ j x no e stopped. all_set (λ j' x'. x'.stopped ≡ true → slice_index s.words 0 ≡ 2) s.views id both
+            (λ j' x' no' e' stopped'. kept.stops j' x' e' stopped')
+            (λ e'. let none : false ≡ true = e' in absurd (cc (none)))
+            j x e stopped)
+            (λ e. let none : false ≡ true = e in absurd (cc (none)));
         place = place_kept root h s views
             (λ by u busy e.
             let not_id : by ≢ id = λ same. busy (ap (λ (x : View). next_of x.phase) (m.some-injective u v (sym e ∙ (ap (λ q. get_elem? s.views q) same ∙ at)))) in
@@ -354,9 +375,10 @@ module _ {O : Type 0} (piece : Pieces) (out : O → Outgo) where
             kept.place;
       }
 
-  pub joins_in : (root : Base) (id : ℕ) (v : View) (other : ℕ) (w : View) (o : Base) (ns : List ℕ) (seen : List Entry) (o' : Base) (ns' : List ℕ) (seen' : List Entry)
-      → v ≡ view o ns seen Idle → w ≡ view o' ns' seen' Idle → Joins (Keep root) id v other w (joined v w) spent
-  joins_in root id v other w o ns seen o' ns' seen' is is' = subst (λ (p : View × View). Joins (Keep root) id p.0 other p.1 (joined p.0 p.1) spent) (λ i. (sym is i, sym is' i)) (joins_plain root id o ns seen other o' ns' seen')
+  pub joins_in : (root : Base) (id : ℕ) (v : View) (other : ℕ) (w : View) (b : Bool) (o : Base) (ns : List ℕ) (seen : List Entry) (b' : Bool) (o' : Base) (ns' : List ℕ) (seen' : List Entry)
+      → v ≡ view_as b o ns seen Idle → w ≡ view_as b' o' ns' seen' Idle → Joins (Keep root) id v other w (joined v w) spent
+  joins_in root id v other w b o ns seen b' o' ns' seen' is is' =
+      subst (λ (p : View × View). Joins (Keep root) id p.0 other p.1 (joined p.0 p.1) spent) (λ i. (sym is i, sym is' i)) (joins_plain root id b o ns seen other b' o' ns' seen')
 
   -- the numbers and the beginning of the other view are taken in
   merges_plain : (root : Base) (slots : ℕ) (id : ℕ) (o : Base) (ns : List ℕ) (seen : List Entry) (ns' : List ℕ) (seen' : List Entry)
@@ -381,6 +403,9 @@ module _ {O : Type 0} (piece : Pieces) (out : O → Outgo) where
         each = all_set (Fits root h k.who) s.views id w (λ j u no e. k.each j u e) fits_w;
         some_one = voices_set root k.who s.views id v w at (λ i has. inl (⊎_elim (λ a. has_first i ns ns' a) (λ b. has_second i ns ns' b) has)) k.some_one;
         round = k.round;
+        stops = all_set (λ j x. x.stopped ≡ true → slice_index s.words 0 ≡ 2) s.views id w
+            (λ j x no e stopped. k.stops j x e stopped)
+            (λ e. let none : false ≡ true = e in absurd (cc (none)));
         place = place_kept root h s views
             (λ by u busy e. set_else s.views id by w (λ same. busy (ap (λ (x : View). next_of x.phase) (m.some-injective u v (sym e ∙ (ap (λ q. get_elem? s.views q) same ∙ at))))) ∙ e)
             (all_set (λ j x. (next_of x.phase ≡ None) ⊎ (get_elem? s.views j ≡ m.some x)) s.views id w (λ j x no e. inr e) (inl refl))

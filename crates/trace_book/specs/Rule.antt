@@ -1,5 +1,5 @@
 -- The rule of a shelf: one history, of which each view has seen a beginning, and one turn.
-use Rattle.std.specs.Prelude.{◌≡◌, ℕ, ◌⊎◌, List, [], ◌∷◌, ◌++◌, length, false, Option, Some, None}
+use Rattle.std.specs.Prelude.{◌≡◌, ℕ, ◌⊎◌, List, [], ◌∷◌, ◌++◌, length, slice_index, true, false, Option, Some, None}
 use mathlib.Core.Option as m
 use mathlib.Core.List.{IsPrefix}
 use lib.ListN.{get_elem?}
@@ -63,6 +63,10 @@ module _ {O : Type 0} where
   abbrev pub IsHeld : List Entry → State (Option (BoundTo O)) View → Type 0
   IsHeld h s = (by : ℕ) × (v : View) × (next : List Entry) × Held h by v next s
 
+  -- no view has the turn
+  abbrev pub NobodyHas : State (Option (BoundTo O)) View → Type 0
+  NobodyHas s = (by : ℕ) (v : View) → get_elem? s.views by ≡ m.some v → next_of v.phase ≡ None
+
 module _ {O : Type 0} (piece : Pieces) (out : O → Outgo) where
   -- the book has this history, and its outlet kept up with what that gained since the shelf was opened
   pub record Written (o : Base) (h : List Entry) (b : BoundTo O) : Type 0 where
@@ -79,16 +83,17 @@ module _ {O : Type 0} (piece : Pieces) (out : O → Outgo) where
     pub book : BoundTo O
     pub homes : s.homes ≡ m.some (Some book) ∷ []
     pub written : Written o h book
-    pub none : (by : ℕ) (v : View) → get_elem? s.views by ≡ m.some v → next_of v.phase ≡ None
+    pub none : NobodyHas s
 
-  -- what holds of a shelf after every step: its views fit one history of the round, each number is spoken for, and
-  -- either nobody has the turn or one view has it
+  -- what holds of a shelf after every step: its views fit one history of the round, each number is spoken for, the turn
+  -- is 2 where a view knows of a stop, and either nobody has the turn or one view has it
   pub record Shelved (o : Base) (s : State (Option (BoundTo O)) View) : Type 0 where
     pub history : List Entry
     pub who : ℕ → ℕ
     pub each : (by : ℕ) (v : View) → get_elem? s.views by ≡ m.some v → Fits o history who by v
     pub some_one : Voices o who s.views
     pub round : Rounded o history
+    pub stops : (by : ℕ) (v : View) → get_elem? s.views by ≡ m.some v → v.stopped ≡ true → slice_index s.words 0 ≡ 2
     pub place : AtHome o history s ⊎ IsHeld history s
 
   -- the same, of a shelf that was opened with this

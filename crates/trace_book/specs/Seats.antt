@@ -1,5 +1,5 @@
 -- What the seat of a pass is, between calls and while it has the turn, and what is told of a step at it.
-use Rattle.std.specs.Prelude.{◌≡◌, ℕ, Bool, List, [], ◌∷◌, ◌++◌, Some}
+use Rattle.std.specs.Prelude.{◌≡◌, ℕ, Bool, true, false, List, [], ◌∷◌, ◌++◌, Some}
 use Rattle.machine_events.specs.declared.event.Event.{Event}
 use Rattle.machine_events.specs.declared.event.Event.TheVariants.{Wake}
 use Rattle.machine_events.specs.declared.event.Reply.{Reply}
@@ -15,14 +15,14 @@ use Rattle.machine_desk.specs.Sight.{Continues, Gains}
 use Rattle.trace_book.specs.declared.view.Base.{Base}
 use Rattle.trace_book.specs.declared.view.View.{View}
 use Rattle.trace_book.specs.declared.view.Phase.TheVariants.{Idle}
-use Rattle.trace_book.specs.Views.{Has, Within, Rounded, view, holding, idle, longer}
+use Rattle.trace_book.specs.Views.{Has, Within, Rounded, view, holding, idle_as, longer}
 use Rattle.trace_book.specs.Told.{TableId, seat_sight}
 use Rattle.trace_book.specs.Rule.{Written, Sees}
 use Rattle.trace_book.specs.Plays.{Seated, history_out}
 
 -- a view between calls: t is among its numbers and of the round, and what was seen is of the round too
 pub record Rests (v : View) (t : ℕ) : Type 0 where
-  pub idle : v ≡ idle v v.seen
+  pub idle : v ≡ idle_as v.stopped v v.seen
   pub number : Has t v.numbers
   pub within : Within v.base t
   pub round : Rounded v.base v.seen
@@ -74,9 +74,17 @@ may_wake me t = allowed (replay me.0.base.opening (history_out me.1)) t Wake
 abbrev pub wakes_after : {O : Type 0} → Seated O → ℕ → Bool
 wakes_after me t = allowed (replay me.0.base.opening me.0.seen) t Wake
 
--- the seat without the turn, which has seen these entries
+-- the seat without the turn, which has seen these entries, and knows or does not know that the shelf is stopped
+abbrev pub resting_as : {O : Type 0} → Bool → Seated O → List Entry → Seated O
+resting_as stopped me seen = (idle_as stopped me.0 seen, [])
+
+-- the same where it knows of no stop
 abbrev pub resting : {O : Type 0} → Seated O → List Entry → Seated O
-resting me seen = (idle me.0 seen, [])
+resting me seen = resting_as false me seen
+
+-- a seat that knows that the shelf is stopped
+abbrev pub Stopped : {O : Type 0} → Seated O → Type 0
+Stopped me = me.0.stopped ≡ true
 
 -- the seat without the turn, which speaks for these numbers
 abbrev pub speaking : {O : Type 0} → Seated O → List ℕ → Seated O

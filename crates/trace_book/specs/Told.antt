@@ -1,5 +1,5 @@
 -- Passes as contracts see them.
-use Rattle.std.specs.Prelude.{◌≡◌, ℕ, zero, suc, List, [], ◌∷◌, None}
+use Rattle.std.specs.Prelude.{◌≡◌, ℕ, zero, suc, Bool, false, List, [], ◌∷◌, None}
 pub use Rattle.atomic_table.specs.Seated.{TableId}
 use Rattle.machine_events.specs.declared.event.Event.{Event}
 use Rattle.machine_events.specs.declared.event.Reply.{Reply}
@@ -12,17 +12,19 @@ use Rattle.trace_book.specs.declared.view.View.{View}
 use Rattle.trace_book.specs.declared.place.Place.{Place}
 use Rattle.trace_book.specs.Views.{Opened, base_of, spent}
 
--- of which shelf a pass is, what that was opened with, its number, the numbers that it speaks for, and what it has seen
+-- of which shelf a pass is, what that was opened with, its number, the numbers that it speaks for, what it has seen, and
+-- whether it knows that the shelf is stopped
 pub record Told : Type 0 where
   pub table : TableId
   pub base : Base
   pub number : ℕ
   pub numbers : List ℕ
   pub seen : List Entry
+  pub stopped : Bool
 
 -- a pass tells of its view all but whether it has the turn
 abbrev pub told : TableId → ℕ → View → Told
-told z t v = record { table = z; base = v.base; number = t; numbers = v.numbers; seen = v.seen }
+told z t v = record { table = z; base = v.base; number = t; numbers = v.numbers; seen = v.seen; stopped = v.stopped }
 
 -- the view of a pass, which has just one
 abbrev pub view_in : List View → View
@@ -35,7 +37,7 @@ mine_of p = own p.number p.seen
 
 -- a new pass speaks for its own number alone, and has seen what the shelf was opened with
 abbrev pub new_pass : TableId → Base → ℕ → Told
-new_pass z o t = record { table = z; base = o; number = t; numbers = t ∷ []; seen = o.first }
+new_pass z o t = record { table = z; base = o; number = t; numbers = t ∷ []; seen = o.first; stopped = false }
 
 -- n new passes, for the numbers from k on
 abbrev pub new_passes : TableId → Base → ℕ → ℕ → List Told

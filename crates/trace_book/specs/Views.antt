@@ -36,9 +36,13 @@ pub record Rounded (o : Base) (h : List Entry) : Type 0 where
   pub joined : o.first ++ since ≡ h
   pub each : AllWithin o since
 
--- what one pass knows, and how it stands to the turn
+-- what one pass knows, whether it is among that that the shelf is stopped, and how it stands to the turn
+abbrev pub view_as : Bool → Base → List ℕ → List Entry → Phase → View
+view_as stopped o ns seen phase = record { base = o; numbers = ns; seen = seen; phase = phase; stopped = stopped }
+
+-- the same of a pass that knows of no stop
 abbrev pub view : Base → List ℕ → List Entry → Phase → View
-view o ns seen phase = record { base = o; numbers = ns; seen = seen; phase = phase }
+view o ns seen phase = view_as false o ns seen phase
 
 -- what a shelf is opened with: a book, the number of the round's first script, and how many there are
 abbrev pub Opened : Type 0 → Type 0
@@ -90,9 +94,13 @@ is_spent Spent = true
 abbrev pub holding : View → List Entry → View
 holding v next = view v.base v.numbers v.seen (Holding next)
 
--- the view is without the turn, and has seen this
+-- the view is without the turn, has seen this, and knows or does not know that the shelf is stopped
+abbrev pub idle_as : Bool → View → List Entry → View
+idle_as stopped v seen = view_as stopped v.base v.numbers seen Idle
+
+-- the same where it knows of no stop
 abbrev pub idle : View → List Entry → View
-idle v seen = view v.base v.numbers seen Idle
+idle v seen = idle_as false v seen
 
 -- the first number alone, if there is one
 abbrev pub first_of : List ℕ → List ℕ

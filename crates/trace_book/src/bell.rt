@@ -1,117 +1,156 @@
 //! Where those wait who found the turn taken, or their lock.
-ghost use Rattle.std.specs.Prelude.{◌≡◌, false, None};
-ghost use Rattle.machine_spec.specs.declared.state.State.{State};
-ghost use Rattle.machine_spec.specs.Gives.{gives};
-ghost use Rattle.trace_book.specs.Frees.{frees};
-
-use machine_events::Event;
+use spec_core::Dotted;
+use std::array;
 use std::sync::atomic::{AtomicU64, Ordering};
 use std::sync::{Condvar, Mutex, Wait};
 
-/// Where threads sleep for one thing. Who wants it counts itself in, then reads how often it rang,
-/// then looks whether the thing is there, sleeps only where it is not and it has not rung since that
-/// reading, and counts itself out at last. Who makes the thing be there rings after that, and reads
-/// the count first. No ring is lost: where that count is 0, who is counted in later looks later too,
-/// and where it is not, who has read how often it rang before this ring does not sleep, or wakes.
-/// No clause uses it.
-#[derive(Drop)]
-pub(crate) struct Chime {
-    sleepers: AtomicU64,
-    rung: Mutex<u64>,
-    woken: Condvar,
+// How many places there are to sleep at.
+const PLACES: usize = 64;
+
+// The place of those who want the turn. The names of locks share the others.
+const TURN: usize = 0;
+
+/// Where those sleep who wait for the lock of this name.
+pub(crate) fn place_of(name: &Dotted) -> usize {
+    let bytes = name.text().as_bytes().iter();
+    let mixed = bytes.fold(0usize, |mixed, byte| {
+        mixed.wrapping_mul(31).wrapping_add(*byte as usize)
+    });
+    TURN + 1 + mixed % (PLACES - 1)
 }
 
-impl Chime {
-    // A chime at which nobody sleeps.
-    fn new() -> Chime {
-        Chime {
-            sleepers: AtomicU64::new(0),
-            rung: Mutex::new(0),
-            woken: Condvar::new(),
+/// What a thread sleeps for.
+#[derive(Clone, Copy)]
+pub(crate) enum Wanted {
+    Turn,
+    Lock,
+}
+
+/// How often the bell rang for each.
+#[derive(Clone, Copy)]
+struct Rings {
+    turn: u64,
+    locks: u64,
+}
+
+impl Rings {
+    fn of(self, wanted: Wanted) -> u64 {
+        match wanted {
+            Wanted::Turn => self.turn,
+            Wanted::Lock => self.locks,
         }
     }
 
-    // Counts in one who may sleep.
-    pub(crate) fn enter(&self) {
-        self.sleepers.fetch_add(1, Ordering::SeqCst);
-    }
-
-    // Counts out one who was counted in.
-    pub(crate) fn leave(&self) {
-        self.sleepers.fetch_sub(1, Ordering::SeqCst);
-    }
-
-    // How often it has rung.
-    pub(crate) fn rung<R: Wait>(&self, rt: &R) -> u64 {
-        *self.rung.lock(rt)
-    }
-
-    // Until it has rung since `rung` was read.
-    pub(crate) fn sleep<R: Wait>(&self, rt: &R, rung: u64) {
-        let _guard = self
-            .woken
-            .wait_while(rt, self.rung.lock(rt), |now| *now == rung);
-    }
-
-    // One ring more. The Mutex is let go before anyone is woken, who will want it.
-    fn count_ring<R: Wait>(&self, rt: &R) {
-        let mut rung = self.rung.lock(rt);
-        *rung = rung.wrapping_add(1);
-    }
-
-    // Wakes one, or all. Where nobody is counted in, it only reads the count.
-    fn ring<R: Wait>(&self, rt: &R, all: bool) {
-        if self.sleepers.load(Ordering::SeqCst) == 0 {
-            return;
-        }
-        self.count_ring(rt);
-        if all {
-            self.woken.notify_all();
-        } else {
-            self.woken.notify_one();
+    fn count(&mut self, wanted: Wanted) {
+        match wanted {
+            Wanted::Turn => self.turn = self.turn.wrapping_add(1),
+            Wanted::Lock => self.locks = self.locks.wrapping_add(1),
         }
     }
 }
 
-/// A bell. It rings for those who want the turn at each giving back, and for those who wait for a
-/// lock only where one may have come free, so that they sleep till then. It rings for nobody where
-/// nobody sleeps, which takes no Mutex and no call of the system. No clause uses it.
+/// A bell. It rings for one who wants the turn at each giving back, and where a lock was given back for those at the
+/// place of its name, so that they sleep till then. It rings for nobody where nobody sleeps, which takes no Mutex and no
+/// call of the system.
+///
+/// Who wants a thing counts itself in, then reads how often the bell rang for it, then looks whether the thing is there,
+/// sleeps only where it is not and the bell has not rung since that reading, and counts itself out at last. Who makes
+/// the thing be there rings after that, and reads the count first. No ring is lost: where that count is 0, who is
+/// counted in later looks later too, and where it is not, who has read how often it rang before this ring does not
+/// sleep, or wakes. No clause uses it.
 #[derive(Drop)]
 pub struct Bell {
-    pub(crate) turn: Chime,
-    pub(crate) locks: Chime,
-}
-
-// Whether the event gives a lock back once. Any other lowers the count of no lock, whatever the state.
-pub(crate) fn frees(event: &Event) -> bool
-    ensures exact { result ≡ frees event.now }
-    ensures others { result ≡ false → (s : State) → gives s event.now ≡ None }
-{
-    match event {
-        Event::Finish { .. } => true,
-        Event::Release(_) => true,
-        Event::AddLazy { .. } => true,
-        Event::ReloadEnd { load: Some(_), .. } => true,
-        _ => false,
-    }
+    for_turn: AtomicU64,
+    for_locks: AtomicU64,
+    rings: Mutex<Rings>,
+    woken: [Condvar; PLACES],
 }
 
 impl Bell {
     /// A bell that has not rung.
     pub fn new() -> Bell {
         Bell {
-            turn: Chime::new(),
-            locks: Chime::new(),
+            for_turn: AtomicU64::new(0),
+            for_locks: AtomicU64::new(0),
+            rings: Mutex::new(Rings { turn: 0, locks: 0 }),
+            woken: array::from_fn(|_| Condvar::new()),
         }
     }
 
+    // The count of those who may sleep for it.
+    fn sleepers(&self, wanted: Wanted) -> &AtomicU64 {
+        match wanted {
+            Wanted::Turn => &self.for_turn,
+            Wanted::Lock => &self.for_locks,
+        }
+    }
+
+    // Counts in one who may sleep.
+    pub(crate) fn enter(&self, wanted: Wanted) {
+        self.sleepers(wanted).fetch_add(1, Ordering::SeqCst);
+    }
+
+    // Counts out one who was counted in.
+    pub(crate) fn leave(&self, wanted: Wanted) {
+        self.sleepers(wanted).fetch_sub(1, Ordering::SeqCst);
+    }
+
+    // How often it has rung.
+    pub(crate) fn rung<R: Wait>(&self, rt: &R, wanted: Wanted) -> u64 {
+        self.rings.lock(rt).of(wanted)
+    }
+
+    // Until it has rung for the turn since `rung` was read.
+    pub(crate) fn sleep_for_turn<R: Wait>(&self, rt: &R, rung: u64) {
+        self.sleep(rt, Wanted::Turn, TURN, rung);
+    }
+
+    // Until it has rung for locks since `rung` was read, for who sleeps at a place of a name.
+    pub(crate) fn sleep_for_lock<R: Wait>(&self, rt: &R, place: usize, rung: u64) {
+        self.sleep(rt, Wanted::Lock, place, rung);
+    }
+
+    fn sleep<R: Wait>(&self, rt: &R, wanted: Wanted, place: usize, rung: u64) {
+        let _guard = self.woken[place % PLACES].wait_while(
+            rt,
+            self.rings.lock(rt),
+            |rings| rings.of(wanted) == rung,
+        );
+    }
+
+    // One ring more. The Mutex is let go before anyone is woken, who will want it.
+    fn count_ring<R: Wait>(&self, rt: &R, wanted: Wanted) {
+        self.rings.lock(rt).count(wanted);
+    }
+
+    // Whether someone may sleep for it, so that it has to ring, which is counted then.
+    fn has_to_ring<R: Wait>(&self, rt: &R, wanted: Wanted) -> bool {
+        if self.sleepers(wanted).load(Ordering::SeqCst) == 0 {
+            return false;
+        }
+        self.count_ring(rt, wanted);
+        true
+    }
+
     // Rings once the turn was given back: for one who wants it, since whoever has it next rings
-    // again when giving it back, and where a lock may have come free, for all who wait for one.
-    // Where the shelf was stopped no turn comes any more, and all are woken to find that out.
-    pub(crate) fn ring<R: Wait>(&self, rt: &R, frees: bool, stopped: bool) {
-        self.turn.ring(rt, stopped);
-        if frees || stopped {
-            self.locks.ring(rt, true);
+    // again when giving it back, and where a lock was given back, for those at the place of its name.
+    pub(crate) fn ring<R: Wait>(&self, rt: &R, given: Option<usize>) {
+        if self.has_to_ring(rt, Wanted::Turn) {
+            self.woken[TURN].notify_one();
+        }
+        if let Some(place) = given {
+            if self.has_to_ring(rt, Wanted::Lock) {
+                self.woken[place % PLACES].notify_all();
+            }
+        }
+    }
+
+    // Rings for all, once the shelf was stopped: no turn comes any more, and all are woken to find that out.
+    pub(crate) fn ring_for_all<R: Wait>(&self, rt: &R) {
+        let _ = self.has_to_ring(rt, Wanted::Turn);
+        let _ = self.has_to_ring(rt, Wanted::Lock);
+        for woken in &self.woken {
+            woken.notify_all();
         }
     }
 }

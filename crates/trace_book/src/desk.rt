@@ -1,8 +1,9 @@
 //! A thread's desk at a shelf.
-ghost use Rattle.std.specs.Prelude.{◌≡◌};
-ghost use Rattle.machine_desk.specs.Sight.{Continues};
+ghost use Rattle.std.specs.Prelude.{◌≡◌, IfOk, IsErr, OnErr, true};
+ghost use Rattle.machine_desk.specs.Sight.{IsReady, Continues, Gains};
+ghost use Rattle.machine_shown.specs.Knowing.{Knows, Waits};
+ghost use Rattle.machine_events.specs.declared.event.Event.TheVariants as events;
 ghost use Rattle.trace_book.specs.Told.{sight_of};
-ghost use Rattle.trace_book.specs.Views.{Rounded};
 
 use crate::bell::Bell;
 use crate::pass::Pass;
@@ -79,6 +80,7 @@ impl<'a, R: Wait, O: Outlet> SharedDesk<'a, R, O> {
         ensures table { result.table ≡ self.entry.table }
         ensures continues { Continues (sight_of self.entry) (sight_of result) }
         ensures mine { (sight_of result).mine ≡ (sight_of self.entry).mine }
+        ensures stopped { result.stopped ≡ true }
     {
         let SharedDesk {
             rt,
@@ -93,14 +95,6 @@ impl<'a, R: Wait, O: Outlet> SharedDesk<'a, R, O> {
             number,
         }
     }
-
-    /// What was seen begins with the entries that the shelf was opened with, and each entry after
-    /// them is of a number of the round.
-    pub fn check_round(&self)
-        ensures { Rounded self.now.base self.now.seen }
-    {
-        let _ = &self.seat;
-    }
 }
 
 impl<R: Wait, O: Outlet> Desk for SharedDesk<'_, R, O> {
@@ -108,12 +102,27 @@ impl<R: Wait, O: Outlet> Desk for SharedDesk<'_, R, O> {
 
     ghost sight = { sight_of };
 
-    fn call(&mut self, event: Event) -> Result<Reply, Halt> {
+    fn call(&mut self, event: Event) -> Result<Reply, Halt>
+        requires knows { Knows (sight_of self.old).number (sight_of self.old).mine event }
+        requires ready { IsReady (sight_of self.old) }
+        ensures continues { Continues (sight_of self.old) (sight_of self.new) }
+        ensures ok { IfOk result (λ reply. Gains (sight_of self.old) (sight_of self.new) event reply) }
+        ensures halt { OnErr result ((sight_of self.new).mine ≡ (sight_of self.old).mine) }
+        ensures stopped { OnErr result (self.new.stopped ≡ true) }
+        ensures refuses { self.old.stopped ≡ true → IsErr result }
+    {
         self.shelf
             .call(self.rt, self.bell, &mut self.seat, self.number, event)
     }
 
-    fn wait(&mut self) -> Result<Reply, Halt> {
+    fn wait(&mut self) -> Result<Reply, Halt>
+        requires waits { Waits (sight_of self.old).number (sight_of self.old).mine }
+        requires ready { IsReady (sight_of self.old) }
+        ensures continues { Continues (sight_of self.old) (sight_of self.new) }
+        ensures ok { IfOk result (λ reply. Gains (sight_of self.old) (sight_of self.new) events.Wake reply) }
+        ensures halt { OnErr result ((sight_of self.new).mine ≡ (sight_of self.old).mine) }
+        ensures stopped { OnErr result (self.new.stopped ≡ true) }
+    {
         self.shelf
             .wait(self.rt, self.bell, &mut self.seat, self.number)
     }

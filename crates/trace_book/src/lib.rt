@@ -3,6 +3,7 @@
 
 mod bell;
 mod desk;
+mod laws;
 mod pass;
 mod place;
 mod rule;
@@ -11,6 +12,7 @@ mod view;
 
 pub use bell::Bell;
 pub use desk::SharedDesk;
+pub use laws::stopped_stays;
 pub use pass::Pass;
 pub use place::Place;
 pub use rule::{Fill, GiveBack, Merge, Note, OneNumber, Take, Turns};

@@ -1,6 +1,5 @@
 //! What a thread carries: the numbers that it speaks for, and what it has seen of the history.
 ghost use Rattle.std.specs.Prelude.{◌≡◌};
-ghost use Rattle.trace_book.specs.Views.{Rounded};
 
 use crate::view::View;
 use atomic_table::Badge;
@@ -38,13 +37,5 @@ impl Pass {
         ensures { result ≡ self.now.number }
     {
         self.number
-    }
-
-    /// What was seen begins with the entries that the shelf was opened with, and each entry after
-    /// them is of a number of the round.
-    pub fn check_round(&self)
-        ensures { Rounded self.now.base self.now.seen }
-    {
-        let _ = &self.badge;
     }
 }

@@ -1,5 +1,5 @@
 //! The table with the book, and what a seat does on it.
-ghost use Rattle.std.specs.Prelude.{◌≡◌, ◌≢◌, ℕ, suc, ◌<◌, ◌≤◌, ◌+◌, ◌^◌, vec_len, vec_capacity, ◌++◌, ◌∷◌, [], ◌⊎◌, IfOk, IfErr, OnErr, IfSome, IfNone, MatchBool, false};
+ghost use Rattle.std.specs.Prelude.{◌≡◌, ◌≢◌, ◌==◌, ℕ, suc, ◌<◌, ◌≤◌, ◌+◌, ◌^◌, vec_len, vec_capacity, ◌++◌, ◌∷◌, [], ◌⊎◌, IfOk, IfErr, IsErr, OnErr, IfSome, IfNone, MatchBool, true, false};
 ghost use mathlib.Core.List.{IsPrefix};
 ghost use Rattle.machine_events.specs.declared.event.Event.TheVariants as events;
 ghost use Rattle.machine_shown.specs.Own.{own, Ready as HasTurn};
@@ -8,14 +8,15 @@ ghost use Rattle.trace_book.specs.declared.view.Phase.TheVariants.{Idle};
 ghost use Rattle.trace_book.specs.Views.{Has, Within, view, first_view, numbers_from, kept_of, longer};
 ghost use Rattle.trace_book.specs.Rule.{Written};
 ghost use Rattle.trace_book.specs.Told.{new_passes, dealt, SamePlace};
-ghost use Rattle.trace_book.specs.Plays.{Took, history_out};
-ghost use Rattle.trace_book.specs.Seats.{Ready, Busy, MayMake, Made, Noted, may_wake, wakes_after, GoesOn, MadeAt, SameOwn, SameOf, RoundedToo, longer_by, resting, speaking, taken_in, seen_by_both};
+ghost use Rattle.trace_book.specs.Plays.{Took, history_out, refused};
+ghost use Rattle.trace_book.specs.Seats.{Ready, Busy, MayMake, Made, Noted, may_wake, wakes_after, GoesOn, MadeAt, SameOwn, SameOf, RoundedToo, Stopped, longer_by, resting, resting_as, speaking, taken_in, seen_by_both};
 
-use crate::bell::{Bell, frees};
+use crate::bell::{Bell, Wanted, place_of};
 use crate::pass::Pass;
 use crate::rule::{Fill, GiveBack, Merge, Note, OneNumber, Opened, Take, Turns};
 use crate::view::View;
 use atomic_table::{Badge, Table};
+use base_owners::Boxed;
 use base_types::NoMemory;
 use machine_allows::knows_is_allowed;
 use machine_book::Book;
@@ -27,7 +28,7 @@ use std::mem::replace;
 use std::sync::Wait;
 
 // A thread's place at the table. It has no bytes.
-pub(crate) type Seat<O> = atomic_table::Seat<Option<Book<O>>, View>;
+pub(crate) type Seat<O> = atomic_table::Seat<Option<Boxed<Book<O>>>, View>;
 
 // The word that says whose turn it is, and its values.
 const TURN: usize = 0;
@@ -51,7 +52,7 @@ const HOME: usize = 0;
 /// A book that the threads of one round share.
 #[derive(Drop)]
 pub struct Shelf<O: Outlet> {
-    pub(crate) table: Table<Option<Book<O>>, View, Opened<O>, Turns, Global>,
+    pub(crate) table: Table<Option<Boxed<Book<O>>>, View, Opened<O>, Turns, Global>,
     ghost sized: { (table.shared.table_id.words ≡ 2) × (table.shared.table_id.slots ≡ 1) },
 }
 
@@ -61,26 +62,34 @@ impl<O: Outlet> Shelf<O> {
         requires { (seat.old.table_id ≡ self.now.table.shared.table_id) × Ready seat.old.me _number }
         ensures table { seat.new.table_id ≡ seat.old.table_id }
         ensures had { result ≡ 0 → Took O.piece O.out seat.old.me seat.new.me }
-        ensures not { result ≢ 0 → seat.new.me ≡ seat.old.me }
+        ensures going { result ≡ 0 → seat.old.me.0.stopped ≡ false }
+        ensures stopped { result ≡ 2 → seat.new.me ≡ refused seat.old.me }
+        ensures not { result ≢ 0 → result ≢ 2 → seat.new.me ≡ seat.old.me }
     {
         self.table
             .shared
             .compare_exchange::<Take>(seat, TURN, FREE, HELD)
     }
 
-    // Gives the turn and the book back.
+    // Gives the turn and the book back. Where the turn is left at 2, the seat knows that the shelf is stopped.
     fn give_back(&self, seat: &mut Seat<O>, turn: u64)
         requires table { seat.old.table_id ≡ self.now.table.shared.table_id }
         requires busy { Busy O.piece O.out seat.old.me }
         requires turn { (turn ≡ 0) ⊎ (turn ≡ 2) }
         ensures table { seat.new.table_id ≡ seat.old.table_id }
-        ensures seat { seat.new.me ≡ resting seat.old.me (history_out seat.old.me.1) }
+        ensures seat { seat.new.me ≡ resting_as (turn == 2) seat.old.me (history_out seat.old.me.1) }
     {
         self.table.shared.swap::<GiveBack>(seat, TURN, turn);
     }
 
-    // One event on the book, which the seat has.
-    fn note(&self, seat: &mut Seat<O>, number: u32, event: Event) -> Result<Reply, NoMemory>
+    // One event on the book, which the seat has. A lock that it gives back is told by the place of its name.
+    fn note(
+        &self,
+        seat: &mut Seat<O>,
+        number: u32,
+        event: Event,
+        given: &mut Option<usize>,
+    ) -> Result<Reply, NoMemory>
         requires table { seat.old.table_id ≡ self.now.table.shared.table_id }
         requires busy { Busy O.piece O.out seat.old.me }
         requires may { MayMake seat.old.me number event }
@@ -91,17 +100,21 @@ impl<O: Outlet> Shelf<O> {
         let Some(mut book) = self.table.shared.exchange(seat, HOME, None) else {
             unreachable!()
         };
-        book.check_legal();
-        let done = book.step(number, event);
-        let count = book.len() as u64;
+        book.get().check_legal();
+        *given = match book.get().machine().gives(&event) {
+            Some(name) => Some(place_of(name)),
+            None => None,
+        };
+        let done = book.get_mut().step(number, event);
+        let count = book.get().len() as u64;
         drop(self.table.shared.exchange(seat, HOME, Some(book)));
         let reply = done?;
         self.table.shared.swap::<Note>(seat, COUNT, count);
         Ok(reply)
     }
 
-    // Whether the thread may wake now. The seat has the turn.
-    fn may_wake(&self, seat: &mut Seat<O>, number: u32) -> bool
+    // Whether the thread may wake now, and the place of the name that it waits for. The seat has the turn.
+    fn may_wake(&self, seat: &mut Seat<O>, number: u32, place: &mut usize) -> bool
         requires table { seat.old.table_id ≡ self.now.table.shared.table_id }
         requires busy { Busy O.piece O.out seat.old.me }
         ensures table { seat.new.table_id ≡ seat.old.table_id }
@@ -111,28 +124,41 @@ impl<O: Outlet> Shelf<O> {
         let Some(book) = self.table.shared.exchange(seat, HOME, None) else {
             unreachable!()
         };
-        let may = book.machine().allowed(number, &Event::Wake);
+        let may = book.get().machine().allowed(number, &Event::Wake);
+        if let Some(name) = book.get().machine().awaited(number) {
+            *place = place_of(name);
+        }
         drop(self.table.shared.exchange(seat, HOME, Some(book)));
         may
     }
 
-    // Makes the event, and gives the turn back. At want of memory the shelf is stopped.
-    fn make(&self, seat: &mut Seat<O>, number: u32, event: Event) -> Result<Reply, NoMemory>
+    // Makes the event, gives the turn back, and rings. At want of memory the shelf is stopped.
+    fn make<R: Wait>(
+        &self,
+        rt: &R,
+        bell: &Bell,
+        seat: &mut Seat<O>,
+        number: u32,
+        event: Event,
+    ) -> Result<Reply, NoMemory>
         requires table { seat.old.table_id ≡ self.now.table.shared.table_id }
         requires busy { Busy O.piece O.out seat.old.me }
         requires may { MayMake seat.old.me number event }
         ensures table { seat.new.table_id ≡ seat.old.table_id }
         ensures seat { IfOk result (λ r. seat.new.me ≡ resting seat.old.me (longer_by seat.old.me number event r)) }
         ensures made { IfOk result (Made seat.old.me number event) }
-        ensures err { OnErr result (seat.new.me ≡ resting seat.old.me (history_out seat.old.me.1)) }
+        ensures err { OnErr result (seat.new.me ≡ resting_as true seat.old.me (history_out seat.old.me.1)) }
     {
-        match self.note(seat, number, event) {
+        let mut given = None;
+        match self.note(seat, number, event, &mut given) {
             Ok(reply) => {
                 self.give_back(seat, FREE);
+                bell.ring(rt, given);
                 Ok(reply)
             }
             Err(refused) => {
                 self.give_back(seat, STOPPED);
+                bell.ring_for_all(rt);
                 Err(refused)
             }
         }
@@ -143,7 +169,9 @@ impl<O: Outlet> Shelf<O> {
         requires { (seat.old.table_id ≡ self.now.table.shared.table_id) × Ready seat.old.me number }
         ensures table { seat.new.table_id ≡ seat.old.table_id }
         ensures had { result ≡ 0 → Took O.piece O.out seat.old.me seat.new.me }
-        ensures not { result ≢ 0 → seat.new.me ≡ seat.old.me }
+        ensures going { result ≡ 0 → seat.old.me.0.stopped ≡ false }
+        ensures stopped { result ≡ 2 → seat.new.me ≡ refused seat.old.me }
+        ensures not { result ≢ 0 → result ≢ 2 → seat.new.me ≡ seat.old.me }
     {
         for _ in 0..TRIES {
             let turn = self.try_take(seat, number);
@@ -159,7 +187,9 @@ impl<O: Outlet> Shelf<O> {
     fn take_turn<R: Wait>(&self, rt: &R, bell: &Bell, seat: &mut Seat<O>, number: u32) -> bool
         requires { (seat.old.table_id ≡ self.now.table.shared.table_id) × Ready seat.old.me number }
         ensures table { seat.new.table_id ≡ seat.old.table_id }
-        ensures had { MatchBool result (Took O.piece O.out seat.old.me seat.new.me) (seat.new.me ≡ seat.old.me) }
+        ensures had { MatchBool result (Took O.piece O.out seat.old.me seat.new.me)
+            (seat.new.me ≡ refused seat.old.me) }
+        ensures going { MatchBool result (seat.old.me.0.stopped ≡ false) (Stopped seat.new.me) }
     {
         let turn = self.try_often(seat, number);
         if turn == FREE {
@@ -168,9 +198,9 @@ impl<O: Outlet> Shelf<O> {
         if turn == STOPPED {
             return false;
         }
-        bell.turn.enter();
+        bell.enter(Wanted::Turn);
         let had = self.sleep_for_turn(rt, bell, seat, number);
-        bell.turn.leave();
+        bell.leave(Wanted::Turn);
         had
     }
 
@@ -180,10 +210,12 @@ impl<O: Outlet> Shelf<O> {
     fn sleep_for_turn<R: Wait>(&self, rt: &R, bell: &Bell, seat: &mut Seat<O>, number: u32) -> bool
         requires { (seat.old.table_id ≡ self.now.table.shared.table_id) × Ready seat.old.me number }
         ensures table { seat.new.table_id ≡ seat.old.table_id }
-        ensures had { MatchBool result (Took O.piece O.out seat.old.me seat.new.me) (seat.new.me ≡ seat.old.me) }
+        ensures had { MatchBool result (Took O.piece O.out seat.old.me seat.new.me)
+            (seat.new.me ≡ refused seat.old.me) }
+        ensures going { MatchBool result (seat.old.me.0.stopped ≡ false) (Stopped seat.new.me) }
     {
         for _ in rt.forever() {
-            let rung = bell.turn.rung(rt);
+            let rung = bell.rung(rt, Wanted::Turn);
             let turn = self.try_often(seat, number);
             if turn == FREE {
                 return true;
@@ -191,7 +223,7 @@ impl<O: Outlet> Shelf<O> {
             if turn == STOPPED {
                 return false;
             }
-            bell.turn.sleep(rt, rung);
+            bell.sleep_for_turn(rt, rung);
         }
         unreachable!()
     }
@@ -214,16 +246,15 @@ impl<O: Outlet> Shelf<O> {
         ensures continues { GoesOn seat.old.table_id number seat.old.me seat.new.me }
         ensures ok { IfOk result (MadeAt seat.old.table_id number seat.old.me seat.new.me event) }
         ensures err { OnErr result (SameOwn number seat.old.me seat.new.me) }
+        ensures stopped { OnErr result (Stopped seat.new.me) }
+        ensures refuses { Stopped seat.old.me → IsErr result }
     {
         knows_is_allowed();
         if !self.take_turn(rt, bell, seat, number) {
             drop(event);
             return Err(Halt::NoMemory);
         }
-        let freed = frees(&event);
-        let done = self.make(seat, number, event);
-        bell.ring(rt, freed, done.is_err());
-        match done {
+        match self.make(rt, bell, seat, number, event) {
             Ok(reply) => Ok(reply),
             Err(_) => Err(Halt::NoMemory),
         }
@@ -244,26 +275,29 @@ impl<O: Outlet> Shelf<O> {
         ensures continues { GoesOn seat.old.table_id number seat.old.me seat.new.me }
         ensures ok { IfOk result (MadeAt seat.old.table_id number seat.old.me seat.new.me events.Wake) }
         ensures err { OnErr result (SameOwn number seat.old.me seat.new.me) }
+        ensures stopped { OnErr result (Stopped seat.new.me) }
     {
-        bell.locks.enter();
+        bell.enter(Wanted::Lock);
+        let mut place = 0;
         for _ in rt.forever() {
-            let rung = bell.locks.rung(rt);
-            if let Some(done) = self.try_wake(rt, bell, seat, number) {
-                bell.locks.leave();
+            let rung = bell.rung(rt, Wanted::Lock);
+            if let Some(done) = self.try_wake(rt, bell, seat, number, &mut place) {
+                bell.leave(Wanted::Lock);
                 return done;
             }
-            bell.locks.sleep(rt, rung);
+            bell.sleep_for_lock(rt, place, rung);
         }
         unreachable!()
     }
 
-    // Makes the Wake if it is allowed. None where it is not.
+    // Makes the Wake if it is allowed. None where it is not, and then the place of the name that the thread waits for.
     fn try_wake<R: Wait>(
         &self,
         rt: &R,
         bell: &Bell,
         seat: &mut Seat<O>,
         number: u32,
+        place: &mut usize,
     ) -> Option<Result<Reply, Halt>>
         requires table { seat.old.table_id ≡ self.now.table.shared.table_id }
         requires ready { Ready seat.old.me number }
@@ -272,20 +306,19 @@ impl<O: Outlet> Shelf<O> {
         ensures continues { GoesOn seat.old.table_id number seat.old.me seat.new.me }
         ensures ok { IfSome result (λ r. IfOk r (MadeAt seat.old.table_id number seat.old.me seat.new.me events.Wake)) }
         ensures err { IfSome result (λ done. OnErr done (SameOwn number seat.old.me seat.new.me)) }
+        ensures stopped { IfSome result (λ done. OnErr done (Stopped seat.new.me)) }
         ensures none { IfNone result (SameOwn number seat.old.me seat.new.me) }
         ensures asleep { IfNone result (wakes_after seat.new.me number ≡ false) }
     {
         if !self.take_turn(rt, bell, seat, number) {
             return Some(Err(Halt::NoMemory));
         }
-        if !self.may_wake(seat, number) {
+        if !self.may_wake(seat, number, place) {
             self.give_back(seat, FREE);
-            bell.ring(rt, false, false);
+            bell.ring(rt, None);
             return None;
         }
-        let done = self.make(seat, number, Event::Wake);
-        bell.ring(rt, false, done.is_err());
-        match done {
+        match self.make(rt, bell, seat, number, Event::Wake) {
             Ok(reply) => Some(Ok(reply)),
             Err(_) => Some(Err(Halt::NoMemory)),
         }
@@ -299,15 +332,16 @@ impl<O: Outlet> Shelf<O> {
         ensures ready { Ready seat.new.me number }
         ensures continues { GoesOn seat.old.table_id number seat.old.me seat.new.me }
         ensures mine { SameOwn number seat.old.me seat.new.me }
+        ensures stopped { Stopped seat.new.me }
     {
         if self.take_turn(rt, bell, seat, number) {
             self.give_back(seat, STOPPED);
-            bell.ring(rt, false, true);
+            bell.ring_for_all(rt);
         }
     }
 
     // Puts the book into the empty slot, and gives the turn back.
-    fn fill(&self, seat: &mut Seat<O>, book: Book<O>, from: u32, n: u32)
+    fn fill(&self, seat: &mut Seat<O>, book: Boxed<Book<O>>, from: u32, n: u32)
         requires table { seat.old.table_id ≡ self.now.table.shared.table_id }
         requires new { seat.old.me ≡ (first_view O.out (book, from, n), []) }
         ensures table { seat.new.table_id ≡ seat.old.table_id }
@@ -357,7 +391,7 @@ impl<O: Outlet> Shelf<O> {
         let slot = closed.take(HOME);
         closed.free();
         let Some(book) = slot else { unreachable!() };
-        book
+        book.into_inner()
     }
 
     // Passes for all numbers of the round, of the seat that speaks for them.
@@ -405,12 +439,18 @@ impl<O: Outlet> Shelf<O> {
         let Ok(mut passes) = Vec::with_capacity(alloc, n as usize) else {
             return Err(Unopened { book });
         };
-        let count = book.len() as u64;
+        let book = match Boxed::hold(alloc, book) {
+            Ok(book) => book,
+            Err(book) => return Err(Unopened { book }),
+        };
+        let count = book.get().len() as u64;
         let about = (book, from, n);
         let made = Table::vacant(alloc, &[HELD, count], 1, &about);
         let (book, _, _) = about;
         let Ok((table, mut seat)) = made else {
-            return Err(Unopened { book });
+            return Err(Unopened {
+                book: book.into_inner(),
+            });
         };
         let shelf = Shelf { table };
         shelf.fill(&mut seat, book, from, n);

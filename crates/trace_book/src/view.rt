@@ -42,4 +42,6 @@ pub struct View {
     pub numbers: LinkedList<u32>,
     pub seen: LinkedList<Entry>,
     pub phase: Phase,
+    /// It knows that the shelf is stopped.
+    pub stopped: bool,
 }

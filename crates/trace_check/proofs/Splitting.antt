@@ -10,7 +10,7 @@ use Rattle.machine_events.specs.declared.event.Entry.{Entry}
 use Rattle.machine_events.specs.declared.event.Pair.{Pair}
 use Rattle.machine_shown.specs.Own.{own}
 use Rattle.trace_check.specs.Judge.{made, IsPlaceOf}
-use Rattle.trace_check.specs.Threads.{threads_of, turns, IsTurnOf, pairs_of, list_of, AreOwn}
+use Rattle.trace_check.specs.Threads.{threads_of, turns, IsTurnOf, Tells, pairs_of, list_of, AreOwn}
 
 -- what a thread sees of one entry more
 
@@ -124,34 +124,71 @@ split_all lists t threads left history is split = subst (λ n. AreOwn lists n hi
 
 -- threads and the entries that they are of
 
-turns_made : (t : ℕ) (h : List Entry) → turns t (threads_of h) ≡ made t h
-turns_made t [] = refl
-turns_made t (x ∷ xs) =
-    sum_by-cons (λ u. cond (u == t) 1 0) x.thread (threads_of xs)
-    ∙ (ap (λ n. cond (x.thread == t) 1 0 + n) (turns_made t xs) ∙ sym (sum_by-cons (λ (e : Entry). cond (e.thread == t) 1 0) x xs))
+module _ {E : Type 0} (thread : E → ℕ) where
+  turns_in : (t : ℕ) (es : List E) → turns (λ u. u) t (map thread es) ≡ turns thread t es
+  turns_in t [] = refl
+  turns_in t (x ∷ xs) =
+      sum_by-cons (λ u. cond (u == t) 1 0) (thread x) (map thread xs)
+      ∙ (ap (λ n. cond (thread x == t) 1 0 + n) (turns_in t xs) ∙ sym (sum_by-cons (λ (e : E). cond (thread e == t) 1 0) x xs))
+
+  take_in : (n : ℕ) (es : List E) → take n (map thread es) ≡ map thread (take n es)
+  take_in zero es = refl
+  take_in (suc n) [] = refl
+  take_in (suc n) (x ∷ xs) = ap (λ (l : List ℕ). thread x ∷ l) (take_in n xs)
+
+  there_in : (p : ℕ) (es : List E) (x : E) → slice_get es p ≡ Some x → slice_get (map thread es) p ≡ Some (thread x)
+  there_in p [] x there = absurd (cc there)
+  there_in zero (y ∷ ys) x there = let same : y ≡ x = cc there in ap (λ (e : E). Some (thread e)) same
+  there_in (suc p) (y ∷ ys) x there = there_in p ys x there
+
+  -- by the threads alone
+  threads_turn : (es : List E) (t at place : ℕ) → IsTurnOf thread es t at place → IsTurnOf (λ u. u) (map thread es) t at place
+  threads_turn es t at place is = record {
+    entry = thread is.entry;
+    there = there_in place es is.entry is.there;
+    its = is.its;
+    before = ap (turns (λ u. u) t) (take_in place es) ∙ (turns_in t (take place es) ∙ is.before);
+  }
+
+turns_made : (t : ℕ) (h : List Entry) → turns (λ u. u) t (threads_of h) ≡ made t h
+turns_made t h = turns_in (λ (e : Entry). e.thread) t h
 
 take_threads : (n : ℕ) (h : List Entry) → take n (threads_of h) ≡ threads_of (take n h)
-take_threads zero h = refl
-take_threads (suc n) [] = refl
-take_threads (suc n) (x ∷ xs) = ap (λ (l : List ℕ). x.thread ∷ l) (take_threads n xs)
+take_threads n h = take_in (λ (e : Entry). e.thread) n h
 
 pub entry_there : (t p : ℕ) (h : List Entry) → slice_get (threads_of h) p ≡ Some t → (e : Entry) × (slice_get h p ≡ Some e) × (e.thread ≡ t)
 entry_there t p [] there = absurd (cc there)
 entry_there t zero (x ∷ xs) there = (x, refl, cc there)
 entry_there t (suc p) (x ∷ xs) there = entry_there t p xs there
 
-pub place_by : (h : List Entry) (threads : List ℕ) (t at place : ℕ) → threads ≡ threads_of h → IsTurnOf threads t at place → IsPlaceOf h t at place
+place_by : (h : List Entry) (threads : List ℕ) (t at place : ℕ) → threads ≡ threads_of h → IsTurnOf (λ u. u) threads t at place → IsPlaceOf h t at place
 place_by h threads t at place same is =
-    let e = entry_there t place h (ap (λ (l : List ℕ). slice_get l place) (sym same) ∙ is.there) in
+    let e = entry_there t place h (ap (λ (l : List ℕ). slice_get l place) (sym same) ∙ (is.there ∙ ap (λ (u : ℕ). Some u) is.its)) in
     record {
       entry = e.0;
       there = e.1;
       its = e.2;
-      before = sym (turns_made t (take place h)) ∙ (ap (turns t) (sym (take_threads place h)) ∙ (ap (λ (l : List ℕ). turns t (take place l)) (sym same) ∙ is.before));
+      before = sym (turns_made t (take place h)) ∙ (ap (turns (λ u. u) t) (sym (take_threads place h)) ∙ (ap (λ (l : List ℕ). turns (λ u. u) t (take place l)) (sym same) ∙ is.before));
     }
 
-pub turns_by : (h : List Entry) (threads : List ℕ) (t at : ℕ) → threads ≡ threads_of h → turns t threads ≤ at → made t h ≤ at
-turns_by h threads t at same few = subst (λ n. n ≤ at) (ap (turns t) same ∙ turns_made t h) few
+-- what stands at a place of a list that tells the threads of a history
+pub place_told : {E : Type 0} (thread : E → ℕ) (es : List E) (h : List Entry) (t at place : ℕ) → Tells thread es h → IsTurnOf thread es t at place → IsPlaceOf h t at place
+place_told thread es h t at place tells is = place_by h (map thread es) t at place tells (threads_turn thread es t at place is)
+
+pub turns_told : {E : Type 0} (thread : E → ℕ) (es : List E) (h : List Entry) (t at : ℕ) → Tells thread es h → turns thread t es ≤ at → made t h ≤ at
+turns_told thread es h t at tells few =
+    subst (λ n. n ≤ at) (sym (turns_in thread t es) ∙ (ap (turns (λ u. u) t) tells ∙ turns_made t h)) few
+
+pub many_told : {E : Type 0} (thread : E → ℕ) (es : List E) (h : List Entry) → Tells thread es h → length es ≡ length h
+many_told thread es h tells = sym (length-map es thread) ∙ (ap (λ (l : List ℕ). length l) tells ∙ length-map h (λ (e : Entry). e.thread))
 
 pub many_threads : (h : List Entry) (threads : List ℕ) → threads ≡ threads_of h → length threads ≡ length h
 many_threads h threads same = ap (λ (l : List ℕ). length l) same ∙ length-map h (λ (e : Entry). e.thread)
+
+-- a list of threads tells itself
+pub tells_itself : (threads : List ℕ) (h : List Entry) → threads ≡ threads_of h → Tells (λ u. u) threads h
+tells_itself threads h same = itself threads ∙ same
+  where
+    itself : (ts : List ℕ) → map (λ u. u) ts ≡ ts
+    itself [] = refl
+    itself (t ∷ ts) = ap (λ (l : List ℕ). t ∷ l) (itself ts)

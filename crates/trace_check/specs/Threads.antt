@@ -12,14 +12,20 @@ use Rattle.trace_check.specs.Replays.{counts_of}
 abbrev pub threads_of : List Entry → List ℕ
 threads_of history = map (λ (e : Entry). e.thread) history
 
--- how often a thread stands in a list
-abbrev pub turns : ℕ → List ℕ → ℕ
-turns t threads = count_by (λ u. u == t) threads
+-- how many of a list are of a thread, by what tells the thread of each
+abbrev pub turns : {E : Type 0} → (E → ℕ) → ℕ → List E → ℕ
+turns thread t entries = count_by (λ e. thread e == t) entries
 
--- here stands a thread that stands so many times before
-pub record IsTurnOf (threads : List ℕ) (t count place : ℕ) : Type 0 where
-  pub there : slice_get threads place ≡ Some t
-  pub before : turns t (take place threads) ≡ count
+-- here stands what is of the thread, and so many of it stand before
+pub record IsTurnOf {E : Type 0} (thread : E → ℕ) (entries : List E) (t count place : ℕ) : Type 0 where
+  pub entry : E
+  pub there : slice_get entries place ≡ Some entry
+  pub its : thread entry ≡ t
+  pub before : turns thread t (take place entries) ≡ count
+
+-- the list tells the threads of a history
+abbrev pub Tells : {E : Type 0} → (E → ℕ) → List E → List Entry → Type 0
+Tells thread entries history = map thread entries ≡ threads_of history
 
 -- pairs, as laws speak of a script's events
 abbrev pub pairs_of : List Pair → List (Event × Reply)

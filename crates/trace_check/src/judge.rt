@@ -1,9 +1,8 @@
-//! The verdict on a trace.
-ghost use Rattle.std.specs.Prelude.{◌≡◌, ◌<◌, ◌≤◌, ◌^◌, ◌-◌, length, IfSome, IsNone};
-ghost use Rattle.trace_check.specs.Judge.{made, IsPlaceOf, IsPlaced, rank, is_first, first_of, verdict_of_replay, IsFirst, Parts, Judges};
+//! The verdict on a trace, fault by fault.
+ghost use Rattle.std.specs.Prelude.{◌≡◌, ◌^◌, ◌-◌};
+ghost use Rattle.trace_check.specs.Judge.{IsPlaced, rank, is_first, first_of, verdict_of_replay};
 
 use crate::answers::{Replayed, Verdict, Why};
-use machine_events::{Entry, Follow};
 
 /// The line of the first entry: the line before it tells the format.
 pub(crate) const FIRST_LINE: u32 = 2;
@@ -60,49 +59,4 @@ pub(crate) fn verdict_of_replay(replayed: &Replayed) -> Verdict
             why: *why,
         },
     }
-}
-
-/// The place of the entry of a thread before which so many of its entries stand.
-fn place_of(entries: &[Entry], t: usize, at: u32) -> Option<usize>
-    ensures some { IfSome result (IsPlaceOf entries.now t at) }
-    ensures none { IsNone result → made t entries.now ≤ at }
-{
-    let mut left = at;
-    for i in 0..entries.len() {
-        if entries[i].thread as usize == t {
-            if left == 0 {
-                return Some(i);
-            }
-            left -= 1;
-        }
-    }
-    None
-}
-
-/// The line at which a script parts, and whether it lacks an event there or has one too many.
-fn part(entries: &[Entry], t: usize, at: u32) -> (u32, Why)
-    requires { length entries.now < 2 ^ 32 - 2 }
-    ensures { IsFirst (Parts entries.now t at) result.0 result.1 }
-{
-    match place_of(entries, t, at) {
-        Some(place) => (place as u32 + FIRST_LINE, Why::Call),
-        None => (entries.len() as u32 + FIRST_LINE, Why::End),
-    }
-}
-
-/// Whether entries that were replayed, and with which each script was compared, are a run that the
-/// rules allow: else the first line that is wrong. It takes no memory.
-pub fn verdict(entries: &[Entry], replayed: &Replayed, follows: &[Follow]) -> Verdict
-    requires few { length entries.now < 2 ^ 32 - 2 }
-    requires placed { IsPlaced replayed.now (length entries.now) }
-    ensures { Judges entries.now replayed.now follows.now result }
-{
-    let mut verdict = verdict_of_replay(replayed);
-    for t in 0..follows.len() {
-        if let Follow::Parts { at } = &follows[t] {
-            let (line, why) = part(entries, t, *at);
-            verdict = first_of(verdict, line, why);
-        }
-    }
-    verdict
 }

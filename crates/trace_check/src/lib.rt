@@ -13,11 +13,10 @@ mod thread;
 
 pub use answers::{Counts, Replayed, Verdict, Why};
 pub use history::{counts_of, replay};
-pub use judge::verdict;
 pub use laws::{
     legal_exactly_there, no_other_replay, no_other_verdict, own_is_counted, yes_exactly_there,
 };
-pub use order::{threads_of, verdict_in};
+pub use order::{threads_of, verdict, verdict_in};
 pub use shares::replay_shares;
 pub use split::own_lists;
 pub use thread::own;

@@ -193,7 +193,7 @@ raised_at fields = do
   error ← error_at fields
   Ok (outcomes.Raised error.0, error.1)
 
--- what stands behind the units that were paid: the error, where one was raised
+-- what stands behind the number of an end: the error, where one was raised
 abbrev pub outcome_at : OutcomeWord → Fields → Taken Outcome
 outcome_at ends.Normal fields = Ok (outcomes.Normal, fields)
 outcome_at ends.Fuel fields = Ok (outcomes.Fuel, fields)

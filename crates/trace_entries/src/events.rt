@@ -9,7 +9,7 @@ use crate::event_words::{
     BareEvent, EventWord, MadeEvent, NamedEvent, NumberedEvent, event_word_in,
 };
 use crate::take::{
-    any_name_at, error_at, first, good_at, load_at, name_at, number_at, place_at, raw_at, slot_at,
+    any_name_at, error_at, first, good_at, load_at, name_at, number_at, raw_at, slot_at,
     small_number_at, source_at, spec_kind_at, state_at, taken, text_at, texts_at, tree_path_at,
     value_at, variable_at,
 };
@@ -17,7 +17,7 @@ use base_types::{Listing, Seq};
 use machine_events::{Event, Outcome};
 use spec_core::{Dotted, Spec};
 use std::alloc::Global;
-use trace_fields::{Cause, Refusal, lookup};
+use trace_fields::{Cause, Refusal, lookup, place_in_path_in};
 
 /// How a script ended, by its word.
 #[derive(Clone, Copy, Drop)]
@@ -84,7 +84,7 @@ fn spec_at<'a>(alloc: Global, fields: &'a [&'a [u8]]) -> Result<(Spec, &'a [&'a 
 {
     let (name, rest) = name_at(alloc, fields)?;
     let (kind, rest) = spec_kind_at(alloc, rest)?;
-    Ok((Spec { name, kind }, rest))
+    Ok((Spec::of(name, kind)?, rest))
 }
 
 fn named_at<'a>(
@@ -177,7 +177,10 @@ fn path_add_at<'a>(
 ) -> Result<(Event, &'a [&'a [u8]]), Refusal>
     ensures { Gives (λ x. (x.0, views x.1.now)) result (events.path_add_at (views fields.now)) }
 {
-    let (at, rest) = place_at(alloc, fields)?;
+    let (field, rest) = first(fields)?;
+    let Some(at) = place_in_path_in(alloc, field)? else {
+        return Err(Refusal::Cause(Cause::Fields));
+    };
     let (value, rest) = value_at(alloc, rest)?;
     Ok((Event::PathAdd { at, value }, rest))
 }
@@ -266,7 +269,7 @@ fn raised_at<'a>(
     Ok((Outcome::Raised(error), rest))
 }
 
-/// What stands behind the units that were paid: the error, where one was raised.
+/// What stands behind the number of an end: the error, where one was raised.
 fn outcome_at<'a>(
     alloc: Global,
     word: OutcomeWord,

@@ -11,8 +11,8 @@ use py_value::{Items, ModRef, NsState, Raised, Value};
 use spec_core::{Dotted, SpecKind};
 use std::alloc::Global;
 use trace_fields::{
-    Cause, Refusal, any_name_in, error_in, load_in, lookup, module_in, name_in, place_in_path_in,
-    slot_in, small_number_in, spec_kind_in, state_in, texts_in, tree_path_in, value_in, values_in,
+    Cause, Refusal, any_name_in, error_in, load_in, lookup, module_in, name_in, slot_in,
+    small_number_in, spec_kind_in, state_in, texts_in, tree_path_in, value_in, values_in,
     variable_in,
 };
 
@@ -120,17 +120,6 @@ pub(crate) fn variable_at<'a>(
 {
     let (field, rest) = first(fields)?;
     taken(Cause::Fields, variable_in(alloc, field)?, rest)
-}
-
-/// A place in the search path, or `-`.
-pub(crate) fn place_at<'a>(
-    alloc: Global,
-    fields: &'a [&'a [u8]],
-) -> Result<(Option<i128>, &'a [&'a [u8]]), Refusal>
-    ensures { Gives (λ x. (x.0, views x.1.now)) result (taking.place_at (views fields.now)) }
-{
-    let (field, rest) = first(fields)?;
-    taken(Cause::Fields, place_in_path_in(alloc, field)?, rest)
 }
 
 /// A load, or `-`.

@@ -7,7 +7,7 @@ use crate::parts::three_in;
 use crate::words::kind_in;
 use crate::{any_name_in, small_number_in};
 use base_spelling::read_quoted;
-use base_types::{NoMemory, Text};
+use base_types::{NoMemory, Text, Wide};
 use machine_events::Slot;
 use py_value::{ModRef, Place, Raised};
 use std::alloc::Global;
@@ -88,7 +88,7 @@ fn module_of(
         return Ok(None);
     };
     match place_in(alloc, place)? {
-        Some(place) => Ok(Some(ModRef { mid, name, place })),
+        Some(place) => Ok(Some(ModRef::of(mid, name, place)?)),
         None => Ok(None),
     }
 }
@@ -131,7 +131,7 @@ fn error_of(
         return Ok(None);
     };
     match text_or_dash_in(alloc, name)? {
-        Some(name) => Ok(Some(Raised { kind, text, name })),
+        Some(name) => Ok(Some(Raised::of(kind, text, name)?)),
         None => Ok(None),
     }
 }
@@ -171,14 +171,14 @@ pub fn slot_in(alloc: Global, field: &[u8]) -> Result<Option<Slot>, NoMemory>
 }
 
 /// The place in the search path that a field spells, or `-` for its end.
-pub fn place_in_path_in(alloc: Global, field: &[u8]) -> Result<Option<Option<i128>>, NoMemory>
+pub fn place_in_path_in(alloc: Global, field: &[u8]) -> Result<Option<Option<Wide>>, NoMemory>
     ensures { IfOk result (λ o. o ≡ values.place_in_path_in field.now) }
 {
     if field == b"-".as_slice() {
         return Ok(Some(None));
     }
     match signed_in(alloc, field)? {
-        Some(at) => Ok(Some(Some(at))),
+        Some(at) => Ok(Some(Some(Wide::of(at)))),
         None => Ok(None),
     }
 }

@@ -114,11 +114,7 @@ fn state_of(
         return Ok(None);
     };
     match texts_in(alloc, portions)? {
-        Some(portions) => Ok(Some(NsState {
-            parent_path,
-            epoch,
-            portions,
-        })),
+        Some(portions) => Ok(Some(NsState::of(parent_path, epoch, portions)?)),
         None => Ok(None),
     }
 }

@@ -9,7 +9,7 @@ use crate::simple::{error_in, module_in, signed_in};
 use crate::words::{constant_in, constant_value, kind_in, native_in};
 use crate::{any_name_in, small_number_in};
 use base_spelling::read_quoted;
-use base_types::{NoMemory, Seq};
+use base_types::{NoMemory, Seq, Wide};
 use py_value::{Items, Value};
 use std::alloc::Global;
 
@@ -129,7 +129,7 @@ fn number_value_in(alloc: Global, field: &[u8]) -> Result<Option<Value>, NoMemor
     ensures { IfOk result (λ o. o ≡ values.number_value_in field.now) }
 {
     match signed_in(alloc, field)? {
-        Some(n) => Ok(Some(Value::Int(n))),
+        Some(n) => Ok(Some(Value::Int(Wide::of(n)))),
         None => Ok(None),
     }
 }

@@ -41,7 +41,7 @@ yes_word false = codes "no"
 abbrev pub spec_fields : Spec → List ℕ → Fields
 spec_fields spec text = spec.name ∷ spec_text spec.kind ∷ source text ∷ []
 
--- `normal`, `fuel` or `read` with the units that were paid, or `raised K ERROR`
+-- `normal`, `fuel` or `read` with the number K that the event tells, or `raised K ERROR`
 abbrev pub end_fields : Outcome → ℕ → Fields
 end_fields outcomes.Normal spent = codes "normal" ∷ decimal spent ∷ []
 end_fields outcomes.Fuel spent = codes "fuel" ∷ decimal spent ∷ []

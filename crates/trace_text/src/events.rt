@@ -12,7 +12,7 @@ use crate::fields::{
     slot_field, source_field, spec_field, state_field, texts_field, value_field, variable_field,
     word_field,
 };
-use base_types::{Listing, NoMemory, Seq, Text, TreePath};
+use base_types::{Listing, NoMemory, Seq, Text, TreePath, Wide};
 use machine_events::{Event, Outcome, Slot};
 use py_value::{NsState, Raised, Value};
 use spec_core::{Dotted, Spec};
@@ -45,14 +45,21 @@ fn put_numbered(out: Text, word: &str, number: u32) -> Result<Text, NoMemory>
     number_field(out, number as u64)
 }
 
+/// A spec: its name, and what kind of module it is.
+fn put_named_spec(out: Text, spec: &Spec) -> Result<Text, NoMemory>
+    ensures { IfOk result (λ it. it ≡ (out ++ 32 ∷ spec.now.name) ++ 32 ∷ text.spec_text spec.now.kind) }
+{
+    let out = word_field(out, spec.name().text())?;
+    spec_field(out, spec.kind())
+}
+
 /// A spec and a text.
 #[tactic(auto, using(crate::proofs::Pieces::fields_four))]
 fn put_made(out: Text, word: &str, spec: &Spec, source: &Seq<u8>) -> Result<Text, NoMemory>
     ensures { IfOk result (λ it. it ≡ out ++ spaced (word.now ∷ fields.spec_fields spec.now source.now)) }
 {
     let out = word_field(out, word)?;
-    let out = word_field(out, spec.name.text())?;
-    let out = spec_field(out, &spec.kind)?;
+    let out = put_named_spec(out, spec)?;
     source_field(out, source.as_slice())
 }
 
@@ -104,7 +111,7 @@ fn put_print(out: Text, printed: &Text) -> Result<Text, NoMemory>
 }
 
 #[tactic(auto, using(crate::proofs::Pieces::fields_three))]
-fn put_path_add(out: Text, at: Option<i128>, value: &Value) -> Result<Text, NoMemory>
+fn put_path_add(out: Text, at: Option<Wide>, value: &Value) -> Result<Text, NoMemory>
     ensures { IfOk result
         (λ it. it ≡ out ++ spaced (codes "pathadd" ∷ text.place_in_path at ∷ text.value_text value.now ∷ [])) }
 {
@@ -176,8 +183,7 @@ fn put_reload_take(out: Text, mid: u32, spec: &Spec, source: &Seq<u8>) -> Result
 {
     let out = word_field(out, "reloadtake")?;
     let out = number_field(out, mid as u64)?;
-    let out = word_field(out, spec.name.text())?;
-    let out = spec_field(out, &spec.kind)?;
+    let out = put_named_spec(out, spec)?;
     source_field(out, source.as_slice())
 }
 

@@ -9,7 +9,7 @@ use crate::values::{
     put_state, put_texts, put_value, put_values, put_variable,
 };
 use base_spelling::{put, write_quoted, write_source};
-use base_types::{NoMemory, Text, Texts};
+use base_types::{NoMemory, Text, Texts, Wide};
 use machine_events::Slot;
 use py_value::{Items, ModRef, NsState, Raised, Value};
 use spec_core::SpecKind;
@@ -128,7 +128,7 @@ pub(crate) fn spec_field(out: Text, field: &SpecKind) -> Result<Text, NoMemory>
 }
 
 #[tactic(auto, using(crate::proofs::Pieces::two))]
-pub(crate) fn place_in_path_field(out: Text, at: Option<i128>) -> Result<Text, NoMemory>
+pub(crate) fn place_in_path_field(out: Text, at: Option<Wide>) -> Result<Text, NoMemory>
     ensures { IfOk result (λ it. it ≡ out ++ 32 ∷ text.place_in_path at) }
 {
     let out = put(out, " ")?;

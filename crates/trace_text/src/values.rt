@@ -6,7 +6,7 @@ ghost use Rattle.spec_core.specs.Identifiers.{is_dotted};
 ghost use Rattle.trace_text.specs.Values as text;
 
 use base_spelling::{put, write_quoted};
-use base_types::{NoMemory, Text, Texts};
+use base_types::{NoMemory, Text, Texts, Wide};
 use machine_events::Slot;
 use py_value::{Items, ModRef, NsState, Place, Raised, Value};
 use spec_core::{Dotted, SpecKind, is_ident};
@@ -99,11 +99,11 @@ pub(crate) fn put_module(out: Text, m: &ModRef) -> Result<Text, NoMemory>
     ensures { IfOk result (λ it. it ≡ out ++ text.module_text m.now) }
 {
     let out = put(out, "module(")?;
-    let out = put_number(out, m.mid as u64)?;
+    let out = put_number(out, m.mid() as u64)?;
     let out = put(out, ",")?;
-    let out = put_name(out, &m.name)?;
+    let out = put_name(out, m.name())?;
     let out = put(out, ",")?;
-    let out = put_place(out, &m.place)?;
+    let out = put_place(out, m.place())?;
     put(out, ")")
 }
 
@@ -121,11 +121,11 @@ pub(crate) fn put_error(out: Text, error: &Raised) -> Result<Text, NoMemory>
     ensures { IfOk result (λ it. it ≡ out ++ text.error_text error.now) }
 {
     let out = put(out, "error(")?;
-    let out = put(out, error.kind.name())?;
+    let out = put(out, error.kind().name())?;
     let out = put(out, ",")?;
-    let out = write_quoted(out, error.text.as_str())?;
+    let out = write_quoted(out, error.text().as_str())?;
     let out = put(out, ",")?;
-    let out = put_text_or_dash(out, &error.name)?;
+    let out = put_text_or_dash(out, error.name())?;
     put(out, ")")
 }
 
@@ -168,7 +168,7 @@ pub(crate) fn put_value(out: Text, value: &Value) -> Result<Text, NoMemory>
     match value {
         Value::Nothing => put(out, "None"),
         Value::Bool(b) => put_bool(out, *b),
-        Value::Int(n) => put_signed(out, *n),
+        Value::Int(n) => put_signed(out, n.get()),
         Value::Text(text) => write_quoted(out, text.as_str()),
         Value::List(items) => put_items(out, "[", items, "]"),
         Value::Tuple(items) => put_items(out, "(", items, ")"),
@@ -270,19 +270,19 @@ pub(crate) fn put_state(out: Text, state: &NsState) -> Result<Text, NoMemory>
     ensures { IfOk result (λ it. it ≡ out ++ text.state_text state.now) }
 {
     let out = put(out, "ns(")?;
-    let out = put_values(out, &state.parent_path)?;
+    let out = put_values(out, state.parent_path())?;
     let out = put(out, ",")?;
-    let out = put_number(out, state.epoch)?;
+    let out = put_number(out, state.epoch())?;
     let out = put(out, ",")?;
-    let out = put_texts(out, &state.portions)?;
+    let out = put_texts(out, state.portions())?;
     put(out, ")")
 }
 
-pub(crate) fn put_place_in_path(out: Text, at: Option<i128>) -> Result<Text, NoMemory>
+pub(crate) fn put_place_in_path(out: Text, at: Option<Wide>) -> Result<Text, NoMemory>
     ensures { IfOk result (λ it. it ≡ out ++ text.place_in_path at) }
 {
     match at {
-        Some(at) => put_signed(out, at),
+        Some(at) => put_signed(out, at.get()),
         None => put(out, "-"),
     }
 }

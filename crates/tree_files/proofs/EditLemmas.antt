@@ -16,7 +16,7 @@ use Rattle.std.proofs.lemmas.List.Folds.{list_all_at, list_all_more}
 use Rattle.std.proofs.Math.Seq.{take-length}
 use Rattle.tree_files.specs.Files.{Files, node_at, is_dir, is_file, IsDirAt, IsTree}
 use Rattle.tree_files.specs.Edits.{prefixes, with_dir_at, with_dirs, HasParent, HasDirs, is_way_free}
-use Rattle.tree_files.specs.MemFiles.{mem_files}
+use Rattle.tree_files.specs.MemFiles.{map_files}
 use Rattle.tree_files.proofs.MemFilesLemmas.{path_total, get_by-node_at}
 use Rattle.tree_files.specs.declared.tree.Node.{Node}
 use Rattle.tree_files.specs.declared.tree.Node.TheVariants.{File, Dir}
@@ -25,13 +25,13 @@ path_exact : IsAntisymmetric path_cmp
 path_exact = slice_cmp-IsAntisymmetric (slice_cmp-IsAntisymmetric nat_cmp-IsAntisymmetric)
 
 -- the tree of a map after an insert
-pub mem_files-insert : (m n : BTreeMap Path Node) (p : Path) (x : Node) → Updates path_cmp m n p (Some x) → mem_files n ≡ insert (mem_files m) p x
-mem_files-insert m n p x u =
+pub map_files-insert : (m n : BTreeMap Path Node) (p : Path) (x : Node) → Updates path_cmp m n p (Some x) → map_files n ≡ insert (map_files m) p x
+map_files-insert m n p x u =
     same_map path_total path_exact _ _ (λ q.
     sym (get_by-node_at n q) ∙ u.0 q
     ∙ ap (λ b. cond b (Some x) (get path_cmp m q)) ((eq_by_cmp_equiv path_total).symm p q)
     ∙ ap (cond (eq_by_cmp path_cmp q p) (Some x)) (get_by-node_at m q)
-    ∙ sym (get-insert path_total (mem_files m) p x q))
+    ∙ sym (get-insert path_total (map_files m) p x q))
 
 equal : (o : Ordering) → is_eq o ≡ true → o ≡ Equal
 equal Less e = cc

@@ -8,7 +8,7 @@ use Rattle.std.specs.Cmp.{IsTotalOrder}
 use Rattle.std.specs.Cmp.Lexicographic.{nat_list_cmp_total, lists_total}
 use Rattle.base_types.specs.Path.{Path, path_cmp}
 use Rattle.tree_files.specs.Files.{node_at, is_dir, IsTree}
-use Rattle.tree_files.specs.MemFiles.{mem_files, root_alone}
+use Rattle.tree_files.specs.MemFiles.{map_files, root_alone}
 use Rattle.tree_files.specs.declared.tree.Node.{Node}
 use Rattle.tree_files.specs.declared.tree.Node.TheVariants.{Dir}
 
@@ -20,7 +20,7 @@ lookup-find p [] = refl
 lookup-find p (e ∷ es) = ap (cond (is_at (path_cmp p) e.0) (Some e.1)) (lookup-find p es)
 
 -- what the map has at a path is what stands there
-pub get_by-node_at : (m : BTreeMap Path Node) (p : Path) → get_by (path_cmp p) m ≡ node_at (mem_files m) p
+pub get_by-node_at : (m : BTreeMap Path Node) (p : Path) → get_by (path_cmp p) m ≡ node_at (map_files m) p
 get_by-node_at m p = lookup-find p m.entries ∙ sym (get-from_entries path_total m.entries p)
 
 node_at-root_alone : (q : Path) → node_at root_alone q ≡ cond (eq_by_cmp path_cmp q []) (Some (Dir 0)) None

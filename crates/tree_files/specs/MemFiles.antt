@@ -1,22 +1,28 @@
 -- The tree that a map of paths in memory holds, and the calls of it that are to fail.
 use Rattle.std.specs.Prelude.{ℕ, Bool, List, [], ◌==◌, ◌&&◌, Option, Some, None, is_none, if◌then◌else◌}
 use Rattle.std.specs.List.{list_any, filter_map}
+use Rattle.std.specs.Arc.{arc_value}
 use Rattle.std.specs.BTreeMap.{BTreeMap}
 use Rattle.std.specs.FinMap.{from_entries, empty, insert}
 use Rattle.base_types.specs.Path.{Path}
 use Rattle.tree_files.specs.Files.{Files, IsTree}
 use Rattle.tree_files.specs.Count.{raised}
 use Rattle.tree_files.specs.declared.mem_tree.Due.{Due}
+use Rattle.tree_files.specs.declared.nodes.Nodes.{Nodes}
 use Rattle.tree_files.specs.declared.tree.Node.{Node}
 use Rattle.tree_files.specs.declared.tree.Node.TheVariants.{Dir}
 
 -- the files are the entries of the map
-abbrev pub mem_files : BTreeMap Path Node → Files
-mem_files m = from_entries m.entries
+abbrev pub map_files : BTreeMap Path Node → Files
+map_files m = from_entries m.entries
 
--- the map's entries are a tree: the root and all that something stands in are directories
-abbrev pub IsTreeMap : BTreeMap Path Node → Type 0
-IsTreeMap m = IsTree (mem_files m)
+-- the files of nodes, whoever else owns them
+abbrev pub mem_files : Nodes → Files
+mem_files nodes = map_files (arc_value nodes.held)
+
+-- the nodes are a tree: the root and all that something stands in are directories
+abbrev pub IsTreeMap : Nodes → Type 0
+IsTreeMap nodes = IsTree (mem_files nodes)
 
 -- the tree that has nothing but its root, with time 0
 abbrev pub root_alone : Files

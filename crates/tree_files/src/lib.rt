@@ -4,6 +4,7 @@
 mod edit;
 mod laws;
 mod mem_tree;
+mod nodes;
 mod sink;
 mod tree;
 

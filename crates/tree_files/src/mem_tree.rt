@@ -7,6 +7,7 @@ ghost use Rattle.tree_files.specs.MemFiles.{IsTreeMap, mem_files, root_alone, is
 ghost use Rattle.std.specs.FinMap.{insert};
 ghost use Rattle.tree_files.specs.declared.tree.Node.TheVariants.{Dir as dir, File as file};
 
+use crate::nodes::Nodes;
 use crate::tree::{Grove, Node, Stamp, Tree, TreeFault};
 use base_types::{Exact, NoMemory, Same, Seq, Text, Texts, TreePath};
 use std::alloc::{AllocError, Global};
@@ -15,7 +16,7 @@ use std::collections::BTreeMap;
 /// A tree in memory, which tells its files.
 #[derive(Drop)]
 pub struct MemTree {
-    nodes: BTreeMap<TreePath, Node>,
+    nodes: Nodes,
     faults: u64,
     lists: u64,
     due: Due,
@@ -43,8 +44,9 @@ impl MemTree {
         ensures calls { IfOk result (λ t. t.due.calls ≡ 0) }
         ensures forks { IfOk result (λ t. t.due.forks ≡ 0) }
     {
-        let mut nodes = BTreeMap::new(alloc);
-        nodes.insert(TreePath::root(alloc), Node::Dir(0))?;
+        let mut root = BTreeMap::new(alloc);
+        root.insert(TreePath::root(alloc), Node::Dir(0))?;
+        let nodes = Nodes::of(alloc, root)?;
         Ok(MemTree {
             nodes,
             faults: 0,
@@ -248,7 +250,7 @@ impl Grove for MemTree {
         ensures due_stays { MatchResult result (λ _. self.new.due ≡ after_fork self.old.due)
             (λ _. self.new.due ≡ self.old.due) }
     {
-        let nodes = self.nodes.clone()?;
+        let nodes = self.nodes.share()?;
         let named = Seq::from_vec(of_fork(&self.due.named, self.due.forks)?);
         self.due.forks = self.due.forks.saturating_add(1);
         Ok(MemTree {
@@ -299,11 +301,11 @@ fn handed_to(fork: u64, entry: (Option<u32>, u64)) -> Option<(Option<u32>, u64)>
 }
 
 /// The names that stand in a directory.
-fn names_in(nodes: &BTreeMap<TreePath, Node>, dir: &TreePath) -> Result<Texts, NoMemory>
+fn names_in(nodes: &Nodes, dir: &TreePath) -> Result<Texts, NoMemory>
     ensures { IfOk result (IsListing (mem_files nodes.now) dir.now) }
 {
     let mut names = Texts::new(dir.parts().alloc());
-    for path in nodes.keys() {
+    for path in nodes.map().keys() {
         if let Some(name) = name_in(dir, path) {
             names.push(name.copy()?)?;
         }
@@ -329,11 +331,7 @@ fn name_in<'a>(dir: &TreePath, path: &'a TreePath) -> Option<&'a Text>
 }
 
 /// Puts a directory and those on the way to it.
-fn place_dir(
-    nodes: &mut BTreeMap<TreePath, Node>,
-    path: &TreePath,
-    time: u64,
-) -> Result<(), NoMemory>
+fn place_dir(nodes: &mut Nodes, path: &TreePath, time: u64) -> Result<(), NoMemory>
     requires { IsTreeMap nodes.old }
     ensures tree { IsTreeMap nodes.new }
     ensures ok { OnOk result (mem_files nodes.new ≡ placed (mem_files nodes.old) path.now (dir time)) }
@@ -344,11 +342,7 @@ fn place_dir(
 }
 
 /// Puts a file and the directories on the way to it.
-fn place_file(
-    nodes: &mut BTreeMap<TreePath, Node>,
-    path: &TreePath,
-    bytes: Seq<u8>,
-) -> Result<(), NoMemory>
+fn place_file(nodes: &mut Nodes, path: &TreePath, bytes: Seq<u8>) -> Result<(), NoMemory>
     requires tree { IsTreeMap nodes.old }
     requires no_dir { is_dir (node_at (mem_files nodes.old) path.now) ≡ false }
     ensures tree { IsTreeMap nodes.new }
@@ -360,7 +354,7 @@ fn place_file(
 }
 
 /// Makes each proper prefix of a path a directory.
-fn make_dirs(nodes: &mut BTreeMap<TreePath, Node>, path: &TreePath) -> Result<(), NoMemory>
+fn make_dirs(nodes: &mut Nodes, path: &TreePath) -> Result<(), NoMemory>
     requires { IsTreeMap nodes.old }
     ensures tree { IsTreeMap nodes.new }
     ensures ok { OnOk result (mem_files nodes.new ≡ with_dirs (mem_files nodes.old) (prefixes path.now)) }
@@ -374,7 +368,7 @@ fn make_dirs(nodes: &mut BTreeMap<TreePath, Node>, path: &TreePath) -> Result<()
 }
 
 /// Makes the first n parts of a path a directory.
-fn make_dir(nodes: &mut BTreeMap<TreePath, Node>, path: &TreePath, n: usize) -> Result<(), NoMemory>
+fn make_dir(nodes: &mut Nodes, path: &TreePath, n: usize) -> Result<(), NoMemory>
     requires tree { IsTreeMap nodes.old }
     requires within { n ≤ length path.now }
     requires parent { HasParent (mem_files nodes.old) (take n path.now) }
@@ -392,11 +386,7 @@ fn make_dir(nodes: &mut BTreeMap<TreePath, Node>, path: &TreePath, n: usize) -> 
 
 /// Puts a node at a path whose parent is a directory, and a file where no directory is. An `Err`
 /// changes nothing.
-fn put_node(
-    nodes: &mut BTreeMap<TreePath, Node>,
-    path: &TreePath,
-    node: Node,
-) -> Result<(), NoMemory>
+fn put_node(nodes: &mut Nodes, path: &TreePath, node: Node) -> Result<(), NoMemory>
     requires tree { IsTreeMap nodes.old }
     requires parent { HasParent (mem_files nodes.old) path.now }
     requires keeps_dirs { is_dir (Some node) ≡ false → is_dir (node_at (mem_files nodes.old) path.now) ≡ false }
@@ -404,12 +394,12 @@ fn put_node(
     ensures ok { OnOk result (mem_files nodes.new ≡ insert (mem_files nodes.old) path.now node) }
     ensures err { OnErr result (mem_files nodes.new ≡ mem_files nodes.old) }
 {
-    nodes.insert(path.copy()?, node)?;
+    nodes.put(path.copy()?, node)?;
     Ok(())
 }
 
 /// Whether no proper prefix of a path is a file.
-fn is_way_free(nodes: &BTreeMap<TreePath, Node>, path: &TreePath) -> Result<bool, NoMemory>
+fn is_way_free(nodes: &Nodes, path: &TreePath) -> Result<bool, NoMemory>
     ensures { IfOk result (λ b. b ≡ is_way_free (mem_files nodes.now) path.now) }
 {
     for n in 0..path.parts().len() {
@@ -420,20 +410,20 @@ fn is_way_free(nodes: &BTreeMap<TreePath, Node>, path: &TreePath) -> Result<bool
     Ok(true)
 }
 
-fn is_dir(nodes: &BTreeMap<TreePath, Node>, path: &TreePath) -> bool
+fn is_dir(nodes: &Nodes, path: &TreePath) -> bool
     ensures { result ≡ is_dir (node_at (mem_files nodes.now) path.now) }
 {
     matches!(node_in(nodes, path), Some(Node::Dir(_)))
 }
 
-fn is_file(nodes: &BTreeMap<TreePath, Node>, path: &TreePath) -> bool
+fn is_file(nodes: &Nodes, path: &TreePath) -> bool
     ensures { result ≡ is_file (node_at (mem_files nodes.now) path.now) }
 {
     matches!(node_in(nodes, path), Some(Node::File(_)))
 }
 
-fn node_in<'a>(nodes: &'a BTreeMap<TreePath, Node>, path: &TreePath) -> Option<&'a Node>
+fn node_in<'a>(nodes: &'a Nodes, path: &TreePath) -> Option<&'a Node>
     ensures { option_copied result ≡ node_at (mem_files nodes.now) path.now }
 {
-    nodes.get(path)
+    nodes.map().get(path)
 }

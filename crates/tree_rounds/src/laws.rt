@@ -8,6 +8,7 @@ ghost use Rattle.tree_rounds.specs.Rounds.{AreForks, trees_of};
 /// rounds up to each.
 #[tactic(auto, using(crate::proofs::Rounds::told_by))]
 pub fn forks_tell_their_rounds<F>()
-    ensures { (told : F → Option Files) (faults lists : F → ℕ) (files : Files) (rounds : List (List Edit)) (forks : List F)
-        → AreForks told faults lists (Some files) rounds forks → map told forks ≡ map (λ f. Some f) (trees_of files rounds) }
+    ensures { (told : F → Option Files) (faults lists : F → ℕ) (files : Files) (rounds : List (List Edit))
+        (forks : List F) → AreForks told faults lists (Some files) rounds forks
+        → map told forks ≡ map (λ f. Some f) (trees_of files rounds) }
 {}

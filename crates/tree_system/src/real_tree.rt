@@ -1,6 +1,7 @@
 ghost use Rattle.std.specs.Prelude.{◌≡◌, ◌≤◌, ◌↔◌, ℕ, List, length, None, IfOk, IsOk, OnOk};
 ghost use Rattle.std.specs.Fs.{file_type, IsFile};
 ghost use Rattle.std.specs.List.Sorted.{IsPermutation, IsSorted};
+ghost use Rattle.std.specs.String.{string_bytes};
 ghost use Rattle.std.specs.Ordering.{nat_cmp};
 ghost use Rattle.std.specs.Cmp.Lexicographic.{slice_cmp};
 ghost use Rattle.tree_files.specs.Count.{Rose, raised};
@@ -16,24 +17,33 @@ use std::rt::Files;
 use std::{fs, io};
 use tree_files::{Grove, Stamp, Tree, TreeFault};
 
-/// An open file, and the place of the byte that a read gives next.
+/// An open file, with its size when it was opened, and the place of the byte that a read gives next.
 #[derive(Drop)]
 struct OpenFile<F> {
     name: Text,
     file: F,
+    size: u64,
     place: u64,
+    // Whether a read came short of its buffer just at the size, so that the file has not grown.
+    ended: bool,
 }
 
 impl<F: Read + Seek> OpenFile<F> {
-    /// Reads from a place on. It seeks only where the file stands at another one.
+    /// Reads from a place on. It seeks only where the file stands at another one, and asks the system no more once a
+    /// read has shown the end.
     fn read_at(&mut self, at: u64, into: &mut [u8]) -> io::Result<usize>
         ensures { IfOk result (λ n. n ≤ length into.old) }
     {
         if self.place != at {
             self.file.seek(SeekFrom::Start(at))?;
+            self.ended = false;
+        }
+        if self.ended {
+            return Ok(0);
         }
         let count = self.file.read(into)?;
         self.place = at.saturating_add(count as u64);
+        self.ended = count < into.len() && self.place == self.size;
         Ok(count)
     }
 }
@@ -42,12 +52,15 @@ impl<F: Read + Seek> OpenFile<F> {
 /// `read` fail.
 ///
 /// The file that was read last stays open until a read finds its end or another file is read, so a
-/// file that is read in pieces from its front is opened once.
+/// file that is read in pieces from its front is opened once. A file that is looked at twice in a row, as a search finds
+/// it and a load reads it, is asked for once.
 #[derive(Drop)]
 pub struct RealTree<R: Files> {
     rt: R,
     root: Text,
     open: Option<OpenFile<R::File>>,
+    // The file that the last call found, and its stamp.
+    found: Option<(Text, Stamp)>,
     faults: u64,
     lists: u64,
 }
@@ -63,6 +76,7 @@ impl<R: Files + AllocGlobal + Clone + Drop> RealTree<R> {
             rt,
             root,
             open: None,
+            found: None,
             faults: 0,
             lists: 0,
         }
@@ -93,12 +107,39 @@ impl<R: Files + AllocGlobal + Clone + Drop> RealTree<R> {
                 return Ok(open);
             }
         }
-        let file = open_regular(&self.rt, name.as_str())?;
+        let (file, size) = open_regular(&self.rt, name.as_str())?;
         Ok(OpenFile {
             name,
             file,
+            size,
             place: 0,
+            ended: false,
         })
+    }
+
+    /// The stamp of a name, where the last call found a file of that name. It answers once.
+    fn found_just_now(&mut self, name: &Text) -> Option<Stamp>
+        ensures faults_stay { self.new.faults ≡ self.old.faults }
+        ensures lists_stay { self.new.lists ≡ self.old.lists }
+        ensures root_stays { self.new.root ≡ self.old.root }
+    {
+        match self.found.take() {
+            Some((found, stamp)) if found.as_str() == name.as_str() => Some(stamp),
+            _ => None,
+        }
+    }
+
+    /// The stamp of a name, which is kept for one call more where it is that of a file.
+    fn look_at(&mut self, name: Text) -> io::Result<Stamp>
+        ensures faults_stay { self.new.faults ≡ self.old.faults }
+        ensures lists_stay { self.new.lists ≡ self.old.lists }
+        ensures root_stays { self.new.root ≡ self.old.root }
+    {
+        let stamp = stamp_at(&self.rt, name.as_str())?;
+        if let Stamp::File(_) = stamp {
+            self.found = Some((name, stamp));
+        }
+        Ok(stamp)
     }
 
     /// Reads the file of a name at a place, and keeps it open where it had bytes there.
@@ -125,13 +166,17 @@ impl<R: Files + AllocGlobal + Clone + Drop> Tree for RealTree<R> {
 
     fn stamp(&mut self, path: &TreePath) -> Result<Stamp, TreeFault> {
         let name = system_name(&self.root, path)?;
-        match stamp_at(&self.rt, name.as_str()) {
+        if let Some(stamp) = self.found_just_now(&name) {
+            return Ok(stamp);
+        }
+        match self.look_at(name) {
             Ok(stamp) => Ok(stamp),
             Err(error) => Err(self.refuse(error)),
         }
     }
 
     fn list(&mut self, dir: &TreePath) -> Result<Texts, TreeFault> {
+        self.found = None;
         let name = system_name(&self.root, dir)?;
         match names_shown(&self.rt, name.as_str()) {
             Ok(names) => {
@@ -143,6 +188,7 @@ impl<R: Files + AllocGlobal + Clone + Drop> Tree for RealTree<R> {
     }
 
     fn read(&mut self, file: &TreePath, at: u64, into: &mut [u8]) -> Result<usize, TreeFault> {
+        self.found = None;
         let name = system_name(&self.root, file)?;
         match self.read_at(name, at, into) {
             Ok(count) => Ok(count),
@@ -167,6 +213,7 @@ where
             rt: self.rt.clone()?,
             root: self.root.copy()?,
             open: None,
+            found: None,
             faults: 0,
             lists: 0,
         })
@@ -291,12 +338,13 @@ fn refuse_irregular(found: &Metadata) -> io::Result<()>
 }
 
 /// Opens a regular file. To open a pipe would wait for a writer, so what stands at the name is looked
-/// at right before, and what was opened is looked at too.
-fn open_regular<R: Files>(rt: &R, name: &str) -> io::Result<R::File> {
+/// at right before, and what was opened is looked at too. The file comes with its size.
+fn open_regular<R: Files>(rt: &R, name: &str) -> io::Result<(R::File, u64)> {
     refuse_irregular(&fs::metadata(rt, name)?)?;
     let file = fs::open(rt, name)?;
-    refuse_irregular(&file.metadata()?)?;
-    Ok(file)
+    let opened = file.metadata()?;
+    refuse_irregular(&opened)?;
+    Ok((file, opened.len()))
 }
 
 /// The names in the order of their bytes.
@@ -309,6 +357,16 @@ fn in_order(names: Vec<Text>) -> Result<Texts, AllocError>
     Ok(Texts::from_vec(names))
 }
 
+/// A name as a text.
+fn text_of(name: String) -> Result<Text, AllocError>
+    ensures { IfOk result (λ it. it ≡ string_bytes name) }
+{
+    match Text::from_string(name) {
+        Ok(text) => Ok(text),
+        Err(NoMemory) => Err(AllocError),
+    }
+}
+
 /// The names in a folder, in order, without those that are not UTF-8.
 fn names_in<R: Files + AllocGlobal + Clone + Drop>(rt: &R, folder: &str) -> io::Result<Texts> {
     let mut names = Vec::new(rt.alloc());
@@ -316,7 +374,7 @@ fn names_in<R: Files + AllocGlobal + Clone + Drop>(rt: &R, folder: &str) -> io::
         match entry {
             Ok(entry) => {
                 let name = String::from_str(rt.alloc(), entry.file_name())?;
-                names.push(Text::from_string(name))?;
+                names.push(text_of(name)?)?;
             }
             Err(error) => {
                 if error.kind() != ErrorKind::InvalidFilename {

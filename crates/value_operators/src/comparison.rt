@@ -114,7 +114,7 @@ fn is_module(held: &ModRef, value: &Value) -> bool
     ensures { result ≡ table.is_module held.now.mid (out-Value value.now) }
 {
     match value {
-        Value::Module(other) => held.mid == other.mid,
+        Value::Module(other) => held.mid() == other.mid(),
         _ => false,
     }
 }
@@ -126,7 +126,7 @@ pub(crate) fn order_of(left: &Value, right: &Value) -> Compared
     match left {
         Value::Nothing => same_where(is_nothing(right), TypeName::NoneType, right),
         Value::Bool(b) => beside_number(TypeName::Bool, bool_number(*b), right),
-        Value::Int(n) => beside_number(TypeName::Int, *n, right),
+        Value::Int(n) => beside_number(TypeName::Int, n.get(), right),
         Value::Text(text) => beside_text(text, right),
         Value::List(items) => beside_list(items, right),
         Value::Tuple(items) => beside_tuple(items, right),
@@ -303,7 +303,7 @@ fn same_module(alloc: Global, held: &ModRef, right: &Value) -> Result<Applied, N
 {
     match right {
         Value::Nothing => Ok(truth_value(false)),
-        Value::Module(other) => Ok(truth_value(held.mid == other.mid)),
+        Value::Module(other) => Ok(truth_value(held.mid() == other.mid())),
         _ => not_in_profile(alloc),
     }
 }

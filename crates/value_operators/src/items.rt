@@ -143,7 +143,7 @@ fn letter(alloc: Global, c: char) -> Result<Value, NoMemory>
 {
     let mut text = String::new(alloc);
     text.push(c)?;
-    Ok(Value::Text(Text::from_string(text)))
+    Ok(Value::Text(Text::from_string(text)?))
 }
 
 fn letter_of(alloc: Global, text: &str, n: i128) -> Result<Applied, NoMemory>

@@ -2,7 +2,7 @@ ghost use Rattle.std.specs.Prelude.{◌≡◌, IfOk, map, codes};
 ghost use Rattle.std.specs.List.{list_all};
 ghost use Rattle.value_operators.specs.Outcomes.{raises, type_error, profile_error, not_in_profile, is_special, is_plain, bool_number, number_of, limited, number, truth_value};
 
-use base_types::{NoMemory, Text};
+use base_types::{NoMemory, Text, Wide};
 use py_value::{Applied, Items, Kind, Raised, Value, nesting};
 use std::alloc::Global;
 
@@ -19,11 +19,8 @@ pub const MOST_NESTING: u64 = 64;
 pub fn raise(alloc: Global, kind: Kind, text: &str) -> Result<Applied, NoMemory>
     ensures { IfOk result (λ applied. applied ≡ raises kind text.now) }
 {
-    Ok(Applied::Raised(Raised {
-        kind,
-        text: Text::from_str(alloc, text)?,
-        name: None,
-    }))
+    let text = Text::from_str(alloc, text)?;
+    Ok(Applied::Raised(Raised::of(kind, text, None)?))
 }
 
 /// The refusal of what scripts cannot do here, though Python may.
@@ -80,7 +77,7 @@ pub(crate) fn number(alloc: Global, n: Option<i128>) -> Result<Applied, NoMemory
     ensures { IfOk result (λ applied. applied ≡ number n) }
 {
     match n {
-        Some(n) => Ok(Applied::Value(Value::Int(n))),
+        Some(n) => Ok(Applied::Value(Value::Int(Wide::of(n)))),
         None => raise(alloc, Kind::ProfileError, "number past 128 bits"),
     }
 }
@@ -107,7 +104,7 @@ pub(crate) fn number_of(value: &Value) -> Option<i128>
 {
     match value {
         Value::Bool(b) => Some(bool_number(*b)),
-        Value::Int(n) => Some(*n),
+        Value::Int(n) => Some(n.get()),
         _ => None,
     }
 }

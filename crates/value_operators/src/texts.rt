@@ -93,8 +93,8 @@ fn put_module(draft: Draft, held: &ModRef) -> Result<Draft, NoMemory>
         ++ table.place_text held.now.place)) }
 {
     let draft = put(draft, "<module ")?;
-    let draft = put_quoted(draft, held.name.as_str())?;
-    put_place(draft, &held.place)
+    let draft = put_quoted(draft, held.name().as_str())?;
+    put_place(draft, held.place())
 }
 
 fn comma_before(n: usize) -> &'static str
@@ -116,7 +116,7 @@ fn put_repr(alloc: Global, draft: Draft, value: &Value) -> Result<Draft, NoMemor
     match value {
         Value::Nothing => put(draft, "None"),
         Value::Bool(b) => put_bool(draft, *b),
-        Value::Int(n) => put_number(alloc, draft, *n),
+        Value::Int(n) => put_number(alloc, draft, n.get()),
         Value::Text(text) => put_quoted(draft, text.as_str()),
         Value::List(items) => put_list(alloc, draft, items),
         Value::Tuple(items) => put_tuple(alloc, draft, items),
@@ -195,7 +195,7 @@ pub fn str_of(alloc: Global, value: &Value) -> Result<Applied, NoMemory>
 {
     match value {
         Value::Text(text) => text_of(alloc, text),
-        Value::Error(error) => text_of(alloc, &error.text),
+        Value::Error(error) => text_of(alloc, error.text()),
         _ => repr_of(alloc, value),
     }
 }

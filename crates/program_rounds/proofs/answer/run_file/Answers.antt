@@ -8,7 +8,7 @@ use Rattle.program_rounds.proofs.answer.run_file.Goals as goal
 pub returns-in-Err-clause-answers : goal.returns-in-Err-clause-answers
 returns-in-Err-clause-answers g c = λ words is.
     ends_without g.S.Scripts.means _ _ _ c.tell_why.result c.args.run c.in-Some.file c.in-Err.why (record { run_is = is; file_is = c.in-Some.is; plan = c.tell_why.ensures.plan }) c.tell_why.ensures.history c.in-Err.ensures.err
-    (c.tell_why.ensures.leaves _ _ refl refl refl)
+    (c.tell_why.ensures.leaves _ _ refl refl refl) c.rounds_of.ensures.faults_grow (let lists = c.rounds_of.ensures.lists_stay in omega (arith, lists))
 
 pub run_list-requires-clause-can_run : goal.run_list-requires-clause-can_run
 run_list-requires-clause-can_run g c κs within = subst CanRun (sym c.as_slice.ensures) (can_by c.in-Ok.ensures.ok)

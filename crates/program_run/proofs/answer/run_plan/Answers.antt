@@ -1,4 +1,4 @@
-use Rattle.std.proofs.Common.{refl}
+use Rattle.std.proofs.Common.{refl, arith}
 use Rattle.program_run.specs.Answers.{Answers}
 use Rattle.program_run.proofs.Answering.{short_by, refused_by, unread_by}
 use Rattle.program_run.proofs.answer.run_plan.Goals as goal
@@ -22,4 +22,7 @@ returns-in-Err-Unread-clause-answers g c = λ words is.
     Answers.unread c.args.run is c.unread.ensures.plan c.unread.ensures.history unread (c.unread.ensures.leaves _ _ refl refl refl)
 
 pub returns-in-Err-NoMemory-clause-answers : goal.returns-in-Err-NoMemory-clause-answers
-returns-in-Err-NoMemory-clause-answers g c = λ words is. short_by _ words _ _ c.without_run.result c.args.run is c.without_run.ensures refl refl
+returns-in-Err-NoMemory-clause-answers g c = λ words is.
+    let opened = c.open_all.ensures in
+    let lists = opened.lists_stay in
+    short_by _ words _ _ c.without_run.result c.args.run is c.without_run.ensures (record { faults = opened.faults_grow; lists = omega (arith, lists); out = refl; err = refl })

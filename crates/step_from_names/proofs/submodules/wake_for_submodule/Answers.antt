@@ -13,5 +13,5 @@ returns c =
     let asked = c.in_ok-asked.asked in
     let event = λ (n : List ℕ). e.GetVar m.mid n true in
     let on = ap (λ (o : ModRef). ons.Submodule o asked true) c.in_ok-owner.ensures ∙ ap (λ (n : List ℕ). ons.Submodule m n true) c.in_ok-asked.ensures in
-    awake_again c.args.thread.now m c.in_ok-lazy.lazy (event c.in_ok-read.read) (event x) (ons.Submodule owner asked true) (ons.Submodule m x true) c.rouse.result
-    c.in_ok-lazy.ensures (ap event c.in_ok-read.ensures) on c.rouse.ensures
+    awake_again c.args.thread.now m c.in_ok-lazy.lazy (e.GetVar c.mid.result c.in_ok-read.read true) (event x) (ons.Submodule owner asked true) (ons.Submodule m x true) c.rouse.result
+    c.in_ok-lazy.ensures (ap (λ (k : ℕ). e.GetVar k c.in_ok-read.read true) c.mid.ensures ∙ ap event c.in_ok-read.ensures) on c.rouse.ensures

@@ -2,14 +2,11 @@ use Rattle.std.proofs.Common.{◌≡◌, sym, subst}
 use Rattle.std.specs.FinMap.{insert}
 use Rattle.tree_files.specs.Files.{IsTree}
 use Rattle.tree_files.specs.MemFiles.{mem_files}
-use Rattle.tree_files.proofs.EditLemmas.{mem_files-insert, IsTree-insert}
+use Rattle.tree_files.proofs.EditLemmas.{IsTree-insert}
 use Rattle.tree_files.proofs.mem_tree.put_node.Goals as goal
-
-pub returns-clause-ok : goal.returns-clause-ok
-returns-clause-ok c = rw c.in_ok-copy.ensures at (mem_files-insert c.args.nodes.now c.insert.new.self _ _ c.in_ok-insert.ensures.updates)
 
 pub returns-clause-tree : goal.returns-clause-tree
 returns-clause-tree c =
-    let made : mem_files c.insert.new.self ≡ insert (mem_files c.args.nodes.now) c.args.path.now c.args.node =
-    rw c.in_ok-copy.ensures at (mem_files-insert c.args.nodes.now c.insert.new.self _ _ c.in_ok-insert.ensures.updates) in
+    let made : mem_files c.put.new.self ≡ insert (mem_files c.args.nodes.now) c.args.path.now c.args.node =
+    rw c.in_ok-copy.ensures at c.in_ok-put.ensures.ok in
     subst IsTree (sym made) (IsTree-insert _ _ c.args.node c.requires.tree c.requires.keeps_dirs c.requires.parent)

@@ -1,5 +1,4 @@
-use Rattle.std.proofs.Common.{◌≤◌, ◌<◌, ◌-◌, length, ap, subst, arith}
-use Rattle.base_types.specs.Path.{Path, IsPath}
+use Rattle.std.proofs.Common.{rules, ◌≤◌, ◌<◌, ◌-◌, length, ap, arith}
 use Rattle.tree_walk.proofs.Walking.{deep_stops, entered}
 use Rattle.tree_walk.proofs.take.enter.Goals as goal
 
@@ -7,7 +6,7 @@ pub returns-then-saturating_sub-gt-MOST_PARTS-clause-takes : goal.returns-then-s
 returns-then-saturating_sub-gt-MOST_PARTS-clause-takes g c =
     let long = ap length c.parts.ensures in
     let deep : 64 < length c.args.dir - c.args.walk.now.parts = omega (arith, long) in
-    deep_stops (g.T.Tree.files c.args.tree.now) c.args.dir c.args.walk.now c.args.walk.now c.requires.dir c.requires.tree (subst (λ (p : Path). IsPath p) c.dir.view_is c.dir.invariant) deep
+    deep_stops (g.T.Tree.files c.args.tree.now) c.args.dir c.args.walk.now c.args.walk.now c.requires.dir c.requires.tree (search rules) deep
 
 pub returns-clause-takes : goal.returns-clause-takes
 returns-clause-takes g c =

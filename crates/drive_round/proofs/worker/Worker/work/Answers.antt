@@ -8,6 +8,7 @@ returns g c = record {
   after = c.run-pass.result.0;
   is = refl;
   continues = c.run-pass.ensures.continues;
+  stopped = c.run-pass.ensures.stopped;
   number = refl;
   run = refl;
   files = c.run-pass.ensures.files;

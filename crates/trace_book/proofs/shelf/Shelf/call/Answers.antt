@@ -2,8 +2,8 @@
 use Rattle.trace_book.proofs.Moves.{took_busy, may_make}
 use Rattle.trace_book.proofs.shelf.Shelf.call.Goals as goal
 
-pub make-done-requires-clause-busy : goal.make-done-requires-clause-busy
-make-done-requires-clause-busy g c = took_busy _ _ c.args.seat.now.me _ c.if-not-take_turn.ensures.had
+pub make-requires-clause-busy : goal.make-requires-clause-busy
+make-requires-clause-busy g c = took_busy _ _ c.args.seat.now.me _ c.if-not-take_turn.ensures.had
 
-pub make-done-requires-clause-may : goal.make-done-requires-clause-may
-make-done-requires-clause-may g c = may_make _ _ c.args.seat.now.me _ c.args.number c.args.event c.requires.ready c.if-not-take_turn.ensures.had c.knows_is_allowed.ensures c.requires.turn c.requires.knows
+pub make-requires-clause-may : goal.make-requires-clause-may
+make-requires-clause-may g c = may_make _ _ c.args.seat.now.me _ c.args.number c.args.event c.requires.ready c.if-not-take_turn.ensures.had c.knows_is_allowed.ensures c.requires.turn c.requires.knows

@@ -18,4 +18,4 @@ returns g c =
     let last = closes_with _ _ _ _ v _ _ (ap (λ v. v.phase) rests.idle) c.requires.all c.close_with-closed.ensures.values.2 in
     let same : c.take-slot.result ≡ Some last.0 = m.some-injective _ _ (sym c.take-slot.ensures.value ∙ last.1) in
     let book : last.0 ≡ c.in-Some.book = cc (same, c.in-Some.is) in
-    subst (λ b. Written g.O.Outlet.piece g.O.Outlet.out v.base v.seen b) book (closed_book _ _ v last.0 last.2 last.3 rests.round c.requires.all)
+    subst (λ b. Written g.O.Outlet.piece g.O.Outlet.out v.base v.seen b) (book ∙ sym c.into_inner.ensures) (closed_book _ _ v last.0 last.2 last.3 rests.round c.requires.all)

@@ -9,7 +9,7 @@ pub join_seat-requires : goal.join_seat-requires
 join_seat-requires g c =
     let into = c.requires.ready.0 in
     let other = c.requires.ready.1 in
-    (search rules, search rules, other.1, search rules, joins_in _ _ _ _ _ _ _ _ _ _ _ _ _ into.0.idle other.0.idle)
+    (search rules, search rules, other.1, search rules, joins_in _ _ _ _ _ _ _ _ _ _ _ _ _ _ _ into.0.idle other.0.idle)
 
 pub load-requires : goal.load-requires
 load-requires g c =

@@ -13,11 +13,11 @@ use Rattle.trace_book.proofs.shelf.Shelf.try_wake.Goals as goal
 pub give_back-requires-clause-busy : goal.give_back-requires-clause-busy
 give_back-requires-clause-busy g c = subst (λ (x : Seated g.row.O.Denot). Busy g.O.Outlet.piece g.O.Outlet.out x) (sym c.may_wake.ensures.seat) (took_busy _ _ c.args.seat.now.me _ c.if-not-take_turn.ensures.had)
 
-pub make-done-requires-clause-busy : goal.make-done-requires-clause-busy
-make-done-requires-clause-busy g c = subst (λ (x : Seated g.row.O.Denot). Busy g.O.Outlet.piece g.O.Outlet.out x) (sym c.may_wake.ensures.seat) (took_busy _ _ c.args.seat.now.me _ c.if-not-take_turn.ensures.had)
+pub make-requires-clause-busy : goal.make-requires-clause-busy
+make-requires-clause-busy g c = subst (λ (x : Seated g.row.O.Denot). Busy g.O.Outlet.piece g.O.Outlet.out x) (sym c.may_wake.ensures.seat) (took_busy _ _ c.args.seat.now.me _ c.if-not-take_turn.ensures.had)
 
-pub make-done-requires-clause-may : goal.make-done-requires-clause-may
-make-done-requires-clause-may g c =
+pub make-requires-clause-may : goal.make-requires-clause-may
+make-requires-clause-may g c =
     subst (λ (x : Seated g.row.O.Denot). MayMake x c.args.number events.Wake) (sym c.may_wake.ensures.seat)
     (may_make_it _ _ c.args.seat.now.me _ c.args.number events.Wake c.requires.ready c.if-not-take_turn.ensures.had (sym c.if-not-may_wake.ensures.may))
 
@@ -34,9 +34,9 @@ returns-in-Ok-clause-ok g c =
     let me = c.args.seat.now.me in
     let t = c.args.number in
     let had = c.may_wake.new.seat.me in
-    let after = c.make-done.new.seat.me in
+    let after = c.make.new.seat.me in
     let reply = c.in-Ok.reply in
     let took = subst (λ (x : Seated g.row.O.Denot). Took g.O.Outlet.piece g.O.Outlet.out me x) (sym c.may_wake.ensures.seat) c.if-not-take_turn.ensures.had in
-    let gave : after ≡ (idle had.0 (longer_by had t events.Wake reply), []) = subst (λ (d : Result Reply NoMemory). IfOk d (λ r. after ≡ (idle had.0 (longer_by had t events.Wake r), []))) c.in-Ok.is c.make-done.ensures.seat in
-    let made : Made had t events.Wake reply = subst (λ (d : Result Reply NoMemory). IfOk d (Made had t events.Wake)) c.in-Ok.is c.make-done.ensures.made in
+    let gave : after ≡ (idle had.0 (longer_by had t events.Wake reply), []) = subst (λ (d : Result Reply NoMemory). IfOk d (λ r. after ≡ (idle had.0 (longer_by had t events.Wake r), []))) c.in-Ok.is c.make.ensures.seat in
+    let made : Made had t events.Wake reply = subst (λ (d : Result Reply NoMemory). IfOk d (Made had t events.Wake)) c.in-Ok.is c.make.ensures.made in
     (called_from _ _ _ me had after t events.Wake reply c.requires.ready took gave made).2
