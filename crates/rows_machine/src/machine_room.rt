@@ -1,5 +1,6 @@
 //! Schedules of the machine of imports. `machine` begins with a new one; a row is an event in the words of a trace, answered
 //! by its reply.
+ghost use Rattle.std.specs.Prelude.{◌≡◌, None};
 
 use crate::schedules;
 use base_types::Text;
@@ -36,7 +37,10 @@ impl Machines {
         }
     }
 
-    pub fn new() -> Self {
+    /// No machine yet: each event is unknown.
+    pub fn new() -> Self
+        ensures { result.machine ≡ None }
+    {
         Self { machine: None }
     }
 }

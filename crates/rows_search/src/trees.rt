@@ -1,5 +1,8 @@
 //! A tree in memory that rows make, its forks, and what stands in it.
-ghost use Rattle.std.specs.Prelude.{◌≡◌};
+ghost use Rattle.std.specs.Prelude.{◌≡◌, OnOk};
+ghost use Rattle.tree_files.specs.Edits.{placed};
+ghost use Rattle.tree_files.specs.MemFiles.{mem_files};
+ghost use Rattle.tree_files.specs.declared.tree.Node.TheVariants.{Dir as dir, File as file};
 
 use crate::edits::{edit, edits};
 use base_types::{NoMemory, Text, TreePath};
@@ -25,7 +28,9 @@ pub fn path(alloc: Global, row: &mut Row<'_>) -> Result<TreePath, RowError> {
 }
 
 /// Puts a file into the tree, where it takes one.
-pub fn put_file(tree: &mut MemTree, at: &TreePath, bytes: &[u8]) -> Result<(), RowError> {
+pub fn put_file(tree: &mut MemTree, at: &TreePath, bytes: &[u8]) -> Result<(), RowError>
+    ensures { OnOk result (mem_files tree.new.nodes ≡ placed (mem_files tree.old.nodes) at.now (file bytes.now)) }
+{
     if !tree.takes_file(at)? {
         return Err(RowError::Unknown);
     }
@@ -33,7 +38,9 @@ pub fn put_file(tree: &mut MemTree, at: &TreePath, bytes: &[u8]) -> Result<(), R
 }
 
 /// Puts a folder into the tree, where it takes one.
-pub fn put_dir(tree: &mut MemTree, at: &TreePath, time: u64) -> Result<(), RowError> {
+pub fn put_dir(tree: &mut MemTree, at: &TreePath, time: u64) -> Result<(), RowError>
+    ensures { OnOk result (mem_files tree.new.nodes ≡ placed (mem_files tree.old.nodes) at.now (dir time)) }
+{
     if !tree.takes_dir(at)? {
         return Err(RowError::Unknown);
     }

@@ -1,6 +1,7 @@
 //! The words of a row.
-ghost use Rattle.std.specs.Prelude.{◌≡◌, ◌==◌, ◌∷◌, [], IfNone, IfOk, OnOk, OnErr, IfSome, MatchBool, true, false, length, drop, take};
-ghost use Rattle.rows_words.specs.Rows.{without_blanks, behind_blank, begins, left_behind};
+ghost use Rattle.std.specs.Prelude.{◌≡◌, ◌==◌, ◌∷◌, ◌≤◌, [], Some, IfNone, IfOk, OnOk, OnErr, IfSome, MatchBool, true, false, length, drop, take};
+ghost use Rattle.rows_words.specs.Rows.{without_blanks, behind_blank, begins, left_behind, is_name_byte, behind_word, behind_name, word_len, name_len};
+ghost use Rattle.base_spelling.specs.Numbers.{number_in};
 
 use base_spelling::{read_number, read_quoted, read_source};
 use base_types::{NoMemory, Seq, Text};
@@ -44,9 +45,26 @@ pub struct Row<'a> {
     rest: &'a [u8],
 }
 
+#[tactic(auto, unfolding(crate::specs::Rows::behind_word))]
+fn behind_word(bytes: &[u8]) -> &[u8]
+    ensures value { result.now ≡ behind_word bytes.now }
+    ensures shorter { length result.now ≤ length bytes.now }
+{
+    let mut rest = bytes;
+    'word: while let [b, behind @ ..] = rest {
+        if *b == b' ' {
+            break;
+        }
+        rest = behind;
+    }
+    rest
+}
+
 /// The number of bytes up to the first blank.
-fn word_len(bytes: &[u8]) -> usize {
-    bytes.iter().position(|b| *b == b' ').unwrap_or(bytes.len())
+fn word_len(bytes: &[u8]) -> usize
+    ensures { result ≡ word_len bytes.now }
+{
+    bytes.len() - behind_word(bytes).len()
 }
 
 /// The number of bytes of a quoted text, its quotes included; all of them where it has no end.
@@ -64,12 +82,32 @@ fn quoted_len(bytes: &[u8]) -> usize {
     bytes.len()
 }
 
+fn is_name_byte(b: u8) -> bool
+    ensures { result ≡ is_name_byte b }
+{
+    b.is_ascii_alphanumeric() || b == b'_' || b >= 128
+}
+
+#[tactic(auto, unfolding(crate::specs::Rows::behind_name))]
+fn behind_name(bytes: &[u8]) -> &[u8]
+    ensures value { result.now ≡ behind_name bytes.now }
+    ensures shorter { length result.now ≤ length bytes.now }
+{
+    let mut rest = bytes;
+    'name: while let [b, behind @ ..] = rest {
+        if !is_name_byte(*b) {
+            break;
+        }
+        rest = behind;
+    }
+    rest
+}
+
 /// The number of bytes of a name: letters of all kinds, digits and `_`.
-fn name_len(bytes: &[u8]) -> usize {
-    bytes
-        .iter()
-        .position(|b| !(b.is_ascii_alphanumeric() || *b == b'_' || *b >= 128))
-        .unwrap_or(bytes.len())
+fn name_len(bytes: &[u8]) -> usize
+    ensures { result ≡ name_len bytes.now }
+{
+    bytes.len() - behind_name(bytes).len()
 }
 
 fn push_all(all: &mut Seq<u8>, piece: &[u8]) -> Result<(), NoMemory> {
@@ -209,19 +247,28 @@ impl<'a> Row<'a> {
     }
 
     /// What stands before the next blank.
-    pub fn word(&mut self) -> Result<&'a str, RowError> {
+    pub fn word(&mut self) -> Result<&'a str, RowError>
+        ensures word { IfOk result (λ text. text.now ≡ take (word_len self.old.rest.now) self.old.rest.now) }
+        ensures rest { self.new.rest.now ≡ left_behind self.old.rest.now (word_len self.old.rest.now) }
+    {
         let len = word_len(self.rest);
         text_of(self.cut(len))
     }
 
     /// A name: letters, digits and `_`; empty where none stands here.
-    pub fn name(&mut self) -> Result<&'a str, RowError> {
+    pub fn name(&mut self) -> Result<&'a str, RowError>
+        ensures name { IfOk result (λ text. text.now ≡ take (name_len self.old.rest.now) self.old.rest.now) }
+        ensures rest { self.new.rest.now ≡ left_behind self.old.rest.now (name_len self.old.rest.now) }
+    {
         let len = name_len(self.rest);
         text_of(self.cut(len))
     }
 
     /// A number without a sign.
-    pub fn number(&mut self) -> Result<u64, RowError> {
+    pub fn number(&mut self) -> Result<u64, RowError>
+        ensures number { IfOk result (λ n. Some n ≡ number_in (take (name_len self.old.rest.now) self.old.rest.now)) }
+        ensures rest { self.new.rest.now ≡ left_behind self.old.rest.now (name_len self.old.rest.now) }
+    {
         let len = name_len(self.rest);
         read_number(self.cut(len)).ok_or(RowError::Unknown)
     }
@@ -248,7 +295,10 @@ impl<'a> Row<'a> {
     }
 
     /// A number below 2 ^ 32.
-    pub fn small(&mut self) -> Result<u32, RowError> {
+    pub fn small(&mut self) -> Result<u32, RowError>
+        ensures number { IfOk result (λ n. Some n ≡ number_in (take (name_len self.old.rest.now) self.old.rest.now)) }
+        ensures rest { self.new.rest.now ≡ left_behind self.old.rest.now (name_len self.old.rest.now) }
+    {
         match u32::try_from(self.number()?) {
             Ok(number) => Ok(number),
             Err(_) => Err(RowError::Unknown),
