@@ -16,6 +16,7 @@ import sys
 import tempfile
 import time
 
+import check_rate
 import machine_rate
 import scratch
 
@@ -55,30 +56,29 @@ print(time.perf_counter() - began)
 
 
 def measure(words, folder):
-    """The seconds and the peak memory in KiB of one process, and what it wrote."""
+    """The seconds of one process, and what it wrote."""
     reader, writer = os.pipe()
     began = time.perf_counter()
     child = subprocess.Popen(words, cwd=folder, stdout=writer)
     os.close(writer)
     with os.fdopen(reader) as pipe:
         written = pipe.read()
-    _, status, usage = os.wait4(child.pid, 0)
+    _, status = os.waitpid(child.pid, 0)
     spent = time.perf_counter() - began
     child.returncode = os.waitstatus_to_exitcode(status)
     if child.returncode != 0:
         sys.exit(f"{words} ended with status {child.returncode}")
-    return spent, usage.ru_maxrss, written
+    return spent, written
 
 
 def best(words, folder):
-    """The least time of several runs, and the most memory."""
-    runs = [measure(words, folder) for _ in range(ROUNDS)]
-    return min(run[0] for run in runs), max(run[1] for run in runs), runs[0][2]
+    """The least time of several runs."""
+    return min(measure(words, folder)[0] for _ in range(ROUNDS))
 
 
 def in_cpython(script, folder):
     """The least time that CPython takes for a script, in seconds."""
-    return min(float(measure([sys.executable, "-c", TIMED, script], folder)[2]) for _ in range(ROUNDS))
+    return min(float(measure([sys.executable, "-c", TIMED, script], folder)[1]) for _ in range(ROUNDS))
 
 
 def write_scripts(folder):
@@ -101,7 +101,7 @@ def compare(program, folder, empty):
     for number, (name, (_, bound)) in enumerate(SCRIPTS.items()):
         times = []
         for twice in (1, 2):
-            spent, _, _ = best([program, "run", FUEL, f"s{number}_{twice}.py"], folder)
+            spent = best([program, "run", FUEL, f"s{number}_{twice}.py"], folder)
             times.append(spent - empty)
         other = in_cpython(f"s{number}_1.py", folder)
         print(f"{name}: {times[0] * 1e3:.1f} ms, CPython {other * 1e3:.1f} ms ({times[0] / other:.2f} times), twice {times[1] / times[0]:.2f}")
@@ -128,14 +128,15 @@ def main():
         folder = top / "scripts"
         folder.mkdir()
         write_scripts(folder)
-        empty, least, _ = best([program, "run", "empty.py"], folder)
-        python, _, _ = best([sys.executable, "empty.py"], folder)
+        empty = best([program, "run", "empty.py"], folder)
+        python = best([sys.executable, "empty.py"], folder)
         print(f"an empty script: {empty * 1e3:.1f} ms, CPython {python * 1e3:.1f} ms")
         passed = [] if empty <= MOST_OF_AN_EMPTY_SCRIPT * python else ["an empty script"]
         passed += compare(program, folder, empty)
-        spent, most, _ = best([program, "run", FUEL, "s0_2.py"], folder)
+        spent = best([program, "run", FUEL, "s0_2.py"], folder)
+        least, most = (check_rate.peak([program, "run", FUEL, script], folder) for script in ("empty.py", "s0_2.py"))
         events = 2 * TURNS * 3
-        rate, size = events / (spent - empty), (most - least) * 1024 / events
+        rate, size = events / (spent - empty), (most - least) / events
         print(f"{rate:.0f} events a second; {size:.0f} bytes an event")
         if machine:
             alone = events_a_second(machine)
