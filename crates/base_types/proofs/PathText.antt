@@ -1,5 +1,5 @@
 -- Texts and the paths that they spell.
-use Rattle.std.proofs.Common.{◌≡◌, ◌∙◌, refl, sym, ap, subst, ℕ, ◌<◌, List, [], ◌∷◌, ◌++◌, Bool, true, false, ◌&&◌, not, IsTrue, length, eqb, inl, inr, All, codes, get_or, take, ◌+◌, append_assoc, length-take, map, zero, suc, arith, ◌==◌, nat_eq}
+use Rattle.std.proofs.Common.{◌≡◌, ◌∙◌, refl, sym, ap, subst, ℕ, ◌<◌, List, [], ◌∷◌, ◌++◌, Bool, true, false, ◌&&◌, not, length, eqb, inl, inr, All, codes, get_or, take, ◌+◌, append_assoc, length-take, map, zero, suc, arith, ◌==◌, nat_eq}
 use Rattle.std.specs.Cmp.Lexicographic.{pointwise}
 use Rattle.std.specs.List.{list_all, slice_split}
 use Rattle.std.proofs.lemmas.List.{take_more}
@@ -29,10 +29,6 @@ negated false e = refl
 and_false : (b : Bool) → b && false ≡ false
 and_false true = refl
 and_false false = refl
-
-pub IsPath-push : (p : Path) (name : List ℕ) → IsPath p → IsTrue (is_part name) → IsPath (p ++ name ∷ [])
-IsPath-push [] name p n = both (is_part name) true n refl
-IsPath-push (x ∷ xs) name p n = both (is_part x) _ (left (is_part x) _ p) (IsPath-push xs name (right (is_part x) _ p) n)
 
 no_slash_in : (bytes : List ℕ) → list_all is_part_byte bytes ≡ true → list_all (λ b. not (slash b)) bytes ≡ true
 no_slash_in [] e = refl

@@ -170,14 +170,8 @@ number-send = option.the_field_send builtin.u32 (plain_send _ _ _ _ _)
 event-field : IsSend event_type.the_field.row
 event-field = enum_send (enums.shape event_type.the_type) (search (plain_send, dotted.the_send, spec.the_send, bytes-send, text.the_send, value-field, whole-send, number-send, tree_path.the_send, listing.the_field_send, ns-send, slot.the_field_send, outcome.the_field_send))
 
-event-send : IsSend event_type.the_row
-event-send = recorded_send event_type.the_field.row _ _ event_type.the_type.to_one event-field
-
 reply-field : IsSend reply_type.the_field.row
 reply-field = enum_send (enums.shape reply_type.the_type) (search (plain_send, mod_ref.the_send, dotted.the_send, slot.the_field_send, value-field, texts-send, items-send, bytes-send, ns-send))
-
-reply-send : IsSend reply_type.the_row
-reply-send = recorded_send reply_type.the_field.row _ _ reply_type.the_type.to_one reply-field
 
 entry-field : IsSend entry_type.the_field.row
 entry-field = struct_send (structs.shape entry_type.the_type) (plain_send _ _ _ _ _, (event-field, (reply-field, tt)))
@@ -188,9 +182,6 @@ entry-send = recorded_send entry_type.the_field.row _ _ entry_type.the_type.to_o
 state-field : IsSend state_type.the_field.row
 state-field = struct_send (structs.shape state_type.the_type)
     (table-field, (locks.the_send, (path_map.the_send kept_type.the_row kept.the_send, (seq.the_send builtin.u32 (plain_send _ _ _ _ _), tt))))
-
-state-send : IsSend state_type.the_row
-state-send = recorded_send state_type.the_field.row _ _ state_type.the_type.to_one state-field
 
 machine-send : IsSend machine_type.the_row
 machine-send = view_send machine_inside.the_row _ _ _ _ (recorded_send machine_inside.the_field.row _ _ machine_inside.the_type.to_one

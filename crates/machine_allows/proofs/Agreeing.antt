@@ -84,10 +84,6 @@ module _ {X : Type 0} where
   push_elsewhere (y ∷ ys) x zero other = refl
   push_elsewhere (y ∷ ys) x (suc i) other = push_elsewhere ys x i (λ e. other (ap (λ n. suc n) e))
 
-no_bit : (c : Bool) → bit (c && false) ≡ 0
-no_bit true = refl
-no_bit false = refl
-
 -- a body more at the end
 pub opened_push : (t : ℕ) (bs : List Body) (x : Body) (i : ℕ) → bit (opened_by t (slice_get (bs ++ x ∷ []) i)) ≡ bit (opened_by t (slice_get bs i)) + bit (nat_eq i (length bs) && opened_by t (Some x))
 opened_push t bs x i =

@@ -91,10 +91,6 @@ pub shown_entry : (t : ℕ) (k : Shown) (e : Entry) (es : List Entry) → fold s
 shown_entry t k e es =
     elim (eqb e.thread t) as (λ c. fold shown_more k (map (λ e. (e.event, e.reply)) (cond c (e ∷ filter (λ e. e.thread == t) es) (filter (λ e. e.thread == t) es))) ≡ fold shown_more (cond c (shown_more k (e.event, e.reply)) k) (own t es)) [ true ↦ refl | false ↦ refl ]
 
--- a thread's own event
-pub agree_own : (s : State) (k : Shown) (e : Event) → allowed s 0 e ≡ true → Whole s → Agrees (bones s) 0 k.held k.doing → Agrees (bones (step s 0 e).1) 0 (shown_more k (e, (step s 0 e).0)).held (shown_more k (e, (step s 0 e).0)).doing
-agree_own s k e h w g = (told_step s w.sound w.backed 0 e h).agrees 0 k.held k.doing g
-
 module _ (t : ℕ) where
   abbrev Agree : State → Shown → Type 0
   Agree s k = Agrees (bones s) t k.held k.doing

@@ -179,9 +179,6 @@ module _ (table : Table) (keeps : AreNamed table) (f : Object → Object) (same 
 more_pushed : {X : Type 0} (xs : List X) (x : X) (i : ℕ) → i < length xs → i < length (xs ++ x ∷ [])
 more_pushed xs x i less = let at = at_some xs i less in within (xs ++ x ∷ []) i at.0 (pushed_keeps xs x i at.0 at.1)
 
-stays : (o : Object) → Stays o o
-stays o = (refl, λ h. h)
-
 module _ (table : Table) (keeps : AreNamed table) where
   pub set_grow : (mid : ℕ) (x : List ℕ) (v : Value) → Grow table.objects (with_set table mid x v).objects
   set_grow mid x v = grow_changed (λ object. record object { vars = with_var object.vars x v }) (λ o. (refl, λ h. h)) table.objects mid

@@ -1,4 +1,3 @@
 pub mod Histories
 pub mod Outgo
-pub mod StartCode
 pub mod Sight

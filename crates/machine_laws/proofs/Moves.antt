@@ -4,7 +4,6 @@ use Rattle.std.proofs.lemmas.List.{map-append, length-map}
 use Rattle.spec_core.specs.declared.spec.Spec.{Spec}
 use Rattle.py_value.specs.declared.value.Value.{Value}
 use Rattle.py_value.specs.declared.value.NsState.{NsState}
-use Rattle.module_lock.specs.Table.{Table}
 use Rattle.module_table.specs.Lists.{changed}
 use Rattle.module_table.specs.declared.module.LoadKind.{LoadKind}
 use Rattle.module_table.specs.declared.module.LoadStage.{LoadStage}
@@ -22,10 +21,6 @@ made b t n phase kind stage = record b {
   bodies = b.bodies ++ record { kind = kind; thread = t; mid = length b.modules; stage = stage } ∷ [];
 }
 
--- one more load of a module
-abbrev pub loaded_again : Bones → ℕ → ℕ → LoadKind → LoadStage → Bones
-loaded_again b t mid kind stage = record b { bodies = b.bodies ++ record { kind = kind; thread = t; mid = mid; stage = stage } ∷ [] }
-
 abbrev pub with_stage : Bones → ℕ → Bones
 with_stage b load = record b { bodies = changed (λ l. record l { stage = stages.Ended }) b.bodies load }
 
@@ -34,9 +29,6 @@ opened b load t = record b { bodies = changed (λ l. record l { stage = stages.O
 
 abbrev pub at_phase : Bones → ℕ → Phase → Bones
 at_phase b mid phase = record b { modules = changed (λ m. record m { phase = phase }) b.modules mid }
-
-abbrev pub locked : Bones → Table → Bones
-locked b locks = record b { locks = locks }
 
 module _ (s : State) where
   pub set_same : (mid : ℕ) (x : List ℕ) (v : Value) → bones (record s { table = with_set s.table mid x v }) ≡ bones s

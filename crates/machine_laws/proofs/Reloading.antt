@@ -35,10 +35,6 @@ use Rattle.machine_laws.proofs.Stages.{staged, opens_staged, sound_staged}
 use Rattle.machine_laws.proofs.Again.{again, sound_again, opens_again, done_again, sound_done_again, opens_done, reload_there}
 use Rattle.machine_laws.proofs.Kept.{Keeps, waits_on}
 
-is_none_yet : (o : Option ℕ) → is_number o None ≡ true → o ≡ None
-is_none_yet None h = refl
-is_none_yet (Some x) h = absurd (false≢true h)
-
 is_this : (o : Option ℕ) (i : ℕ) → is_number o (Some i) ≡ true → o ≡ Some i
 is_this None i h = absurd (false≢true h)
 is_this (Some x) i h = ap (λ z. Some z) (eqb-true x i h)

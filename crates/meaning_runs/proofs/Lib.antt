@@ -3,4 +3,3 @@ pub mod Law
 pub mod Giving
 pub mod Once
 pub mod Stand
-pub mod Listing

@@ -1,6 +1,6 @@
 -- From where a script stands to where it stands next, and to its end.
-use Rattle.std.proofs.Common.{◌≡◌, ◌≤◌, ℕ, ◌+◌, ◌-◌, Bool, true, false, not, cond, nat_lt, if◌then◌else◌, List, [], ◌∷◌, ◌++◌, Option, Some, None, Result, Ok, Err, OnErr, refl, sym, ◌∙◌, ap, subst, arith}
-use Rattle.std.proofs.lemmas.Bool.{ltb-false, ltb-true, lt-ltb}
+use Rattle.std.proofs.Common.{◌≡◌, ◌≤◌, ℕ, ◌+◌, ◌-◌, Bool, true, if◌then◌else◌, List, [], ◌∷◌, ◌++◌, Option, Some, Result, Ok, Err, OnErr, refl, sym, ◌∙◌, ap, subst, arith}
+use Rattle.std.proofs.lemmas.Bool.{lt-ltb}
 use Rattle.std.proofs.lemmas.List.{append-nil}
 use Rattle.machine_events.specs.declared.event.Event.{Event}
 use Rattle.machine_events.specs.declared.event.Event.TheVariants.{End}
@@ -10,10 +10,10 @@ use Rattle.machine_events.specs.declared.event.Outcome.{Outcome}
 use Rattle.tree_files.specs.Files.{Files}
 use Rattle.machine_shown.specs.Holdings.{Holding}
 use Rattle.machine_shown.specs.Shown.{Shown, Running, shown, shown_first, holds}
-use Rattle.meaning_runs.specs.Runs.{Run, Over, Pays, Makes, How, Spent, gives_up, spend, play, on_budget, Ending, Came, replies_of, Reaches, starts, pays, makes, told, Looks, Stands, StandsIn, IsSpent, IsUnread, AfterPay, AfterAsk, gives, GivesUp, Safe}
+use Rattle.meaning_runs.specs.Runs.{Run, Over, Pays, Makes, How, Spent, gives_up, spend, play, on_budget, Ending, Came, replies_of, Reaches, starts, pays, makes, told, Looks, Stands, StandsIn, IsSpent, IsUnread, gives, GivesUp, Safe}
 use Rattle.meaning_runs.specs.Follows.{Follows, IsPart, Ends}
 use Rattle.meaning_runs.specs.Lists.{ends_in}
-use Rattle.meaning_runs.proofs.Spends.{on_budget_at, spend_reaches, played, safe_reaches, shown-snoc}
+use Rattle.meaning_runs.proofs.Spends.{spend_reaches, played, safe_reaches, shown-snoc}
 use Rattle.meaning_runs.proofs.Giving.{safe_spend}
 pub use Rattle.meaning_runs.proofs.Giving.{given, still, may_give}
 use Rattle.meaning_runs.proofs.Once.{no_end, once_at_end}
@@ -27,13 +27,6 @@ stands_paid {mine = mine} {b} {n} {of_tree} {next} enough s = record { paid = s.
 pub stands_made : {files : Option Files} {whole : Run} {fuel : ℕ} {mine mine' : List (Event × Reply)} {b : ℕ} {e : Event} {r : Reply} {next : Reply → Run} → mine' ≡ mine ++ (e, r) ∷ [] → Stands files whole fuel mine b (Makes e next) → Stands files whole fuel mine' b (next r)
 stands_made {mine = mine} {e = e} {r} {next} is s = rw is (record { paid = s.paid; sum = s.sum; reaches = makes s.paid mine e r next s.reaches })
 
-pub after_pay : {files : Option Files} (b n b' : ℕ) (paid : Bool) → paid ≡ not (nat_lt b n) → b' ≡ cond paid (b - n) b → (whole : Run) (fuel : ℕ) (mine : List (Event × Reply)) (of_tree : Bool) (next : Run) → Stands files whole fuel mine b (Pays of_tree n next) → AfterPay paid files whole fuel mine b' next
-after_pay {files = files} b n b' paid is left whole fuel mine of_tree next s = rw left (rw is (at (nat_lt b n) refl))
-  where
-    at : (short : Bool) → nat_lt b n ≡ short → AfterPay (not short) files whole fuel mine (cond (not short) (b - n) b) next
-    at true e = record { of_tree = of_tree; units = n; next = next; stands = s; short = ltb-true b n e }
-    at false e = stands_paid (ltb-false b n e) s
-
 pub safe_stands : {files : Option Files} (t : ℕ) {whole : Run} {fuel : ℕ} {mine : List (Event × Reply)} {b : ℕ} {rest : Run} → Stands files whole fuel mine b rest → Safe (shown_first t) whole → Safe (shown t mine) rest
 safe_stands t s safe = safe_reaches t s.reaches safe
 
@@ -46,13 +39,6 @@ play_none f (Over how) pairs = refl
 play_none f (Pays of_tree n next) pairs = play_none f next pairs
 play_none f (Looks q next) pairs = play_none f (next (told f q)) pairs
 play_none f (Makes e next) pairs = refl
-
-pub part_reached : (f : Files) (t : ℕ) {whole : Run} {paid : ℕ} {mine : List (Event × Reply)} {rest : Run} → Reaches (Some f) whole paid mine rest → (k budget : ℕ) → budget ≡ paid + k → IsPart f t whole budget mine
-part_reached f t {mine = mine} {rest} r k budget same =
-    ap (λ (e : Ending). e.pairs) (on_budget_at f t r k [] same (sym (append-nil (replies_of mine)))) ∙ play_none f (spend k (shown t mine) rest) mine
-
-pub part : (f : Files) (t : ℕ) {whole : Run} {fuel : ℕ} {mine : List (Event × Reply)} → StandsIn (Some f) whole fuel mine → IsPart f t whole fuel mine
-part f t s = part_reached f t s.stands.reaches s.budget _ (sym s.stands.sum)
 
 -- what a run with a budget comes to
 pub came : (f : Files) (t : ℕ) (whole : Run) (budget : ℕ) {mine : List (Event × Reply)} {how : How} → Reaches (Some f) (spend budget (shown_first t) whole) 0 mine (Over how) → on_budget f t whole budget (replies_of mine) ≡ record { pairs = mine; stop = Came how; left = [] }
@@ -91,13 +77,6 @@ whole_of f t {run} {fuel} {before} {mine} {outcome} paid {how} {r} is done reach
   eval = came f t run paid reached;
   ends = ends;
 }
-
--- the answer of an event that was asked for is known
-pub asked_none : {files : Option Files} {whole : Run} {fuel : ℕ} {mine : List (Event × Reply)} {b : ℕ} (next : Reply → Run) {answer : Option Reply} → answer ≡ None → AfterAsk answer files whole fuel mine b next → IsSpent files whole fuel mine b
-asked_none {files = files} {whole} {fuel} {mine} {b} next is a = subst (λ x. AfterAsk x files whole fuel mine b next) is a
-
-pub asked_some : {files : Option Files} {whole : Run} {fuel : ℕ} {mine : List (Event × Reply)} {b : ℕ} (next : Reply → Run) {answer : Option Reply} {r : Reply} → answer ≡ Some r → AfterAsk answer files whole fuel mine b next → Stands files whole fuel mine b (next r)
-asked_some {files = files} {whole} {fuel} {mine} {b} next is a = subst (λ x. AfterAsk x files whole fuel mine b next) is a
 
 pub on_err : {T E : Type 0} (r : Result T E) {P : Type 0} → P → OnErr r P
 on_err (Ok x) p = tt

@@ -137,20 +137,6 @@ pub record IsUnread (files : Option Files) (whole : Run) (fuel : ℕ) (pairs : L
   pub some : 0 < units
   pub enough : units ≤ budget
 
--- after a payment, by whether it was made
-abbrev pub AfterPay : Bool → Option Files → Run → ℕ → List (Event × Reply) → ℕ → Run → Type 0
-AfterPay true files whole fuel pairs budget next = Stands files whole fuel pairs budget next
-AfterPay false files whole fuel pairs budget next = IsSpent files whole fuel pairs budget
-
--- a paid event
-abbrev pub make : Event → (Reply → Run) → Run
-make event next = Pays false 1 (Makes event next)
-
--- after an event that was to be paid: with its reply, or spent
-abbrev pub AfterAsk : Option Reply → Option Files → Run → ℕ → List (Event × Reply) → ℕ → (Reply → Run) → Type 0
-AfterAsk None files whole fuel pairs budget next = IsSpent files whole fuel pairs budget
-AfterAsk (Some r) files whole fuel pairs budget next = Stands files whole fuel pairs budget (next r)
-
 -- the script is spent or a call of the tree failed: with this budget all that is held is still to be given up
 abbrev pub GivesUp : Option Files → ℕ → Run → ℕ → List (Event × Reply) → Bool → Type 0
 GivesUp files t whole budget pairs of_tree = Reaches files (spend budget (shown_first t) whole) 0 pairs (gives_up of_tree (shown t pairs).held)

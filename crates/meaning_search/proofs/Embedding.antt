@@ -128,10 +128,6 @@ moved files before after k (here it) = stood refl
 moved files before after k (stamped_at path a next it told more) = looked_on refl
 moved files before after k (listed_at dir names next it told more) = looked_on refl
 
--- the search comes to its end where it stands
-ended : (it : Search) (found : Option Found) (k : Option Found → Run) → it ≡ search.Ends found → searches_in it k ≡ k found
-ended it found k is = ap (λ it. searches_in it k) is
-
 counted : (files : Option Files) (it : Search) (next : Look) (want : LookWant) (old before after : ℕ) (mine : List (Event × Reply)) (k : Option Found → Run) → keeping it ≡ 0
     → Moved it (wants want (means next)) k → CountsLists (Ok want) before after → Listed old before mine (searches_in it k) → Listed old after mine (searches_in (wants want (means next)) k)
 counted files it next (wanted.Pay of_tree) old before after mine k none (stood is) counts h = record { bound = omega (arith, counts, subst (λ it. before ≤ old + (lists_in mine + due (searches_in it k))) is h.bound) }

@@ -62,10 +62,6 @@ with_set table mid name value = record table { objects = changed (λ object. rec
 abbrev pub with_deleted : Table → ℕ → List ℕ → Table
 with_deleted table mid name = record table { objects = changed (λ object. record object { vars = without_var object.vars name }) table.objects mid }
 
--- the module has these variables in place of those that it had
-abbrev pub with_vars : Table → ℕ → List (List ℕ × Value) → Table
-with_vars table mid vars = record table { objects = changed (λ object. record object { vars = vars }) table.objects mid }
-
 -- this is kept of the module's search as a namespace, in place of what was
 abbrev pub with_ns : Table → ℕ → NsState → Table
 with_ns table mid state = record table { objects = changed (λ object. record object { ns = Some state }) table.objects mid }

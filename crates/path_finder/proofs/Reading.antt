@@ -5,10 +5,9 @@ use Rattle.base_types.specs.Path.{Path}
 use Rattle.spec_core.specs.Names.{tail_of}
 use Rattle.py_value.specs.declared.value.Value.{Value}
 use Rattle.tree_files.specs.Files.{Files, node_at, stamp_of, has_name, IsListing}
-use Rattle.tree_files.specs.declared.tree.Stamp.{Stamp}
 use Rattle.path_finder.specs.Entries.{entry_path}
 use Rattle.path_finder.specs.Find.{with_suffix, answer}
-use Rattle.path_finder.specs.Steps.{Search, Onward, Reads, here, stamped_at, listed_at, Ends, Asks, Stamps, Lists, Keeps, keeps, probes, enters, searches, Tells}
+use Rattle.path_finder.specs.Steps.{Search, Onward, Reads, here, stamped_at, listed_at, Ends, Asks, Lists, Keeps, keeps, probes, enters, searches}
 use Rattle.path_finder.specs.Looking.{onward}
 use Rattle.path_finder.specs.declared.words.Probe.{Probe}
 
@@ -53,8 +52,3 @@ unfolding onward
 onward-next name at path portions entry e = rw add-one (ap (λ p. searches name p portions) (drop_next path at entry e))
 
 -- ---- a test of what stands at a path
-
-pub by_test : (files : Option Files) (path asked : Path) (test : Stamp → Bool) (b answer : Bool) (next : Bool → Search) (search : Search)
-    → Tells files asked test b → asked ≡ path → b ≡ answer → Reads files (next answer) search → Reads files (Stamps path (λ s. next (test s))) search
-by_test files path asked test b answer next search tells same is reads =
-    subst (λ p. Reads files (Stamps p (λ s. next (test s))) search) same (tells next search (subst (λ c. Reads files (next c) search) (sym is) reads))

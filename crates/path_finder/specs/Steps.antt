@@ -127,10 +127,6 @@ pub data Reads (files : Option Files) : Search → Search → Type 0 where
 abbrev pub Shows : Option Files → Path → Stamp → Type 0
 Shows files path s = (next : Stamp → Search) (search : Search) → Reads files (next s) search → Reads files (Stamps path next) search
 
--- the same of a test of it
-abbrev pub Tells : Option Files → Path → (Stamp → Bool) → Bool → Type 0
-Tells files path test b = (next : Bool → Search) (search : Search) → Reads files (next b) search → Reads files (Stamps path (λ s. next (test s))) search
-
 -- over these files, and with these replies to what it asks for, the search comes to this answer
 abbrev pub Leads : Files → Search → List (Option Probe) → Option Found → Type 0
 Leads files (Ends found) replies answer = (replies ≡ []) × (answer ≡ found)

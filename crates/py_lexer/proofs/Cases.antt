@@ -1,5 +1,5 @@
 -- Cases of what a reader does.
-use Rattle.std.proofs.Common.{◌≡◌, Bool, true, false, Option, Some, None, Result, Ok, Err, refl}
+use Rattle.std.proofs.Common.{◌≡◌, Bool, true, false, Option, Some, None, refl}
 use Rattle.std.specs.Prelude.{if◌then◌else◌}
 use Rattle.py_lexer.specs.Reading.{◌>>=◌}
 
@@ -10,7 +10,3 @@ choice P x y false f g = g refl
 pub option_cases : {A B : Type 0} (P : B → Type 0) (none : B) (some : A → B) (o : Option A) → (o ≡ None → P none) → ((a : A) → o ≡ Some a → P (some a)) → P (elim o [ None ↦ none | Some a ↦ some a ])
 option_cases P none some None f g = f refl
 option_cases P none some (Some a) f g = g a refl
-
-pub bind_cases : {A B E : Type 0} (P : Result B E → Type 0) (r : Result A E) (f : A → Result B E) → ((e : E) → r ≡ Err e → P (Err e)) → ((a : A) → r ≡ Ok a → P (f a)) → P (r >>= f)
-bind_cases P (Ok a) f g h = h a refl
-bind_cases P (Err e) f g h = g e refl

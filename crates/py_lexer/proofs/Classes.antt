@@ -56,9 +56,6 @@ digit_low c e = let d = digit_digits c e in grind (arith, nat_tests, d)
 pub letter_may : (c : ℕ) → class_of c ≡ Letter → continues_identifier c ≡ true
 letter_may c e = starts_continues c (letter_starts c e)
 
-pub digit_may_continue : (c : ℕ) → class_of c ≡ Digit → continues_identifier c ≡ true
-digit_may_continue c e = digit_may c (digit_digits c e)
-
 -- every character that may begin an identifier has the class Letter
 pub starts_letter : (c : ℕ) → starts_identifier c ≡ true → class_of c ≡ Letter
 unfolding class_of

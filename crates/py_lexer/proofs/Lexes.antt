@@ -308,7 +308,3 @@ scan_from text = let (out, s, e) = starts_found (suc (length text)) (found (suc 
 
 pub scan_starts : (text : List ℕ) → Starts (margin ∷ []) 1 text (scan_text text)
 scan_starts text = let (out, s) = scan_from text in subst (Starts (margin ∷ []) 1 text) (sym (starts_scan text out s)) s
-
--- a text has one outcome
-pub one_outcome : (text : List ℕ) (a b : Outcome) → Starts (margin ∷ []) 1 text a → Starts (margin ∷ []) 1 text b → a ≡ b
-one_outcome text a b s t = sym (starts_scan text a s) ∙ starts_scan text b t

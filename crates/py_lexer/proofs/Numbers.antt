@@ -15,9 +15,6 @@ cap n = min n (2 ^ 128 - 1)
 cap_more : (n c : ℕ) → more_digits (cap n) c ≡ cap (10 * n + (c - 48))
 cap_more n c = grind arith
 
-mark_no_digit : (u : ℕ) → u ≡ 95 → is_digit u ≡ false
-mark_no_digit u e = rw e refl
-
 mutual
   unfolding digits
 

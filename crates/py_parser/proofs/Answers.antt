@@ -79,10 +79,6 @@ told_refused ts fault t e r within found same =
 
 -- ---- the refused token is one of the tokens
 
-no_more : (n : ℕ) → ¬ (0 < n) → n ≡ 0
-no_more zero h = refl
-no_more (suc n) h = absurd (h (omega arith))
-
 nothing : {T : Type 0} (l : List T) → length l ≡ 0 → l ≡ []
 nothing [] e = refl
 nothing (t ∷ l) e = absurd (omega (arith, e))

@@ -36,7 +36,3 @@ agree_many begins reads others h zero s ts = λ k. refl
 agree_many begins reads others h (suc n) s ts =
     agree_if (begins s (head_of ts)) s ts (reads s ts >>= λ x. many begins reads n x.0 x.1) (others s ts >>= λ x. many begins others n x.0 x.1)
     (agree (reads s ts) (others s ts) _ _ (h s ts) (λ x. agree_many begins reads others h n x.0 x.1))
-
--- F, and then G that knows what F read
-pub agree_both : {T A B C : Type 0} (F G : List T → Read T A) (H K : A → List T → Read T B) (f : A → B → C) → AllAgree F G → ((a : A) → AllAgree (H a) (K a)) → (ts : List T) → Agrees (F ts >>= λ x. H x.0 x.1 >>= λ y. given (f x.0 y.0) y.1) (G ts >>= λ x. K x.0 x.1 >>= λ y. given (f x.0 y.0) y.1)
-agree_both F G H K f h k ts = agree (F ts) (G ts) _ _ (h ts) (λ x. agree (H x.0 x.1) (K x.0 x.1) _ _ (k x.0 x.1) (λ y. refl))

@@ -1,7 +1,7 @@
 -- What reading came to: what is read is spelled so; where a token is refused, the tokens
 -- before it can be completed; and no token behind the one that was looked at last
 -- matters. Stated once for every form, with a lemma for each way to put forms together.
-use Rattle.std.proofs.Common.{◌≡◌, ℕ, zero, suc, ◌+◌, ◌<◌, ◌≤◌, List, [], ◌∷◌, ◌++◌, length, Option, Some, None, Result, Ok, Err, refl, sym, ap, subst, ◌∙◌, append_assoc, arith, length-append}
+use Rattle.std.proofs.Common.{◌≡◌, ℕ, zero, suc, ◌+◌, ◌<◌, ◌≤◌, List, [], ◌∷◌, ◌++◌, length, Option, Some, None, Result, Ok, Err, refl, sym, ap, subst, ◌∙◌, append_assoc}
 use Rattle.source_combinators.specs.declared.fault.Refusal.{Refusal}
 use Rattle.source_combinators.specs.declared.fault.Refusal.TheVariants.{TooDeep, Syntax}
 use Rattle.source_combinators.specs.declared.fault.Fault.{Fault}
@@ -116,9 +116,6 @@ chosen F H Is IsH room ts (Err fault) c i h = record {
   deep = λ k. let d = h.deep k in (d.0, d.1, record { more = d.2.more; value = d.2.value; spelled = i (suc room) ((h.front ++ d.0 ∷ []) ++ d.2.more) d.2.value d.2.spelled });
   again = λ more e. c (h.front ++ more) (alike h.front more h.rest ts h.parts e) ∙ h.again more e;
 }
-
-pub no_more : {T A : Type 0} (F : List T → Read T A) (Is : ℕ → List T → A → Type 0) (room : ℕ) (ts : List T) (a : A) (rest : List T) → Found F Is room ts a rest → length rest ≤ length ts
-no_more F Is room ts a rest h = omega (arith, ap length h.parts ∙ length-append h.front rest)
 
 -- H reads the tokens p, then F, and then G, which knows what F read
 pub record IsSequence {T A B C : Type 0} (p : List T) (F : List T → Read T A) (IsA : ℕ → List T → A → Type 0) (G : A → List T → Read T B) (IsB : A → ℕ → List T → B → Type 0) (f : A → B → C) (H : List T → Read T C) (IsC : ℕ → List T → C → Type 0) : Type 0 where

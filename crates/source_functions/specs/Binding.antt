@@ -10,7 +10,7 @@ use Rattle.py_syntax.specs.declared.stmt.ImportedNames.{ImportedNames}
 use Rattle.py_syntax.specs.declared.stmt.ImportedNames.TheVariants.{All, Listed}
 use Rattle.py_syntax.specs.declared.stmt.Stmt.{Stmt}
 use Rattle.py_syntax.specs.declared.stmt.Stmt.TheOpen.{Stmt-F, Branch-F, FuncDef-F, Handler-F}
-use Rattle.py_syntax.specs.declared.stmt.Stmt.TheFolds.{fold-Stmt, fold-Branch, fold-FuncDef, fold-Handler}
+use Rattle.py_syntax.specs.declared.stmt.Stmt.TheFolds.{fold-Stmt, fold-Branch, fold-Handler}
 use Rattle.py_syntax.specs.declared.stmt.Branch.{Branch}
 use Rattle.py_syntax.specs.declared.stmt.FuncDef.{FuncDef}
 use Rattle.py_syntax.specs.declared.stmt.Handler.{Handler}
@@ -96,10 +96,6 @@ stmt_names = fold-Stmt Names Names Names Names stmt_at branch_at function_at han
 -- of an `if` or `elif` with its block
 abbrev pub branch_names : Branch → Names
 branch_names = fold-Branch Names Names Names Names stmt_at branch_at function_at handler_at
-
--- of a function where it is defined, which is its name
-abbrev pub function_names : FuncDef → Names
-function_names = fold-FuncDef Names Names Names Names stmt_at branch_at function_at handler_at
 
 -- of an `except` with its block
 abbrev pub handler_names : Handler → Names

@@ -46,9 +46,6 @@ unfolding stmt
 try_opened zero c n ts h = absurd (h refl)
 try_opened (suc room) c n ts h = let e : suc room - 1 ≡ room = omega arith in rw e refl
 
-abbrev stmt_at : ℕ → Context → ℕ → List Lexeme → Read Lexeme Found
-stmt_at room c n ts = stmt room c n ts
-
 gives_as : (r : Answer) (read other : Read Lexeme Found) → other ≡ read → GivesAt stmts_of r read → GivesAt stmts_of r other
 gives_as r read other e g = subst (λ (x : Read Lexeme Found). GivesAt stmts_of r x) (sym e) g
 

@@ -2,7 +2,6 @@
 use Rattle.std.proofs.Common.{◌≡◌, ◌∙◌, sym, ap, List}
 use Rattle.py_syntax.specs.declared.expr.Expr.{Expr}
 use Rattle.py_syntax.specs.declared.stmt.Branch.{Branch, fold-roll-Branch}
-use Rattle.py_syntax.specs.declared.stmt.Handler.{Handler, fold-roll-Handler}
 use Rattle.py_syntax.specs.declared.stmt.Stmt.{Stmt}
 use Rattle.py_syntax.specs.declared.stmt.Stmt.TheVariants as tree
 use Rattle.py_syntax.specs.declared.stmt.Stmt.TheVariants.{rolls-While}
@@ -10,7 +9,7 @@ use Rattle.py_syntax.specs.declared.stmt.Stmt.TheOpen.{Stmt-F}
 use Rattle.py_syntax.specs.declared.stmt.Stmt.TheFolds.{fold-roll-Stmt}
 use Rattle.meaning_script.specs.Pieces.{Piece, most}
 use Rattle.meaning_script.specs.Operators.{Around, eval}
-use Rattle.meaning_script.specs.Statements.{BranchPiece, DefPiece, HandlerPiece, stmt_at, branch_at, def_at, handler_at, eval_some, turns, run, branch, handler, run_all}
+use Rattle.meaning_script.specs.Statements.{BranchPiece, DefPiece, HandlerPiece, stmt_at, branch_at, def_at, handler_at, turns, run, branch, run_all}
 
 pub runs_while : (a : Around) (test : Expr) (body : List Stmt) → turns most (eval a test) (run_all a body) ≡ run a (tree.While test body)
 runs_while a test body =
@@ -20,8 +19,3 @@ runs_while a test body =
 pub branch_is : (a : Around) (b : Branch) → branch a b ≡ record { test = eval a b.test; body = run_all a b.body }
 branch_is a b =
     fold-roll-Branch Piece BranchPiece DefPiece HandlerPiece (stmt_at a) (branch_at a) def_at (handler_at a) (record { test = b.test; body = b.body })
-
-pub handler_is : (a : Around) (h : Handler) → handler a h ≡ record { kinds = eval_some a h.kinds; bound = h.bound; body = run_all a h.body }
-handler_is a h =
-    fold-roll-Handler Piece BranchPiece DefPiece HandlerPiece (stmt_at a) (branch_at a) def_at (handler_at a)
-    (record { kinds = h.kinds; bound = h.bound; body = h.body })

@@ -2,9 +2,9 @@
 use Rattle.std.proofs.Common.{◌≡◌, ◌∙◌, refl, sym, ap, ℕ, zero, suc, ◌+◌, ◌-◌, ◌<◌, ◌≤◌, List, [], ◌∷◌, length, map, drop, slice_get, Option, Some, None, arith}
 use Rattle.py_syntax.specs.declared.stmt.Branch.{Branch}
 use Rattle.meaning_state.specs.declared.thread.State.{State}
-use Rattle.meaning_script.specs.Pieces.{Piece, Onward, pay, on_value, passes, in_order, decides}
+use Rattle.meaning_script.specs.Pieces.{Piece, Onward, on_value, passes, in_order, decides}
 use Rattle.meaning_script.specs.Operators.{Around, eval}
-use Rattle.meaning_script.specs.Statements.{BranchPiece, tests, turn, turns, run_all}
+use Rattle.meaning_script.specs.Statements.{BranchPiece, tests, run_all}
 use Rattle.py_frames.specs.Does.{branches, decides_some}
 use Rattle.step_shared.proofs.Places.{drop_none, drop_some}
 use Rattle.step_compound.proofs.Forms.{branch_is}
@@ -40,13 +40,6 @@ tests_first a bs at b otherwise s k h =
 
 pub tests_last : (a : Around) (bs : List Branch) (at : ℕ) (otherwise : Piece) → slice_get bs at ≡ None → otherwise ≡ tests (branches a (drop at bs)) otherwise
 tests_last a bs at otherwise h = ap (λ (ys : List Branch). tests (branches a ys) otherwise) (sym (drop_none bs at h))
-
--- a turn of a loop that has more
-pub turns_more : (n : ℕ) (test body : Piece) (s : State) (k : Onward) → 0 < n → pay 1 (turn test body (turns (n - 1) test body) s k) ≡ turns n test body s k
-turns_more zero test body s k h = absurd (omega (arith, h))
-turns_more (suc n) test body s k h =
-    let less : suc n - 1 ≡ n = omega arith in
-    ap (λ (m : ℕ). pay 1 (turn test body (turns m test body) s k)) less
 
 pub tests_next : (a : Around) (bs : List Branch) (at : ℕ) (otherwise : Piece) → tests (branches a (drop (at + 1) bs)) otherwise ≡ tests (branches a (drop (suc at) bs)) otherwise
 tests_next a bs at otherwise =

@@ -1,5 +1,5 @@
 -- An expression does what its outermost form says.
-use Rattle.std.proofs.Common.{◌≡◌, ◌∙◌, refl, sym, ap, ℕ, List, [], ◌∷◌, map, drop, Some, None, true, false}
+use Rattle.std.proofs.Common.{◌≡◌, ◌∙◌, refl, sym, ap, ℕ, List, [], ◌∷◌, map, drop, Some, None, false}
 use Rattle.std.proofs.lemmas.Bool.{false≢true}
 use Rattle.py_value.specs.declared.value.Value.{Value}
 use Rattle.py_value.specs.declared.value.Value.TheVariants as values
@@ -9,8 +9,7 @@ use Rattle.py_syntax.specs.declared.expr.Expr.TheFolds.{fold-Expr, fold_out-Expr
 use Rattle.meaning_state.specs.declared.thread.State.{State}
 use Rattle.meaning_script.specs.Pieces.{Piece, Onward, pay, on_value, gives, sized, gathers, applied_on, operates}
 use Rattle.meaning_script.specs.Names.{member}
-use Rattle.meaning_script.specs.Operators.{Around, Part, expr_at, part_at, attribute_at, does_of, calls_part, calls_member, eval, displayed, applies_at, operands_at, atom_at, calls_first, conjoins, disjoins}
-use Rattle.py_frames.specs.Does.{chooses_at, arguments_at, attribute_name, method_name_at}
+use Rattle.meaning_script.specs.Operators.{Around, Part, expr_at, part_at, attribute_at, does_of, calls_part, eval, displayed, applies_at, operands_at, calls_first}
 use Rattle.step_shared.proofs.Options.{some_same}
 use Rattle.step_expressions.specs.Forms.{eval_at, eval_call, left_of, object_of, callee_object, attribute_in, arguments_in, is_atom}
 
@@ -54,44 +53,6 @@ by_layer around (Expr-F.Or a b) = refl
 pub eval_is : (around : Around) (e : Expr) → eval around e ≡ eval_at around (out-Expr e)
 eval_is around e = ap (λ (p : Part). p.does) (fold_out-Expr Part (part_at around) e) ∙ by_layer around (out-Expr e)
 
-pub left_is : (around : Around) (d : Expr-F Expr) (a : Expr) (s : State) (k : Onward) → left_of d ≡ Some a → eval around a s (on_value k (λ v s. pay 1 (chooses_at around d v s k))) ≡ eval_at around d s k
-left_is around (Expr-F.Name x) l s k h = cc
-left_is around (Expr-F.Number n) l s k h = cc
-left_is around (Expr-F.Str text) l s k h = cc
-left_is around Expr-F.Nothing l s k h = cc
-left_is around Expr-F.True l s k h = cc
-left_is around Expr-F.False l s k h = cc
-left_is around (Expr-F.Tuple es) l s k h = cc
-left_is around (Expr-F.List es) l s k h = cc
-left_is around (Expr-F.Attribute a x) l s k h = cc
-left_is around (Expr-F.Call f es) l s k h = cc
-left_is around (Expr-F.Subscript a b) l s k h = cc
-left_is around (Expr-F.Negative a) l s k h = cc
-left_is around (Expr-F.Binary o a b) l s k h = cc
-left_is around (Expr-F.Compare c a b) l s k h = cc
-left_is around (Expr-F.Not a) l s k h = cc
-left_is around (Expr-F.And a b) l s k h = ap (λ e. eval around e s (on_value k (λ v s. pay 1 (conjoins (eval around b) v s k)))) (sym (some_same h))
-left_is around (Expr-F.Or a b) l s k h = ap (λ e. eval around e s (on_value k (λ v s. pay 1 (disjoins (eval around b) v s k)))) (sym (some_same h))
-
-pub atom_is : (around : Around) (d : Expr-F Expr) (s : State) (k : Onward) → is_atom d ≡ true → pay 1 (atom_at around.access d s (sized k)) ≡ eval_at around d s k
-atom_is around (Expr-F.Name x) s k h = refl
-atom_is around (Expr-F.Number n) s k h = refl
-atom_is around (Expr-F.Str text) s k h = refl
-atom_is around Expr-F.Nothing s k h = refl
-atom_is around Expr-F.True s k h = refl
-atom_is around Expr-F.False s k h = refl
-atom_is around (Expr-F.Tuple es) s k h = absurd (false≢true h)
-atom_is around (Expr-F.List es) s k h = absurd (false≢true h)
-atom_is around (Expr-F.Attribute a x) s k h = absurd (false≢true h)
-atom_is around (Expr-F.Call f es) s k h = absurd (false≢true h)
-atom_is around (Expr-F.Subscript a b) s k h = absurd (false≢true h)
-atom_is around (Expr-F.Negative a) s k h = absurd (false≢true h)
-atom_is around (Expr-F.Binary o a b) s k h = absurd (false≢true h)
-atom_is around (Expr-F.Compare c a b) s k h = absurd (false≢true h)
-atom_is around (Expr-F.Not a) s k h = absurd (false≢true h)
-atom_is around (Expr-F.And a b) s k h = absurd (false≢true h)
-atom_is around (Expr-F.Or a b) s k h = absurd (false≢true h)
-
 call_plain : (around : Around) (callee : Expr) (form : Expr-F Expr) (es : List Expr) → object_of form ≡ None
     → operates (eval around callee ∷ map (eval around) es) (calls_first around) ≡ eval_call around callee form es
 call_plain around callee (Expr-F.Attribute object x) es h = cc
@@ -116,18 +77,6 @@ operator_is around (Expr-F.Compare o a b) s k h g c = refl
 operator_is around (Expr-F.Not a) s k h g c = refl
 operator_is around (Expr-F.And a b) s k h g c = cc
 operator_is around (Expr-F.Or a b) s k h g c = cc
-
-call_object : (around : Around) (callee : Expr) (form : Expr-F Expr) (es : List Expr) (object : Expr) (s : State) (k : Onward) → object_of form ≡ Some object
-    → eval around object s (on_value k (λ v s. pay 1 (calls_member around (attribute_name form) (map (eval around) es) v s k))) ≡ eval_call around callee form es s k
-call_object around callee (Expr-F.Attribute a x) es object s k h =
-    ap (λ e. eval around e s (on_value k (λ v s. pay 1 (calls_member around x (map (eval around) es) v s k)))) (sym (some_same h))
-call_object around callee form es object s k h = cc
-
--- a call whose callee is an attribute
-pub callee_is : (around : Around) (d : Expr-F Expr) (object : Expr) (s : State) (k : Onward) → callee_object d ≡ Some object
-    → eval around object s (on_value k (λ v s. pay 1 (calls_member around (method_name_at d) (map (eval around) (arguments_at d)) v s k))) ≡ eval_at around d s k
-callee_is around (Expr-F.Call callee es) object s k h = call_object around callee (out-Expr callee) es object s k h
-callee_is around form object s k h = cc
 
 -- the attribute that a call names is read, and then called
 pub reads_it : (around : Around) (callee call : Expr-F Expr) (x : List ℕ) (es : List Expr) (object : Value) (s : State) (k : Onward) → attribute_in callee ≡ Some x → arguments_in call ≡ Some es

@@ -7,8 +7,6 @@ use Rattle.spec_core.specs.Names.{parts}
 use Rattle.spec_core.specs.Relative.{Resolves, resolved, followed, front_parts}
 use Rattle.spec_core.specs.declared.relative.RelativeError.{RelativeError}
 use Rattle.spec_core.specs.declared.relative.RelativeError.TheVariants.{NoParent, BeyondTop, NoMemory}
-use Rattle.py_value.specs.declared.value.ModRef.{ModRef}
-use Rattle.machine_events.specs.declared.event.Reply.{Reply}
 use Rattle.py_syntax.specs.declared.stmt.Branch.{Branch}
 use Rattle.py_syntax.specs.declared.stmt.FuncDef.{FuncDef}
 use Rattle.py_syntax.specs.declared.stmt.Handler.{Handler}
@@ -17,15 +15,11 @@ use Rattle.py_syntax.specs.declared.stmt.Stmt.{Stmt, out-Stmt}
 use Rattle.py_syntax.specs.declared.stmt.Stmt.TheOpen.{Stmt-F}
 use Rattle.meaning_state.specs.declared.fault.Fault.TheVariants as fault
 use Rattle.meaning_state.specs.declared.thread.State.{State}
-use Rattle.py_frames.specs.Does.{from_at, from_some, names_at, names_some, relative_at, relative_some, items_of, listed_in}
+use Rattle.py_frames.specs.Does.{from_at, from_some}
 use Rattle.step_from.specs.Parts.{from_layer, from_of}
-use Rattle.meaning_script.specs.Pieces.{Piece, Onward, fails}
+use Rattle.meaning_script.specs.Pieces.{Onward, fails}
 use Rattle.meaning_script.specs.Operators.{Around}
-use Rattle.meaning_script.specs.ImportStatements.{dotted_name, optional_name, from_dots, from_import, from_relative, from_resolved, imported_names, package_in}
-
-pub relative_dots : (a : Around) (go : ModRef → Piece) (dots : ℕ) (xs : List (List ℕ)) → 0 < dots → from_relative a go dots xs ≡ from_dots a go dots xs
-relative_dots a go zero xs h = absurd (omega (arith, h))
-relative_dots a go (suc dots) xs h = refl
+use Rattle.meaning_script.specs.ImportStatements.{dotted_name, optional_name, from_import}
 
 below_one : (n : ℕ) → 0 < n → nat_lt n 1 ≡ nat_lt n 0
 below_one zero h = absurd (omega (arith, h))
@@ -81,22 +75,6 @@ pub from_none : (a : Around) (o : Option Stmt) (s : State) (k : Onward) → from
 from_none a None s k h = refl
 from_none a (Some stmt) s k h = from_other a (out-Stmt stmt) s k h
 
-names_other : (a : Around) (layer : Stmt-F Stmt Branch FuncDef Handler) (m : ModRef) (s : State) (k : Onward) → from_layer layer ≡ None → fails fault.NotInProfile s k ≡ names_at a layer m s k
-names_other a (Stmt-F.From dots parts names) m s k h = absurd cc
-names_other a layer m s k h = refl
-
-pub names_none : (a : Around) (o : Option Stmt) (m : ModRef) (s : State) (k : Onward) → from_of o ≡ None → fails fault.NotInProfile s k ≡ names_some a o m s k
-names_none a None m s k h = refl
-names_none a (Some stmt) m s k h = names_other a (out-Stmt stmt) m s k h
-
-relative_other : (a : Around) (layer : Stmt-F Stmt Branch FuncDef Handler) (r : Reply) (s : State) (k : Onward) → from_layer layer ≡ None → fails fault.NotInProfile s k ≡ relative_at a layer r s k
-relative_other a (Stmt-F.From dots parts names) r s k h = absurd cc
-relative_other a layer r s k h = refl
-
-pub relative_none : (a : Around) (o : Option Stmt) (r : Reply) (s : State) (k : Onward) → from_of o ≡ None → fails fault.NotInProfile s k ≡ relative_some a o r s k
-relative_none a None r s k h = refl
-relative_none a (Some stmt) r s k h = relative_other a (out-Stmt stmt) r s k h
-
 rebuilt : Option (ℕ × List (List ℕ) × ImportedNames) → Stmt-F Stmt Branch FuncDef Handler
 rebuilt None = Stmt-F.Pass
 rebuilt (Some (dots, parts, names)) = Stmt-F.From dots parts names
@@ -110,20 +88,3 @@ pub from_is : (a : Around) (o : Option Stmt) (dots : ℕ) (parts : List (List �
     → from_import a dots parts names s k ≡ from_some a o s k
 from_is a None dots parts names s k h = absurd cc
 from_is a (Some stmt) dots parts names s k h = rw (layer_is (out-Stmt stmt) dots parts names h) refl
-
-names_at_is : (a : Around) (layer : Stmt-F Stmt Branch FuncDef Handler) (dots : ℕ) (parts : List (List ℕ)) (names : ImportedNames) (m : ModRef) → layer ≡ Stmt-F.From dots parts names
-    → names_at a layer m ≡ imported_names a names m
-names_at_is a layer dots parts names m h = rw h refl
-
-pub names_are : (a : Around) (o : Option Stmt) (dots : ℕ) (parts : List (List ℕ)) (names : ImportedNames) → from_of o ≡ Some (dots, parts, names) → names_some a o ≡ imported_names a names
-names_are a None dots parts names h = absurd cc
-names_are a (Some stmt) dots parts names h = λ i m. names_at_is a (out-Stmt stmt) dots parts names m (layer_is (out-Stmt stmt) dots parts names h) i
-
-pub relative_is : (a : Around) (o : Option Stmt) (dots : ℕ) (parts : List (List ℕ)) (names : ImportedNames) (r : Reply) → from_of o ≡ Some (dots, parts, names)
-    → relative_some a o r ≡ from_resolved a (imported_names a names) (resolved (package_in r) dots (optional_name parts))
-relative_is a None dots parts names r h = absurd cc
-relative_is a (Some stmt) dots parts names r h = rw (layer_is (out-Stmt stmt) dots parts names h) refl
-
-pub items_are : (o : Option Stmt) (dots : ℕ) (parts : List (List ℕ)) (names : ImportedNames) → from_of o ≡ Some (dots, parts, names) → items_of o ≡ listed_in names
-items_are None dots parts names h = absurd cc
-items_are (Some stmt) dots parts names h = rw (layer_is (out-Stmt stmt) dots parts names h) refl

@@ -81,23 +81,6 @@ pub fronts_is : (a : Around) (o : Option Alias) (x : List ℕ) (s : State) (k : 
 fronts_is a None x s k h = absurd cc
 fronts_is a (Some b) x s k h = fronts_parts_is a b.parts b.bound x s k h
 
-pub binds_none : (a : Around) (parts : List (List ℕ)) (bound : Option (List ℕ)) (v : Value) (s : State) (k : Onward) → slice_get parts 0 ≡ None
-    → fails fault.NotInProfile s k ≡ binds_parts a parts bound v s k
-binds_none a [] bound v s k h = refl
-binds_none a (x ∷ xs) bound v s k h = absurd cc
-
-pub binds_front : (a : Around) (parts : List (List ℕ)) (x : List ℕ) (v : Value) (s : State) (k : Onward) → slice_get parts 0 ≡ Some x
-    → stores x v s k ≡ binds_parts a parts None v s k
-binds_front a [] x v s k h = absurd cc
-binds_front a (y ∷ ys) x v s k h =
-    let same : y ≡ x = cc in
-    rw same refl
-
-pub binds_last : (a : Around) (parts : List (List ℕ)) (x bound : List ℕ) (v : Value) (s : State) (k : Onward) → slice_get parts 0 ≡ Some x
-    → follows_parts a (drop 1 parts) bound v s k ≡ binds_parts a parts (Some bound) v s k
-binds_last a [] x bound v s k h = absurd cc
-binds_last a (y ∷ ys) x bound v s k h = refl
-
 -- ---- the parts from one on
 
 pub follows_end : (a : Around) (parts : List (List ℕ)) (at : ℕ) (bound : List ℕ) (v : Value) (s : State) (k : Onward) → slice_get parts at ≡ None
@@ -117,18 +100,6 @@ follows_goes a parts at x bound last v s k h is =
     rw (drop_some parts at x h, is)
     (module_then (out-Value v) (λ m. name_of a (is_last (drop (at + 1) parts)) m x) (λ k. on_value k (λ v s. follows_parts a (drop (at + 1) parts) bound v s k)) s k)
 
-pub binds_lost : (a : Around) (o : Option Alias) (b : Alias) (v : Value) (s : State) (k : Onward) → o ≡ Some b → slice_get b.parts 0 ≡ None
-    → fails fault.NotInProfile s k ≡ binds_some_import a o v s k
-binds_lost a o b v s k is none = rw is (binds_none a b.parts b.bound v s k none)
-
-pub binds_first : (a : Around) (o : Option Alias) (b : Alias) (x : List ℕ) (v : Value) (s : State) (k : Onward) → o ≡ Some b → slice_get b.parts 0 ≡ Some x
-    → b.bound ≡ None → stores x v s k ≡ binds_some_import a o v s k
-binds_first a o b x v s k is first unnamed = rw (is, unnamed) (binds_front a b.parts x v s k first)
-
-pub binds_others : (a : Around) (o : Option Alias) (b : Alias) (x bound : List ℕ) (v : Value) (s : State) (k : Onward) → o ≡ Some b
-    → slice_get b.parts 0 ≡ Some x → b.bound ≡ Some bound → follows_some a 1 o v s k ≡ binds_some_import a o v s k
-binds_others a o b x bound v s k is first named = rw (is, named) (binds_last a b.parts x bound v s k first)
-
 pub binds_nothing : (a : Around) (o : Option Alias) (v : Value) (s : State) (k : Onward) → o ≡ None → fails fault.NotInProfile s k ≡ binds_some_import a o v s k
 binds_nothing a o v s k none = rw none refl
 
@@ -137,10 +108,6 @@ binds_nothing a o v s k none = rw none refl
 pub follows_none : (a : Around) (part : ℕ) (o : Option Alias) (v : Value) (s : State) (k : Onward) → o ≡ None
     → fails fault.NotInProfile s k ≡ follows_some a part o v s k
 follows_none a part o v s k none = rw none refl
-
-pub follows_unnamed : (a : Around) (part : ℕ) (o : Option Alias) (b : Alias) (v : Value) (s : State) (k : Onward) → o ≡ Some b → b.bound ≡ None
-    → fails fault.NotInProfile s k ≡ follows_some a part o v s k
-follows_unnamed a part o b v s k is unnamed = rw (is, unnamed) refl
 
 pub follows_ends : (a : Around) (o : Option Alias) (b : Alias) (part : ℕ) (bound : List ℕ) (v : Value) (s : State) (k : Onward) → o ≡ Some b
     → b.bound ≡ Some bound → slice_get b.parts part ≡ None → stores bound v s k ≡ follows_some a part o v s k

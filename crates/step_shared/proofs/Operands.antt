@@ -6,7 +6,7 @@ use Rattle.std.specs.List.{prefix_len}
 use Rattle.std.proofs.lemmas.Bool.{false≢true, lt-ltb, le-ltb, ltb-true, ltb-false}
 use Rattle.py_value.specs.declared.value.Value.{Value, out-Value, out-roll-Value}
 use Rattle.py_value.specs.declared.value.Value.TheVariants as values
-use Rattle.py_value.specs.declared.value.Value.TheVariants.{rolls-List, rolls-SysPath}
+use Rattle.py_value.specs.declared.value.Value.TheVariants.{rolls-List}
 use Rattle.py_value.specs.declared.value.Value.TheOpen.{Value-F}
 use Rattle.machine_events.specs.declared.event.Event.TheVariants as e
 use Rattle.machine_events.specs.declared.event.Reply.{Reply}
@@ -17,17 +17,13 @@ use Rattle.meaning_state.specs.declared.flow.Leave.{Leave}
 use Rattle.meaning_state.specs.declared.flow.Leave.TheVariants.{Raised}
 use Rattle.meaning_state.specs.declared.flow.Flow.TheVariants.{Left}
 use Rattle.meaning_state.specs.declared.thread.State.{State}
-use Rattle.meaning_script.specs.Pieces.{Piece, Onward, calls, as_list, on_value, lists_at, listed, all_listed}
-use Rattle.py_frames.specs.Does.{goes_with}
+use Rattle.meaning_script.specs.Pieces.{Piece, Onward, calls, as_list, lists_at, listed, all_listed}
 use Rattle.step_shared.specs.Listing.{is_listed_at, is_listed, first_listed}
 
 -- ---- a value in whose place no list comes
 
 list_layer : (items : List Value) → out-Value (values.List items) ≡ Value-F.List items
 list_layer items = ap out-Value (sym (rolls-List items)) ∙ out-roll-Value (Value-F.List items)
-
-path_layer : out-Value values.SysPath ≡ Value-F.SysPath
-path_layer = ap out-Value (sym rolls-SysPath) ∙ out-roll-Value Value-F.SysPath
 
 unlisted_at : (v : Value) (d : Value-F Value) (go : Value → Piece) → is_listed_at d ≡ false → lists_at v d go ≡ go v
 unlisted_at v Value-F.SysPath go h = absurd (false≢true (sym h))
@@ -71,18 +67,6 @@ pub listed_same : (v : Value) (f g : Value → Piece) → is_listed v ≡ true
     → ((items : List Value) → f (values.List items) ≡ g (values.List items))
     → listed v f ≡ listed v g
 listed_same v f g h same = λ i s k. listed_with v f g s k k h (λ items j. same items j s k) (λ leave. refl) i
-
-path_read : (go : Value → Piece) (s : State) (k : Onward) (reply : Reply)
-    → as_list goes_with reply s (on_value k (λ v s. listed v go s k)) ≡ as_list go reply s k
-path_read go s k (r.Path items) = λ i. list_is_itself items go i s k
-path_read go s k reply = refl
-
--- the search path is read, and then the form is decided with the list
-pub path_again : (go : Value → Piece) (s : State) (k : Onward)
-    → calls e.PathGet (λ reply. as_list goes_with reply s (on_value k (λ v s. listed v go s k))) ≡ listed values.SysPath go s k
-path_again go s k =
-    (λ i. calls e.PathGet (λ reply. path_read go s k reply i))
-    ∙ ap (λ (d : Value-F Value). lists_at values.SysPath d go s k) (sym path_layer)
 
 -- ---- several operands
 
@@ -186,13 +170,3 @@ within_by x vs false (Some n) below found at first =
 pub first_within : (vs : List Value) (at : ℕ) → first_listed vs ≡ Some at → at < length vs
 first_within [] at first = cc
 first_within (x ∷ vs) at first = within_by x vs (is_listed x) (first_listed vs) (first_within vs) refl at (sym (next_first x vs) ∙ first)
-
--- work that is done again once the list stands in the place of the first of them
-pub listed_again : (vs : List Value) (at : ℕ) (v : Value) (again : Value → Piece) (go : List Value → Piece) (s : State) (k l : Onward)
-    → first_listed vs ≡ Some at → slice_get vs at ≡ Some v
-    → ((items : List Value) → again (values.List items) s k ≡ all_listed (slice_set vs at (values.List items)) go s l)
-    → ((leave : Leave) → k (Left leave) s ≡ l (Left leave) s)
-    → listed v again s k ≡ all_listed vs go s l
-listed_again vs at v again go s k l first got same leaves =
-    listed_with v again (λ u. all_listed (slice_set vs at u) go) s k l (first_is_listed vs at v first got) same leaves
-    ∙ ap (λ (p : Piece). p s l) (all_first vs at v go first got)

@@ -70,13 +70,6 @@ pub IsDirAt-insert : (f : Files) (p : Path) (x : Node) → is_dir (Some x) ≡ t
 IsDirAt-insert f p x d =
     subst (λ o. IsTrue (is_dir o)) (sym (node_at-insert f p x p)) (true_first (eq_by_cmp path_cmp p p) x (node_at f p) (ap is_eq (tied_itself path_total p)) d)
 
-no_part : (p : Path) (part : List ℕ) → p ++ part ∷ [] ≢ []
-no_part [] part e = cc
-no_part (x ∷ p) part e = cc
-
-pub HasParent-root : (f : Files) → HasParent f []
-HasParent-root f p part e = absurd (no_part p part (sym e))
-
 pub HasParent-more : (g : Files) (p : Path) (n : ℕ) → n < length p → IsDirAt g (take n p) → HasParent g (take (n + 1) p)
 HasParent-more g p n lt d q part e =
     let both = same_from_push (take n p) q (get_or p n []) part (sym (take_more p n [] lt) ∙ e) in

@@ -1,6 +1,6 @@
 -- What a sink has got.
 use Rattle.std.specs.Prelude.{◌≡◌, ℕ, ◌≤◌, List, [], ◌++◌, length, take, Option, Some, None, option_map, min, ◌-◌, refl}
-use Rattle.std.proofs.Common.{append_assoc, append-nil, ap}
+use Rattle.std.proofs.Common.{append_assoc, ap}
 
 -- with more bytes at the end, where the sink tells them
 abbrev pub appended : Option (List ℕ) → List ℕ → Option (List ℕ)
@@ -24,8 +24,3 @@ room_after (Some room) n = Some (room - n)
 pub appended-appended : (written : Option (List ℕ)) (a b : List ℕ) → appended (appended written a) b ≡ appended written (a ++ b)
 appended-appended None a b = refl
 appended-appended (Some w) a b = ap Some (append_assoc w a b)
-
--- an empty piece leaves what is written as it was
-pub appended-nothing : (written : Option (List ℕ)) → appended written [] ≡ written
-appended-nothing None = refl
-appended-nothing (Some w) = ap Some (append-nil w)

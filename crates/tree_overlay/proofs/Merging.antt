@@ -42,13 +42,6 @@ same_within (x ∷ p) (y ∷ q) e = same_parts (pointwise nat_eq y x) (pointwise
   same_parts true false h s w f e = cc
   same_parts false b h s w f e = cc
 
-put_way : (fate : Fate) → is_put (way fate) ≡ true
-put_way Kept = refl
-put_way Way = refl
-put_way (Put (File bytes)) = refl
-put_way (Put (Dir time)) = refl
-put_way Gone = refl
-
 -- something is put somewhere only where it was before, or by an edit at or below the path
 put_file : (fate : Fate) (x : Node) (s w v : Bool) → (s ≡ true → v ≡ true) → is_put (if s then Put x else (if w then Gone else (if v then way fate else fate))) ≡ true → is_put fate || v ≡ true
 put_file fate x s w true h e = or_true (is_put fate) where

@@ -11,7 +11,6 @@ use Rattle.tree_walk.specs.Names.{child_of, child_by}
 abbrev slash : ℕ → Bool
 slash b = eqb b 47
 
-no_part-[] : IsTrue (is_part []) → ⊥
 no_part-[] h = cc
 
 no_part-dot : IsTrue (is_part (codes ".")) → ⊥

@@ -127,10 +127,6 @@ module _ {K : Type 0} {R : K → K → Ordering} (laws : IsTotalOrder R) where
   pub total_itself : (x : K) → Some (R x x) ≡ Some Equal
   total_itself x = ap Some (own_turn (R x x) (laws.antisymm x x))
 
--- by an equivalence
-same_true : (b : Bool) (o : Ordering) → b ≡ true → Some Equal ≡ Some o → same b ≡ Some o
-same_true b o h e = ap same h ∙ e
-
 module _ {K : Type 0} {E : K → K → Bool} (laws : IsEquivalence E) where
   by_tests : (x y z : K) (s t : Bool) → E x y ≡ s → E y z ≡ t → Follows (same s) (same t) (same (E x z))
   by_tests x y z true t e f o h = ap same (laws.congr x y z e ∙ f) ∙ equal_first (same t) o h

@@ -1,16 +1,12 @@
 -- Texts with commas between, and one more behind.
-use Rattle.std.proofs.Common.{◌≡◌, ◌∙◌, sym, ap, ℕ, ◌+◌, ◌<◌, List, [], ◌∷◌, ◌++◌, append_assoc, length, get_or, take, map, arith, codes, inl, inr}
-use Rattle.std.proofs.lemmas.Bool.{cases_lt}
+use Rattle.std.proofs.Common.{◌≡◌, ◌∙◌, sym, ap, ℕ, ◌+◌, ◌<◌, List, [], ◌∷◌, ◌++◌, append_assoc, length, get_or, take, map, arith, codes}
 use Rattle.std.proofs.lemmas.Grind.{flat_map-append}
 use Rattle.std.proofs.lemmas.List.{take_more, map_push, append-nil, length-map, length-take}
 use Rattle.std.specs.List.{flat_map}
 use Rattle.py_value.specs.declared.value.Value.{Value}
 use Rattle.py_value.specs.declared.value.Value.TheVariants as values
 use Rattle.value_operators.specs.declared.draft.Draft.TheVariants as drafts
-use Rattle.value_operators.specs.Outcomes.{limited}
-use Rattle.value_operators.specs.Texts.{with_commas, comma_before, repr_text, put, finished}
-use Rattle.value_operators.proofs.Drafts.{over, within}
-use Rattle.value_operators.proofs.Copies.{limited-text, limited-long_text}
+use Rattle.value_operators.specs.Texts.{with_commas, comma_before, repr_text}
 
 more : (texts : List (List ℕ)) (text : List ℕ) → with_commas (texts ++ text ∷ []) ≡ with_commas texts ++ (comma_before (length texts) ++ text)
 more [] text = append-nil text
@@ -25,9 +21,3 @@ commas_more items n d h =
     let len : length texts ≡ n = simp (length-map, length-take) (omega arith) in
     ap (λ xs. with_commas (map repr_text xs)) (take_more items n d h) ∙ ap with_commas (map_push repr_text (take n items) (get_or items n d)) ∙ more texts (repr_text (get_or items n d))
     ∙ ap (λ k. with_commas texts ++ (comma_before k ++ repr_text (get_or items n d))) len
-
-pub written_whole : (text : List ℕ) → finished (put (drafts.Within []) text) ≡ limited (values.Text text)
-written_whole text = elim (cases_lt 65536 (length text)) [
-  | inl long ↦ ap finished (over [] text long) ∙ sym (limited-long_text text long)
-  | inr short ↦ ap finished (within [] text short) ∙ sym (limited-text text short)
-]
