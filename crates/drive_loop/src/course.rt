@@ -1,7 +1,8 @@
 //! What a running script keeps, and where a turn leads.
 use drive_account::{Held, Purse};
 use meaning_state::{Flow, Thread};
-use py_frames::{Want, Work};
+use py_frames::Want;
+use step_stack::Work;
 
 /// What a running script keeps: its budget, what it holds of the machine, what its steps see, and
 /// the work that waits.

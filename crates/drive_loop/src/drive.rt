@@ -14,9 +14,9 @@ use crate::turn::give;
 use drive_account::{Held, Purse};
 use drive_port::{Halt, Port};
 use meaning_state::{Flow, Scope, Stack, State, Thread};
-use py_frames::Work;
 use spec_core::NumberMap;
 use std::alloc::Global;
+use step_stack::Work;
 use tree_files::Tree;
 
 /// How the work of a thread is over.

@@ -10,9 +10,10 @@ use crate::course::{Course, Turn};
 use drive_port::Halt;
 use find_load::In;
 use meaning_state::Flow;
-use py_frames::{Frame, Procedure, Work};
+use py_frames::{Frame, Procedure};
 use std::alloc::Global;
 use step_dispatch::fed;
+use step_stack::Work;
 
 /// What waits for a way on: no frame, or the first one that it does not pass.
 pub fn next_frame(work: &mut Work, flow: &Flow) -> Option<Frame>

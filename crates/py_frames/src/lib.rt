@@ -3,11 +3,10 @@
 
 mod procedures;
 mod replies;
-mod unwind;
 mod want;
 mod work;
 
 pub use procedures::Procedure;
 pub use replies::OnReply;
 pub use want::Want;
-pub use work::{Form, Frame, Item, Work};
+pub use work::{Form, Frame, Item};

@@ -2,8 +2,9 @@
 ghost use Rattle.std.specs.Prelude.{◌≡◌, [], ◌∷◌, MatchOption};
 ghost use Rattle.py_frames.specs.Unwind.{stops, unwound, is_taken, is_taken_kind, is_missing, is_missing_kind, is_jump};
 
-use crate::work::{Frame, Work};
+use crate::work::Work;
 use meaning_state::Leave;
+use py_frames::Frame;
 use py_value::Kind;
 
 /// Whether a handler may take the leave: an error but a ProfileError.
