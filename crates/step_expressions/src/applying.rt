@@ -45,7 +45,8 @@ fn inverted(applied: Applied) -> Applied
     }
 }
 
-fn compared(alloc: Global, op: Comparison, a: &Value, b: &Value) -> Result<Applied, NoMemory>
+/// What a comparison of two values gives, none of which is asked of the machine (Language Reference 6.10).
+pub fn compared(alloc: Global, op: Comparison, a: &Value, b: &Value) -> Result<Applied, NoMemory>
     ensures { IfOk result (λ applied. applied ≡ spec.compared op a.now b.now) }
 {
     match op {

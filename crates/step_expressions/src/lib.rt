@@ -11,7 +11,7 @@ mod methods;
 mod placing;
 mod values;
 
-pub use applying::apply;
+pub use applying::{apply, compared, operator_of};
 pub use augmenting::augment;
 pub use calling::{call_callee, callee};
 pub use choosing::{choose, second};

@@ -34,6 +34,7 @@ fn start_import(
     requires { 0 < thread.old.left }
     ensures { IfOk result (Does thread.new (begins (items.Import name is_parent is_lazy) thread.old)) }
 {
+    // Not for its value: what it says of `name`, that it is a dotted name, is what the start of an import takes.
     let _dotted = name.text();
     let importer = Boxed::new(alloc, Importer::start(name, is_parent, is_lazy))?;
     let left = thread.left;
