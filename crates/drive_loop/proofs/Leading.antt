@@ -5,29 +5,26 @@ use Rattle.base_types.specs.declared.no_memory.NoMemory.{NoMemory}
 use Rattle.tree_files.specs.Files.{Files}
 use Rattle.machine_events.specs.declared.event.Event.{Event}
 use Rattle.machine_events.specs.declared.event.Reply.{Reply}
-use Rattle.meaning_runs.specs.Runs.{Run, Pays}
+use Rattle.meaning_runs.specs.Runs.{Run}
 use Rattle.meaning_runs.specs.Costs.{after_reply}
 use Rattle.meaning_state.specs.declared.flow.Flow.{Flow}
 use Rattle.meaning_state.specs.declared.thread.State.{State}
 use Rattle.meaning_state.specs.declared.thread.Thread.{Thread}
 use Rattle.step_calls.specs.Sources.{sources}
-use Rattle.py_frames.specs.Does.{DoesIn, rest, begins, goes_on, replies, frame_does, reply_does}
+use Rattle.py_frames.specs.Does.{DoesIn, rest, replies, frame_does, reply_does}
 use Rattle.py_frames.specs.declared.replies.OnReply.{OnReply}
 use Rattle.py_frames.specs.declared.want.Want.{Want}
 use Rattle.py_frames.specs.declared.want.Want.TheVariants as want
 use Rattle.py_frames.specs.declared.work.Frame.{Frame}
 use Rattle.py_frames.specs.declared.work.Item.{Item}
 use Rattle.drive_account.specs.At.{At}
-use Rattle.drive_loop.specs.Turns.{Stepped, remains}
-use Rattle.drive_loop.specs.declared.course.Course.{Course}
+use Rattle.drive_straight.specs.Remains.{Due, LeadsTo, Moves, begins, due, goes_on}
+use Rattle.drive_straight.specs.declared.next.Next.{Next}
+use Rattle.drive_loop.specs.Turns.{Stepped, Wants, remains}
+use Rattle.drive_straight.specs.declared.course.Course.{Course}
 use Rattle.drive_loop.specs.declared.course.Turn.{Turn}
 use Rattle.drive_loop.specs.declared.course.Turn.TheVariants as turn
 use Rattle.drive_account.specs.declared.purse.Purse.{Purse}
-use Rattle.drive_loop.proofs.Stepping.{pushed}
-
--- whatever script stood at `run` stands at what is wanted
-abbrev pub Moves : Purse → Run → Course → Want → Type 0
-Moves purse run c w = (files : Option Files) (whole : Run) (fuel : ℕ) (mine : List (Event × Reply)) → At files whole fuel mine purse run → At files whole fuel mine c.purse (remains c w)
 
 -- the same of what a step wants next
 abbrev pub Leads : Purse → Run → Course → Result Want NoMemory → Type 0
@@ -46,24 +43,23 @@ pub leads : (purse : Purse) (run : Run) (c c' : Course) (w : Want) (next : Run) 
 leads purse run c c' w next r r' moves is pays means =
     rw is (IfOk-weaker r' _ _ (λ w' m. λ files whole fuel mine a. rw m (pays files whole fuel mine (moves files whole fuel mine a))) means)
 
--- a way on comes to a frame
-pub leads_on : (purse : Purse) (run : Run) (c c' : Course) (flow : Flow) (frame : Frame) (frames : List Frame) (thread : Thread) (r r' : Result Want NoMemory)
-    → Moves purse run c (want.Go flow) → ((d : ℕ) (s : State) → rest sources c.work d flow s ≡ frame_does sources d frame (rest sources frames) flow s)
-    → c' ≡ record { purse = c.purse; held = c.held; thread = thread; work = frames } → r ≡ r'
-    → IfOk r' (DoesIn sources thread (goes_on frame flow c.thread sources)) → Leads purse run c' r
-leads_on purse run c c' flow frame frames thread r r' moves comes is same does =
-    let after : Course = record { purse = c.purse; held = c.held; thread = thread; work = frames } in
-    over_course purse run r c' after is (leads purse run c after (want.Go flow) (remains c (want.Go flow)) r r' moves same (λ files whole fuel mine a. a)
-    (IfOk-weaker r' (DoesIn sources thread (goes_on frame flow c.thread sources)) (λ w. remains after w ≡ remains c (want.Go flow)) (λ w d. d.does (rest sources frames) ∙ sym (comes c.thread.left c.thread.state)) does))
+-- what was due is done as far as it can be
+pub leads_by : (purse : Purse) (run : Run) (c mid after : Course) (w : Want) (was : Due) (r r' : Result Want NoMemory) → Moves purse run c w
+    → ((files : Option Files) (whole : Run) (fuel : ℕ) (mine : List (Event × Reply)) → At files whole fuel mine c.purse (remains c w) → At files whole fuel mine mid.purse (was mid))
+    → r ≡ r' → Wants mid was after r' → Leads purse run after r
+leads_by purse run c mid after w was r r' moves due is wants =
+    rw is (IfOk-weaker r' _ _ (λ w' on. λ files whole fuel mine a. on files whole fuel mine (due files whole fuel mine (moves files whole fuel mine a))) wants)
 
--- an item begins
-pub leads_begun : (purse : Purse) (run : Run) (c c' : Course) (item : Item) (thread : Thread) (r r' : Result Want NoMemory)
-    → Moves purse run c (want.Then item) → c' ≡ record { purse = c.purse; held = c.held; thread = thread; work = c.work } → r ≡ r'
-    → IfOk r' (DoesIn sources thread (begins item c.thread sources)) → Leads purse run c' r
-leads_begun purse run c c' item thread r r' moves is same does =
-    let after : Course = record { purse = c.purse; held = c.held; thread = thread; work = c.work } in
-    over_course purse run r c' after is (leads purse run c after (want.Then item) (remains c (want.Then item)) r r' moves same (λ files whole fuel mine a. a)
-    (IfOk-weaker r' (DoesIn sources thread (begins item c.thread sources)) (λ w. remains after w ≡ remains c (want.Then item)) (λ w d. d.does (rest sources c.work)) does))
+-- what comes next is wanted
+pub next_wanted : (old mid new : Course) (was : Due) (next : Next) (r : Result Want NoMemory) → LeadsTo old was mid next → Wants mid (due next) new r → Wants old was new r
+next_wanted old mid new was next r leads wants =
+    IfOk-weaker r _ _ (λ w on. λ files whole fuel mine a. on files whole fuel mine (leads files whole fuel mine a)) wants
+
+-- a way on comes to a frame that was taken off
+pub comes_on : (c : Course) (flow : Flow) (frame : Frame) (frames : List Frame) → ((d : ℕ) (s : State) → rest sources c.work d flow s ≡ frame_does sources d frame (rest sources frames) flow s)
+    → (files : Option Files) (whole : Run) (fuel : ℕ) (mine : List (Event × Reply)) → At files whole fuel mine c.purse (remains c (want.Go flow))
+    → At files whole fuel mine c.purse (goes_on frame flow (record { purse = c.purse; held = c.held; thread = c.thread; work = frames }))
+comes_on c flow frame frames comes files whole fuel mine a = subst (λ (r : Run). At files whole fuel mine c.purse r) (comes c.thread.left c.thread.state) a
 
 -- a reply that was paid for comes to what waits for it
 pub leads_replied : (purse : Purse) (run : Run) (c c' : Course) (paid : Purse) (on : OnReply) (reply : Reply) (thread : Thread) (r r' : Result Want NoMemory)
@@ -77,16 +73,11 @@ leads_replied purse run c c' paid on reply thread r r' moves pays is same does =
     over_course purse run r c' after is (leads purse run c after (want.Replied on reply) next r r' moves same (λ files whole fuel mine a. pays files whole fuel mine next a)
     (IfOk-weaker r' (DoesIn sources thread (replies on reply c.thread sources)) (λ w. remains after w ≡ next) (λ w d. d.does (rest sources c.work)) does))
 
--- the item of a payment that was made
-pub moves_paid : (purse : Purse) (run : Run) (c : Course) (paid : Purse) (of_tree : Bool) (units : ℕ) (item : Item) → Moves purse run c (want.Pay of_tree units item)
-    → ((files : Option Files) (whole : Run) (fuel : ℕ) (mine : List (Event × Reply)) (next : Run) → At files whole fuel mine c.purse (Pays of_tree units next) → At files whole fuel mine paid next)
-    → Moves purse run (record { purse = paid; held = c.held; thread = c.thread; work = c.work }) (want.Then item)
-moves_paid purse run c paid of_tree units item moves pays files whole fuel mine a = pays files whole fuel mine _ (moves files whole fuel mine a)
-
--- the item before a frame that was put first
-pub moves_pushed : (purse : Purse) (run : Run) (c : Course) (frames : List Frame) (item : Item) (frame : Frame) → Moves purse run c (want.Both item frame) → frames ≡ frame ∷ c.work
-    → Moves purse run (record { purse = c.purse; held = c.held; thread = c.thread; work = frames }) (want.Then item)
-moves_pushed purse run c frames item frame moves is files whole fuel mine a = rw (pushed c frames item frame is) (moves files whole fuel mine a)
+-- a frame that was put first waits for the item
+pub begins_pushed : (c : Course) (frames : List Frame) (item : Item) (frame : Frame) → frames ≡ frame ∷ c.work
+    → (files : Option Files) (whole : Run) (fuel : ℕ) (mine : List (Event × Reply)) → At files whole fuel mine c.purse (remains c (want.Both item frame))
+    → At files whole fuel mine c.purse (begins item (record { purse = c.purse; held = c.held; thread = c.thread; work = frames }))
+begins_pushed c frames item frame is files whole fuel mine a = rw is a
 
 -- the turn that leads elsewhere
 pub comes_to : (purse : Purse) (run : Run) (c c' : Course) (w : Want) (t : Turn) → Moves purse run c w → Stepped c.purse c' (remains c w) t → Stepped purse c' run t

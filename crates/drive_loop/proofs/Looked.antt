@@ -15,7 +15,7 @@ use Rattle.meaning_runs.specs.Runs.{Run, Looks, looks, Question, Answer, StampOf
 use Rattle.drive_account.specs.At.{At}
 use Rattle.meaning_script.specs.Imports.{opens}
 use Rattle.drive_loop.specs.Turns.{Turned, Looked, IsFileStamp}
-use Rattle.drive_loop.specs.declared.course.Course.{Course}
+use Rattle.drive_straight.specs.declared.course.Course.{Course}
 use Rattle.drive_loop.specs.declared.course.Turn.{Turn}
 use Rattle.drive_account.specs.declared.purse.Purse.{Purse}
 

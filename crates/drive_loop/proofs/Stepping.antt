@@ -1,5 +1,5 @@
 -- From what a step wants to where a turn leads.
-use Rattle.std.proofs.Common.{◌≡◌, ℕ, List, ◌∷◌, Option, refl, subst}
+use Rattle.std.proofs.Common.{◌≡◌, ℕ, List, Option, refl, subst}
 use Rattle.tree_files.specs.Files.{Files}
 use Rattle.machine_events.specs.declared.event.Event.{Event}
 use Rattle.machine_events.specs.declared.event.Reply.{Reply}
@@ -9,13 +9,11 @@ use Rattle.meaning_state.specs.declared.thread.State.{State}
 use Rattle.meaning_script.specs.Meaning.{ends}
 use Rattle.step_calls.specs.Sources.{sources}
 use Rattle.py_frames.specs.Does.{rest}
-use Rattle.py_frames.specs.declared.work.Frame.{Frame}
-use Rattle.py_frames.specs.declared.work.Item.{Item}
 use Rattle.py_frames.specs.declared.want.Want.{Want}
 use Rattle.py_frames.specs.declared.want.Want.TheVariants as want
 use Rattle.drive_account.specs.At.{At, IsShort}
 use Rattle.drive_loop.specs.Turns.{Stepped, remains}
-use Rattle.drive_loop.specs.declared.course.Course.{Course}
+use Rattle.drive_straight.specs.declared.course.Course.{Course}
 use Rattle.drive_loop.specs.declared.course.Turn.{Turn}
 use Rattle.drive_loop.specs.declared.course.Turn.TheVariants as turn
 use Rattle.drive_account.specs.declared.purse.Purse.{Purse}
@@ -43,8 +41,3 @@ stepped_came purse c after flow same comes files faults mine = record {
   moves = λ whole fuel a. rw same (subst (λ (run : Run). At files whole fuel mine purse run) (comes c.thread.left c.thread.state) a);
   counts = refl;
 }
-
--- a frame that was put first waits for the item
-pub pushed : (c : Course) (frames : List Frame) (item : Item) (frame : Frame) → frames ≡ frame ∷ c.work
-    → remains (record { purse = c.purse; held = c.held; thread = c.thread; work = frames }) (want.Then item) ≡ remains c (want.Both item frame)
-pushed c frames item frame is = rw is refl

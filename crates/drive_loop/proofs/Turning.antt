@@ -16,7 +16,7 @@ use Rattle.drive_search.specs.Asking.{Refused, RefusedAt, Parted}
 use Rattle.drive_loop.specs.Turns.{After, Counts, Turned, Stepped, Stood, remains}
 use Rattle.drive_loop.specs.Overs.{Begun, Fresh}
 use Rattle.drive_loop.specs.Starts.{StartsAs}
-use Rattle.drive_loop.specs.declared.course.Course.{Course}
+use Rattle.drive_straight.specs.declared.course.Course.{Course}
 use Rattle.drive_loop.specs.declared.course.Turn.{Turn}
 use Rattle.drive_account.specs.declared.purse.Purse.{Purse}
 

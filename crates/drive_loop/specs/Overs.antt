@@ -1,5 +1,5 @@
 -- A script from its start until its work is over.
-use Rattle.std.specs.Prelude.{◌≡◌, ℕ, List, [], Option, None, false}
+use Rattle.std.specs.Prelude.{◌≡◌, ℕ, List, [], Option}
 use Rattle.tree_files.specs.Files.{Files}
 use Rattle.tree_files.specs.Count.{Rose}
 use Rattle.machine_events.specs.declared.event.Event.{Event}
@@ -7,10 +7,8 @@ use Rattle.machine_events.specs.declared.event.Reply.{Reply}
 use Rattle.meaning_runs.specs.Runs.{Run, Stands, IsUnread}
 use Rattle.drive_port.specs.View.{View}
 use Rattle.drive_account.specs.At.{IsShort}
-use Rattle.drive_account.specs.Holds.{held_in}
-use Rattle.meaning_script.specs.Meaning.{first_state}
 use Rattle.drive_loop.specs.Turns.{ended}
-use Rattle.drive_loop.specs.declared.course.Course.{Course}
+pub use Rattle.drive_straight.specs.Remains.{Fresh}
 use Rattle.drive_loop.specs.declared.drive.Over.{Over}
 use Rattle.drive_loop.specs.declared.drive.Over.TheVariants as over
 
@@ -19,13 +17,6 @@ pub record Begun {S : Type 0} (v : View S) (script : ℕ) : Type 0 where
   pub number : v.number ≡ script
   pub ready : v.ready
   pub first : v.mine ≡ []
-
--- nothing was done yet
-pub record Fresh (script fuel : ℕ) (c : Course) : Type 0 where
-  pub purse : c.purse ≡ record { budget = fuel; read = None; of_tree = false }
-  pub held : held_in c.held ≡ []
-  pub thread : c.thread ≡ record { left = 200; state = first_state script }
-  pub work : c.work ≡ []
 
 -- how a run is over: it ended; it is spent, at a payment that was one for a call of the tree or not; or it
 -- could not read, with this budget before the payment, and the tree's count of faults rose

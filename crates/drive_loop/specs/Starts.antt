@@ -7,7 +7,7 @@ use Rattle.step_calls.specs.Sources.{sources}
 use Rattle.py_frames.specs.declared.want.Want.{Want}
 use Rattle.drive_loop.specs.Turns.{remains}
 use Rattle.drive_loop.specs.Overs.{Fresh}
-use Rattle.drive_loop.specs.declared.course.Course.{Course}
+use Rattle.drive_straight.specs.declared.course.Course.{Course}
 use Rattle.drive_loop.specs.declared.start.Start.{Start}
 use Rattle.drive_loop.specs.declared.start.Start.TheVariants as start
 

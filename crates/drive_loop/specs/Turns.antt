@@ -1,5 +1,6 @@
 -- What a turn of the driver does.
-use Rattle.std.specs.Prelude.{◌≡◌, ℕ, List, Option}
+use Rattle.std.specs.Prelude.{◌≡◌, ℕ, List, Option, Result, IfOk}
+use Rattle.base_types.specs.declared.no_memory.NoMemory.{NoMemory}
 use Rattle.tree_files.specs.Files.{Files}
 use Rattle.tree_files.specs.Count.{Rose}
 use Rattle.tree_files.specs.declared.tree.Stamp.{Stamp}
@@ -13,20 +14,18 @@ use Rattle.drive_account.specs.declared.held.Held.{Held}
 use Rattle.meaning_state.specs.declared.flow.Flow.{Flow}
 use Rattle.meaning_script.specs.Meaning.{outcome_of}
 use Rattle.step_calls.specs.Sources.{sources}
-use Rattle.py_frames.specs.Does.{want_does, rest, fed}
+use Rattle.py_frames.specs.Does.{rest, fed}
 use Rattle.py_frames.specs.declared.want.Want.{Want}
 use Rattle.py_frames.specs.declared.procedures.Procedure.{Procedure}
 use Rattle.find_load.specs.declared.words.In.{In}
 use Rattle.drive_account.specs.Ending.{Holds}
 use Rattle.drive_account.specs.At.{At, IsShort}
-use Rattle.drive_loop.specs.declared.course.Course.{Course}
+use Rattle.drive_straight.specs.declared.course.Course.{Course}
 use Rattle.drive_loop.specs.declared.course.Turn.{Turn}
 use Rattle.drive_loop.specs.declared.course.Turn.TheVariants as turn
 use Rattle.drive_account.specs.declared.purse.Purse.{Purse}
-
--- what remains of a script that wants this
-abbrev pub remains : Course → Want → Run
-remains c want = want_does sources c.thread.left want (rest sources c.work) c.thread.state
+pub use Rattle.drive_straight.specs.Remains.{remains}
+use Rattle.drive_straight.specs.Remains.{Due, Moves}
 
 -- what remains where a procedure is fed
 abbrev pub feeds : Course → Procedure → In → Run
@@ -77,3 +76,7 @@ pub record Stood {S : Type 0} (v : View S) (held : Held) (run : Run) : Type 0 wh
   pub ready : v.ready
   pub holds : Holds v held
   pub safe : Safe (shown v.number v.mine) run
+
+-- whatever script stood at what was due stands at what is wanted, if memory was not wanted
+abbrev pub Wants : Course → Due → Course → Result Want NoMemory → Type 0
+Wants old was new r = IfOk r (λ want. Moves old.purse (was old) new want)

@@ -1,18 +1,6 @@
-//! What a running script keeps, and where a turn leads.
-use drive_account::{Held, Purse};
-use meaning_state::{Flow, Thread};
+//! Where a turn leads.
+use meaning_state::Flow;
 use py_frames::Want;
-use step_stack::Work;
-
-/// What a running script keeps: its budget, what it holds of the machine, what its steps see, and
-/// the work that waits.
-#[derive(Drop)]
-pub struct Course {
-    pub purse: Purse,
-    pub held: Held,
-    pub thread: Thread,
-    pub work: Work,
-}
 
 /// Where a turn leads.
 #[derive(Drop)]

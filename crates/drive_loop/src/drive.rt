@@ -8,15 +8,13 @@ ghost use Rattle.drive_search.specs.Asking.{RefusedAt, Asked, AllKept};
 ghost use Rattle.drive_loop.specs.Overs.{Begun, Fresh, Overs, IsUnfailed};
 ghost use Rattle.drive_loop.specs.Starts.{started};
 
-use crate::course::{Course, Turn};
+use crate::course::Turn;
 use crate::start::{Start, first_want};
 use crate::turn::give;
-use drive_account::{Held, Purse};
 use drive_port::{Halt, Port};
-use meaning_state::{Flow, Scope, Stack, State, Thread};
-use spec_core::NumberMap;
+use drive_straight::Course;
+use meaning_state::Flow;
 use std::alloc::Global;
-use step_stack::Work;
 use tree_files::Tree;
 
 /// How the work of a thread is over.
@@ -28,38 +26,6 @@ pub enum Over {
     Out { of_tree: bool },
     /// A call of the tree failed after a payment that left so much before it.
     Unread(u64),
-}
-
-/// The most bodies, calls and imports that may be open at once.
-const DEPTH: u32 = 200;
-
-impl Course {
-    /// What a script keeps before its first step. It takes no memory.
-    pub fn first(alloc: Global, script: u32, fuel: u64) -> Course
-        ensures { Fresh script fuel result }
-    {
-        Course {
-            purse: Purse {
-                budget: fuel,
-                read: None,
-                of_tree: false,
-            },
-            held: Held::new(alloc),
-            thread: Thread {
-                left: DEPTH,
-                state: State {
-                    scope: Scope {
-                        mid: script,
-                        load: script,
-                        function: None,
-                    },
-                    kept: NumberMap::new(alloc),
-                    handling: Stack::new(alloc),
-                },
-            },
-            work: Work::new(alloc),
-        }
-    }
 }
 
 /// Runs a thread to its end, but for what it still holds and its End event.

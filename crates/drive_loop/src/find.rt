@@ -12,10 +12,11 @@ ghost use Rattle.drive_search.specs.Searching.{AfterSought, CountsSought};
 ghost use Rattle.drive_search.specs.Asking.{Parted, Refused, Asked, AllKept};
 ghost use Rattle.drive_loop.specs.Turns.{Stood, Turned, After, Counts, remains, feeds};
 
-use crate::course::{Course, Turn};
+use crate::course::Turn;
 use crate::steps::feed;
 use drive_port::{Halt, Port};
 use drive_search::{Sought, seek};
+use drive_straight::Course;
 use find_load::In;
 use py_frames::Procedure;
 use py_value::Items;

@@ -13,8 +13,9 @@ mod steps;
 mod turn;
 mod working;
 
-pub use course::{Course, Turn};
+pub use course::Turn;
 pub use drive::{Over, run};
 pub use drive_account::{Ending, Purse};
+pub use drive_straight::Course;
 pub use script::run_on;
 pub use start::Start;

@@ -10,10 +10,11 @@ ghost use Rattle.py_frames.specs.declared.want.Want.TheVariants as wants;
 ghost use Rattle.drive_search.specs.Asking.{Asked};
 ghost use Rattle.drive_loop.specs.Turns.{Looked, IsFileStamp, remains, feeds};
 
-use crate::course::{Course, Turn};
+use crate::course::Turn;
 use crate::steps::feed;
 use base_types::TreePath;
 use drive_port::Halt;
+use drive_straight::Course;
 use find_load::In;
 use path_finder::{LoadFault, load_text};
 use py_frames::Procedure;

@@ -8,9 +8,10 @@ ghost use Rattle.drive_account.specs.Ending.{Holds};
 ghost use Rattle.drive_search.specs.Asking.{Parted, Refused};
 ghost use Rattle.drive_loop.specs.Turns.{Stood, Made, remains};
 
-use crate::course::{Course, Turn};
+use crate::course::Turn;
 use drive_account::change_of;
 use drive_port::{Halt, Port};
+use drive_straight::Course;
 use machine_events::{Event, Reply};
 use py_frames::{Item, OnReply, Want};
 

@@ -12,11 +12,11 @@ ghost use Rattle.drive_search.specs.Asking.{Asked};
 ghost use Rattle.drive_loop.specs.Overs.{Begun};
 ghost use Rattle.drive_loop.specs.Starts.{started};
 
-use crate::course::Course;
 use crate::drive::{Over, run};
 use crate::start::Start;
 use drive_account::{Ending, came, spent, unread};
 use drive_port::{Halt, Port};
+use drive_straight::Course;
 use std::alloc::Global;
 use tree_files::Tree;
 

@@ -6,8 +6,9 @@ ghost use Rattle.meaning_state.specs.declared.thread.State.{State};
 ghost use Rattle.py_frames.specs.Does.{rest, frame_does};
 ghost use Rattle.drive_loop.specs.Turns.{Stepped, feeds};
 
-use crate::course::{Course, Turn};
+use crate::course::Turn;
 use drive_port::Halt;
+use drive_straight::Course;
 use find_load::In;
 use meaning_state::Flow;
 use py_frames::{Frame, Procedure};

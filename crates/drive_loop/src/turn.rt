@@ -5,12 +5,13 @@ ghost use Rattle.drive_account.specs.Ending.{Holds};
 ghost use Rattle.drive_search.specs.Asking.{Parted, Refused, Asked, AllKept};
 ghost use Rattle.drive_loop.specs.Turns.{Stood, Turned, remains};
 
-use crate::course::{Course, Turn};
+use crate::course::Turn;
 use crate::find::find;
 use crate::looks::file;
 use crate::makes::{call, wait};
 use crate::working::work_on;
 use drive_port::{Halt, Port};
+use drive_straight::Course;
 use py_frames::Want;
 use std::alloc::Global;
 use tree_files::Tree;

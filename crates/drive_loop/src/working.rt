@@ -1,14 +1,76 @@
 //! Turns that see neither a port nor a tree, one after another.
 ghost use Rattle.std.specs.Prelude.{◌≡◌, IfOk, IsErrOf};
-ghost use Rattle.drive_loop.specs.Turns.{Stepped, remains};
+ghost use Rattle.drive_straight.specs.Remains.{begins, due, goes_on};
+ghost use Rattle.drive_loop.specs.Turns.{Stepped, Wants, remains};
 
-use crate::course::{Course, Turn};
+use crate::course::Turn;
 use crate::steps::next_frame;
+use base_types::NoMemory;
 use drive_account::pay_reply;
 use drive_port::Halt;
-use py_frames::Want;
+use drive_straight::{
+    Course, Next, block, evaluate, resume_block, resume_loop, resume_sized, turn,
+};
+use meaning_state::Flow;
+use py_frames::{Frame, Item, Want};
 use std::alloc::Global;
 use step_dispatch::{begin, go_on, replied};
+
+/// What comes next is wanted, or begins, or goes on, as any other.
+fn next_want(alloc: Global, course: &mut Course, next: Next) -> Result<Want, NoMemory>
+    ensures moves { Wants course.old (due next) course.new result }
+    ensures held { course.new.held ≡ course.old.held }
+{
+    match next {
+        Next::Wanted(want) => Ok(want),
+        Next::Piece(item) => begin(alloc, item, &mut course.thread),
+        Next::Frame(frame, flow) => go_on(alloc, frame, flow, &mut course.thread),
+    }
+}
+
+/// A piece of work: at once, in place, as far as it can be, and else as any other.
+fn start(alloc: Global, course: &mut Course, item: Item) -> Result<Want, NoMemory>
+    ensures moves { Wants course.old (begins item) course.new result }
+    ensures held { course.new.held ≡ course.old.held }
+{
+    match item {
+        Item::Eval(expr) => {
+            let next = evaluate(alloc, course, expr)?;
+            next_want(alloc, course, next)
+        }
+        Item::Block { stmts, at } => {
+            let next = block(alloc, course, stmts, at)?;
+            next_want(alloc, course, next)
+        }
+        Item::Turn { test, body, turns } => {
+            let next = turn(alloc, course, test, body, turns)?;
+            next_want(alloc, course, next)
+        }
+        item => begin(alloc, item, &mut course.thread),
+    }
+}
+
+/// A way on comes to a frame: what follows is done at once, as far as it can be, and else as any other.
+fn resume(alloc: Global, course: &mut Course, frame: Frame, flow: Flow) -> Result<Want, NoMemory>
+    ensures moves { Wants course.old (goes_on frame flow) course.new result }
+    ensures held { course.new.held ≡ course.old.held }
+{
+    match frame {
+        Frame::Sized => {
+            let next = resume_sized(course, flow);
+            next_want(alloc, course, next)
+        }
+        Frame::Block { stmts, at } => {
+            let next = resume_block(alloc, course, stmts, at, flow)?;
+            next_want(alloc, course, next)
+        }
+        Frame::Loop { test, body, turns } => {
+            let next = resume_loop(alloc, course, test, body, turns, flow)?;
+            next_want(alloc, course, next)
+        }
+        frame => go_on(alloc, frame, flow, &mut course.thread),
+    }
+}
 
 /// Gives what is wanted for as long as that needs neither a port nor a tree. It is one loop in place of a call a turn,
 /// since a call clears the places of all locals of its function.
@@ -29,11 +91,11 @@ pub fn work_on(alloc: Global, course: &mut Course, first: Want) -> Result<Turn, 
         let next = match want {
             Want::Go(flow) => match next_frame(&mut course.work, &flow) {
                 None => return Ok(Turn::Came(flow)),
-                Some(frame) => go_on(alloc, frame, flow, &mut course.thread),
+                Some(frame) => resume(alloc, course, frame, flow),
             },
-            Want::Then(item) => begin(alloc, item, &mut course.thread),
+            Want::Then(item) => start(alloc, course, item),
             Want::Both(item, frame) => match course.work.push(frame) {
-                Ok(()) => begin(alloc, item, &mut course.thread),
+                Ok(()) => start(alloc, course, item),
                 Err(no_memory) => Err(no_memory),
             },
             Want::Pay {
@@ -44,7 +106,7 @@ pub fn work_on(alloc: Global, course: &mut Course, first: Want) -> Result<Turn, 
                 if !course.purse.pay(of_tree, units) {
                     return Ok(Turn::Out);
                 }
-                begin(alloc, item, &mut course.thread)
+                start(alloc, course, item)
             }
             Want::Replied(on, reply) => {
                 if !pay_reply(&mut course.purse, &reply) {

@@ -6,11 +6,12 @@ use Rattle.step_calls.specs.Sources.{sources}
 use Rattle.py_frames.specs.Does.{rest, reply_does}
 use Rattle.py_frames.specs.declared.want.Want.{Want}
 use Rattle.py_frames.specs.declared.want.Want.TheVariants as wants
+use Rattle.drive_straight.specs.Remains.{begins, goes_on}
 use Rattle.drive_loop.specs.Turns.{remains}
-use Rattle.drive_loop.specs.declared.course.Course.{Course}
+use Rattle.drive_straight.specs.declared.course.Course.{Course}
 use Rattle.drive_account.specs.declared.purse.Purse.{Purse}
 use Rattle.drive_loop.proofs.Stepping.{stepped_came, stepped_out}
-use Rattle.drive_loop.proofs.Leading.{Leads, wanted, leads_on, leads_begun, leads_replied, moves_paid, moves_pushed, comes_to, hands_on}
+use Rattle.drive_loop.proofs.Leading.{Leads, wanted, leads_by, leads_replied, begins_pushed, comes_on, comes_to, hands_on}
 use Rattle.drive_loop.proofs.working.work_on.Goals as goal
 use Rattle.drive_loop.proofs.working.work_on.Goals.{in-Go+in-Some, in-Then, in-Both+in-Ok, in-Both+in-Err, in-Pay+else-not-pay, in-Replied+else-not-pay_reply}
 
@@ -51,25 +52,31 @@ turns-preserved c =
     let course = c.turns.course in
     let came = c.turns.invariant.moves in
     let led : Leads purse run c.match-want.course c.match-want.next = elim c.match-want.branch [
-      | in-Go+in-Some w ↦ leads_on purse run course _ w.in-Go.flow w.in-Some.frame w.next_frame.new.work w.go_on.new.thread _ _ (wanted purse run course _ _ w.in-Go.is came) w.in-Some.ensures w.course-is w.next-is w.go_on.ensures
-      | in-Then w ↦ leads_begun purse run course _ w.in-Then.item w.begin-next.new.thread _ _ (wanted purse run course _ _ w.in-Then.is came) w.course-is w.next-is w.begin-next.ensures
+      | in-Go+in-Some w ↦
+          let mid : Course = record { purse = course.purse; held = course.held; thread = course.thread; work = w.next_frame.new.work } in
+          leads_by purse run course mid c.match-want.course (wants.Go w.in-Go.flow) (goes_on w.in-Some.frame w.in-Go.flow) _ _ (wanted purse run course _ _ w.in-Go.is came)
+          (comes_on course w.in-Go.flow w.in-Some.frame w.next_frame.new.work w.in-Some.ensures) w.next-is (rw w.course-is w.resume.ensures.moves)
+      | in-Then w ↦
+          leads_by purse run course course c.match-want.course (wants.Then w.in-Then.item) (begins w.in-Then.item) _ _ (wanted purse run course _ _ w.in-Then.is came) (λ files whole fuel mine a. a) w.next-is (rw w.course-is w.start-next.ensures.moves)
       | in-Both+in-Ok w ↦
-          leads_begun purse run (record { purse = course.purse; held = course.held; thread = course.thread; work = w.push.new.self }) _ w.in-Both.item w.begin.new.thread _ _
-          (moves_pushed purse run course w.push.new.self w.in-Both.item w.in-Both.frame (wanted purse run course _ _ w.in-Both.is came) w.in-Ok.ensures.ok) w.course-is w.next-is w.begin.ensures
+          let mid : Course = record { purse = course.purse; held = course.held; thread = course.thread; work = w.push.new.self } in
+          leads_by purse run course mid c.match-want.course (wants.Both w.in-Both.item w.in-Both.frame) (begins w.in-Both.item) _ _ (wanted purse run course _ _ w.in-Both.is came)
+          (begins_pushed course w.push.new.self w.in-Both.item w.in-Both.frame w.in-Ok.ensures.ok) w.next-is (rw w.course-is w.start.ensures.moves)
       | in-Both+in-Err w ↦ subst (λ (r : Result Want NoMemory). Leads purse run c.match-want.course r) (sym w.next-is) tt
       | in-Pay+else-not-pay w ↦
-          leads_begun purse run (record { purse = w.pay.new.self; held = course.held; thread = course.thread; work = course.work }) _ w.in-Pay.item w.begin-next-in-Pay.new.thread _ _
-          (moves_paid purse run course w.pay.new.self w.in-Pay.of_tree w.in-Pay.units w.in-Pay.item (wanted purse run course _ _ w.in-Pay.is came) w.if-not-pay.ensures.moves) w.course-is w.next-is w.begin-next-in-Pay.ensures
+          let mid : Course = record { purse = w.pay.new.self; held = course.held; thread = course.thread; work = course.work } in
+          leads_by purse run course mid c.match-want.course (wants.Pay w.in-Pay.of_tree w.in-Pay.units w.in-Pay.item) (begins w.in-Pay.item) _ _ (wanted purse run course _ _ w.in-Pay.is came)
+          (λ files whole fuel mine a. w.if-not-pay.ensures.moves files whole fuel mine _ a) w.next-is (rw w.course-is w.start-next-in-Pay.ensures.moves)
       | in-Replied+else-not-pay_reply w ↦
           leads_replied purse run course _ w.pay_reply.new.purse w.in-Replied.on w.in-Replied.reply w.replied-next.new.thread _ _
           (wanted purse run course _ _ w.in-Replied.is came) w.if-not-pay_reply.ensures w.course-is w.next-is w.replied-next.ensures
     ] in
     let kept : c.match-want.course.held ≡ course.held = elim c.match-want.branch [
-      | in-Go+in-Some w ↦ ap (λ (c : Course). c.held) w.course-is
-      | in-Then w ↦ ap (λ (c : Course). c.held) w.course-is
-      | in-Both+in-Ok w ↦ ap (λ (c : Course). c.held) w.course-is
+      | in-Go+in-Some w ↦ ap (λ (c : Course). c.held) w.course-is ∙ w.resume.ensures.held
+      | in-Then w ↦ ap (λ (c : Course). c.held) w.course-is ∙ w.start-next.ensures.held
+      | in-Both+in-Ok w ↦ ap (λ (c : Course). c.held) w.course-is ∙ w.start.ensures.held
       | in-Both+in-Err w ↦ ap (λ (c : Course). c.held) w.course-is
-      | in-Pay+else-not-pay w ↦ ap (λ (c : Course). c.held) w.course-is
+      | in-Pay+else-not-pay w ↦ ap (λ (c : Course). c.held) w.course-is ∙ w.start-next-in-Pay.ensures.held
       | in-Replied+else-not-pay_reply w ↦ ap (λ (c : Course). c.held) w.course-is
     ] in
     record {

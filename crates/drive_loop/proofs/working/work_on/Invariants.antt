@@ -1,6 +1,6 @@
 use Rattle.std.proofs.Common.{◌≡◌, ◌-◌, ◌^◌}
 use Rattle.drive_loop.specs.Turns.{remains}
-use Rattle.drive_loop.proofs.Leading.{Moves}
+use Rattle.drive_straight.specs.Remains.{Moves}
 use Rattle.drive_loop.proofs.working.work_on.Given as goal
 
 abbrev pub invariant-turns : goal.invariant-turns

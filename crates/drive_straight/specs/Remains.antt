@@ -1,0 +1,118 @@
+-- What remains of a script, and what is done of it in place.
+use Rattle.std.specs.Prelude.{◌≡◌, ℕ, ◌+◌, List, [], Option, Some, None, Bool, true, false, Result, IfOk, slice_get}
+use Rattle.base_types.specs.declared.no_memory.NoMemory.{NoMemory}
+use Rattle.tree_files.specs.Files.{Files}
+use Rattle.py_value.specs.declared.value.Value.{Value}
+use Rattle.machine_events.specs.declared.event.Event.{Event}
+use Rattle.machine_events.specs.declared.event.Reply.{Reply}
+use Rattle.meaning_runs.specs.Runs.{Run}
+use Rattle.py_syntax.specs.declared.expr.Expr.{Expr, out-Expr}
+use Rattle.py_syntax.specs.declared.expr.Expr.TheOpen.{Expr-F}
+use Rattle.py_syntax.specs.declared.stmt.Branch.{Branch}
+use Rattle.py_syntax.specs.declared.stmt.FuncDef.{FuncDef}
+use Rattle.py_syntax.specs.declared.stmt.Handler.{Handler}
+use Rattle.py_syntax.specs.declared.stmt.Stmt.{Stmt, out-Stmt}
+use Rattle.py_syntax.specs.declared.stmt.Stmt.TheOpen.{Stmt-F}
+use Rattle.meaning_state.specs.declared.flow.Flow.{Flow}
+use Rattle.meaning_state.specs.declared.flow.Flow.TheVariants.{Went}
+use Rattle.meaning_state.specs.declared.thread.State.{State}
+use Rattle.meaning_script.specs.Pieces.{pay}
+use Rattle.meaning_script.specs.Meaning.{World, first_state}
+use Rattle.step_calls.specs.Sources.{sources}
+use Rattle.py_frames.specs.Does.{Rest, frame_does, want_does, rest}
+use Rattle.py_frames.specs.declared.want.Want.{Want}
+use Rattle.py_frames.specs.declared.want.Want.TheVariants as want
+use Rattle.py_frames.specs.declared.work.Frame.{Frame}
+use Rattle.py_frames.specs.declared.work.Item.{Item}
+use Rattle.py_frames.specs.declared.work.Item.TheVariants as it
+use Rattle.drive_account.specs.At.{At}
+use Rattle.drive_account.specs.Holds.{held_in}
+use Rattle.drive_account.specs.declared.purse.Purse.{Purse}
+use Rattle.step_straight.specs.Costs.{Costs}
+use Rattle.step_straight.specs.Comes.{given_does}
+use Rattle.step_straight.specs.declared.given.Given.{Given}
+use Rattle.drive_straight.specs.declared.course.Course.{Course}
+use Rattle.drive_straight.specs.declared.next.Next.{Next}
+use Rattle.drive_straight.specs.declared.next.Next.TheVariants as next
+
+-- nothing was done yet
+pub record Fresh (script fuel : ℕ) (c : Course) : Type 0 where
+  pub purse : c.purse ≡ record { budget = fuel; read = None; of_tree = false }
+  pub held : held_in c.held ≡ []
+  pub thread : c.thread ≡ record { left = 200; state = first_state script }
+  pub work : c.work ≡ []
+
+-- what remains of a script that wants this
+abbrev pub remains : Course → Want → Run
+remains c want = want_does sources c.thread.left want (rest sources c.work) c.thread.state
+
+-- whatever script stood at `run` stands at what is wanted
+abbrev pub Moves : Purse → Run → Course → Want → Type 0
+Moves purse run c w = (files : Option Files) (whole : Run) (fuel : ℕ) (mine : List (Event × Reply)) → At files whole fuel mine purse run → At files whole fuel mine c.purse (remains c w)
+
+-- what there is to do in a state, and then the work that waits
+abbrev pub Due : Type 0
+Due = Course → Run
+
+-- a piece of work begins
+abbrev pub begins : Item → Due
+begins item c = remains c (want.Then item)
+
+-- a way on comes to a frame that was taken off
+abbrev pub goes_on : Frame → Flow → Due
+goes_on f flow c = frame_does sources c.thread.left f (rest sources c.work) flow c.thread.state
+
+-- what comes next
+abbrev pub due : Next → Due
+due (next.Wanted w) c = remains c w
+due (next.Piece item) c = begins item c
+due (next.Frame f flow) c = goes_on f flow c
+
+-- whatever script stood at what was due stands at what comes next
+abbrev pub LeadsTo : Course → Due → Course → Next → Type 0
+LeadsTo old was new next = (files : Option Files) (whole : Run) (fuel : ℕ) (mine : List (Event × Reply))
+    → At files whole fuel mine old.purse (was old) → At files whole fuel mine new.purse (due next new)
+
+-- the same, if memory was not wanted
+abbrev pub Leads : Course → Due → Course → Result Next NoMemory → Type 0
+Leads old was new r = IfOk r (LeadsTo old was new)
+
+-- so many units were paid: whatever script stood at a run that costs them stands where that goes on
+abbrev pub Affords : Purse → Purse → ℕ → Type 0
+Affords old new units = (files : Option Files) (whole : Run) (fuel : ℕ) (mine : List (Event × Reply)) (run next : Run)
+    → Costs units run next → At files whole fuel mine old run → At files whole fuel mine new next
+
+-- what is wanted does what an expression came to
+abbrev pub Means : Given → Want → Type 0
+Means given want = (w : World) (d : ℕ) (next : Rest) (s : State) → want_does w d want next s ≡ given_does w d given next s
+
+-- behind one unit more the expression has this value, for so many units in all
+abbrev pub IsValueOf : Expr → Course → Value → ℕ → Type 0
+IsValueOf e c v units = (w : World) (next : Rest)
+    → Costs units (pay 1 (want_does w c.thread.left (want.Then (it.Eval e)) next c.thread.state)) (next c.thread.left (Went v) c.thread.state)
+
+-- an assignment of the expression to the name stands at the place
+pub record Assigns (stmts : List Stmt) (at : ℕ) (x : List ℕ) (e : Expr) : Type 0 where
+  pub stmt : Stmt
+  pub there : slice_get stmts at ≡ Some stmt
+  pub target : Expr
+  pub form : out-Stmt stmt ≡ Stmt-F.Assign target e
+  pub name : out-Expr target ≡ Expr-F.Name x
+
+-- the place in a block behind a statement that was done, or of one that was not
+abbrev pub place_behind : ℕ → Bool → ℕ
+place_behind at true = at + 1
+place_behind at false = at
+
+-- whatever script stood at the statements from a place on stands behind the first of them, if that was done
+abbrev pub Did : Course → List Stmt → ℕ → Course → Bool → Type 0
+Did old stmts at new is_done = Moves old.purse (remains old (want.Then (it.Block stmts at))) new (want.Then (it.Block stmts (place_behind at is_done)))
+
+-- the first operand of a simple statement that has one and may be begun with it; of `x += e` the name is read first,
+-- and `del` begins with its target
+abbrev pub first_operand : Stmt-F Stmt Branch FuncDef Handler → Option Expr
+first_operand (Stmt-F.Evaluate e) = Some e
+first_operand (Stmt-F.Assign target e) = Some e
+first_operand (Stmt-F.Return e) = e
+first_operand (Stmt-F.Raise e) = e
+first_operand stmt = None

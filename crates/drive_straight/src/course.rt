@@ -1,0 +1,50 @@
+//! What a running script keeps.
+ghost use Rattle.drive_straight.specs.Remains.{Fresh};
+
+use drive_account::{Held, Purse};
+use meaning_state::{Scope, Stack, State, Thread};
+use spec_core::NumberMap;
+use std::alloc::Global;
+use step_stack::Work;
+
+/// What a running script keeps: its budget, what it holds of the machine, what its steps see, and
+/// the work that waits.
+#[derive(Drop)]
+pub struct Course {
+    pub purse: Purse,
+    pub held: Held,
+    pub thread: Thread,
+    pub work: Work,
+}
+
+/// The most bodies, calls and imports that may be open at once.
+const DEPTH: u32 = 200;
+
+impl Course {
+    /// What a script keeps before its first step. It takes no memory.
+    pub fn first(alloc: Global, script: u32, fuel: u64) -> Course
+        ensures { Fresh script fuel result }
+    {
+        Course {
+            purse: Purse {
+                budget: fuel,
+                read: None,
+                of_tree: false,
+            },
+            held: Held::new(alloc),
+            thread: Thread {
+                left: DEPTH,
+                state: State {
+                    scope: Scope {
+                        mid: script,
+                        load: script,
+                        function: None,
+                    },
+                    kept: NumberMap::new(alloc),
+                    handling: Stack::new(alloc),
+                },
+            },
+            work: Work::new(alloc),
+        }
+    }
+}

@@ -1,0 +1,18 @@
+//! What a script keeps while it runs, and what it does at once, in place, where nothing is asked of the machine or the
+//! tree: expressions, assignments to local variables, branches and turns of loops. All else is begun piece by piece.
+#![tactic(auto)]
+
+mod blocks;
+mod course;
+mod expressions;
+mod loops;
+mod next;
+mod paying;
+mod resuming;
+
+pub use blocks::block;
+pub use course::Course;
+pub use expressions::evaluate;
+pub use loops::turn;
+pub use next::Next;
+pub use resuming::{resume_block, resume_loop, resume_sized};

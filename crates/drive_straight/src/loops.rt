@@ -1,0 +1,51 @@
+//! Turns of a loop (Language Reference 8.2).
+ghost use Rattle.std.specs.Prelude.{◌≡◌};
+ghost use Rattle.py_frames.specs.declared.work.Item.TheVariants as items;
+ghost use Rattle.drive_straight.specs.Remains.{Leads, begins};
+
+use crate::blocks::{block, value_in_statement};
+use crate::course::Course;
+use crate::next::Next;
+use crate::paying::afford;
+use base_owners::Shared;
+use base_types::{NoMemory, Seq};
+use meaning_state::Flow;
+use py_frames::{Frame, Item, Want};
+use py_syntax::{Expr, Stmt};
+use py_value::{Value, truth};
+use std::alloc::Global;
+use step_shared::is_listed;
+
+/// A turn of a loop that can take so many: its test, and then its block, at once if they can be.
+pub fn turn(
+    alloc: Global,
+    course: &mut Course,
+    test: Shared<Expr>,
+    body: Shared<Seq<Stmt>>,
+    turns: u64,
+) -> Result<Next, NoMemory>
+    ensures moves { Leads course.old (begins (items.Turn test body turns)) course.new result }
+    ensures held { course.new.held ≡ course.old.held }
+{
+    if turns == 0 {
+        return Ok(Next::Piece(Item::Turn { test, body, turns }));
+    }
+    match value_in_statement(alloc, course, &test)? {
+        None => Ok(Next::Piece(Item::Turn { test, body, turns })),
+        Some((value, units)) => {
+            if is_listed(&value) {
+                return Ok(Next::Piece(Item::Turn { test, body, turns }));
+            }
+            if !afford(&mut course.purse, units) {
+                return Ok(Next::Piece(Item::Turn { test, body, turns }));
+            }
+            if !truth(&value) {
+                return Ok(Next::Wanted(Want::Go(Flow::Went(Value::Nothing))));
+            }
+            let stmts = body.share()?;
+            let turns = turns - 1;
+            course.work.push(Frame::Loop { test, body, turns })?;
+            block(alloc, course, stmts, 0)
+        }
+    }
+}

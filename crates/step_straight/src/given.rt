@@ -1,0 +1,21 @@
+//! What an expression comes to.
+use base_owners::Shared;
+use py_frames::Frame;
+use py_syntax::Expr;
+use py_value::{Raised, Value};
+
+/// What an expression came to at once.
+#[derive(Drop)]
+pub enum Given {
+    Value(Value),
+    Raised(Raised),
+    /// An operand whose value is not at hand, for which the frame waits.
+    Waits(Shared<Expr>, Frame),
+}
+
+/// What an expression came to, and the units that it paid on the way.
+#[derive(Drop)]
+pub struct Priced {
+    pub given: Given,
+    pub units: u64,
+}

@@ -1,0 +1,11 @@
+//! What an expression comes to at once, where its operands are at hand: literals and local variables, and operators on
+//! them. Nothing is asked of the machine on the way, and what is to be paid is told in one sum.
+#![tactic(auto)]
+
+mod atoms;
+mod given;
+mod operators;
+mod straight;
+
+pub use given::{Given, Priced};
+pub use straight::at_once;
