@@ -9,7 +9,7 @@ use base_types::NoMemory;
 use drive_account::pay_reply;
 use drive_port::Halt;
 use drive_straight::{
-    Course, Next, block, evaluate, resume_block, resume_loop, resume_sized, turn,
+    Course, Next, block, evaluate, resume_block, resume_loop, resume_operands, resume_sized, turn,
 };
 use meaning_state::Flow;
 use py_frames::{Frame, Item, Want};
@@ -34,6 +34,7 @@ fn start(alloc: Global, course: &mut Course, item: Item) -> Result<Want, NoMemor
     ensures held { course.new.held ≡ course.old.held }
 {
     match item {
+        Item::Give(flow) => Ok(Want::Go(flow)),
         Item::Eval(expr) => {
             let next = evaluate(alloc, course, expr)?;
             next_want(alloc, course, next)
@@ -66,6 +67,10 @@ fn resume(alloc: Global, course: &mut Course, frame: Frame, flow: Flow) -> Resul
         }
         Frame::Loop { test, body, turns } => {
             let next = resume_loop(alloc, course, test, body, turns, flow)?;
+            next_want(alloc, course, next)
+        }
+        Frame::Operands { form, done } => {
+            let next = resume_operands(alloc, course, form, done, flow)?;
             next_want(alloc, course, next)
         }
         frame => go_on(alloc, frame, flow, &mut course.thread),

@@ -25,7 +25,7 @@ use Rattle.step_shared.proofs.Operands.{unlisted}
 use Rattle.step_shared.proofs.Options.{some_same}
 use Rattle.step_shared.proofs.Places.{order_goes}
 use Rattle.py_frames.specs.Does.{Does, Rest, operands_of_stmt, performs, rest, begins as item_begins}
-use Rattle.py_frames.specs.declared.work.Form.TheVariants.{Statement}
+use Rattle.py_frames.specs.declared.work.Form.TheVariants.{Expression, Statement}
 use Rattle.py_frames.specs.declared.want.Want.{Want}
 use Rattle.py_frames.specs.declared.want.Want.TheVariants as want
 use Rattle.py_frames.specs.declared.work.Frame.{Frame}
@@ -47,11 +47,11 @@ use Rattle.step_expressions.proofs.Layers.{eval_is}
 use Rattle.drive_account.specs.At.{At, MayBeUnread}
 use Rattle.drive_account.specs.declared.purse.Purse.{Purse}
 use Rattle.step_straight.specs.Costs.{Costs, in_all, paying}
-use Rattle.step_straight.specs.Comes.{Comes, given_does}
+use Rattle.step_straight.specs.Comes.{Comes, Resumes, given_does}
 use Rattle.step_straight.specs.declared.given.Given.{Given}
 use Rattle.step_straight.specs.declared.given.Given.TheVariants as given
 use Rattle.step_straight.specs.declared.given.Priced.{Priced}
-use Rattle.drive_straight.specs.Remains.{Affords, Assigns, Did, IsValueOf, Means, Moves, first_operand, goes_on, remains}
+use Rattle.drive_straight.specs.Remains.{Affords, Assigns, Did, IsValueOf, Means, Moves, assigned_at, assigned_name, first_operand, goes_on, remains, target_name}
 use Rattle.drive_straight.specs.declared.course.Course.{Course}
 
 stands_behind : {files : Option Files} {whole : Run} {fuel : ℕ} {mine : List (Event × Reply)} {next : Run} (ns : List ℕ) (b : ℕ) → in_all ns ≤ b
@@ -123,6 +123,25 @@ pub paid_size : (c : Course) (flow : Flow) (v : Value) (units : ℕ) (purse : Pu
     → At files whole fuel mine purse (rest sources c.work c.thread.left (Went v) c.thread.state)
 paid_size c flow v units purse is size affords files whole fuel mine a =
     affords files whole fuel mine _ _ (record { payments = units_of v ∷ []; all = omega (arith, size); same = ap (λ (f : Flow). goes_on frame.Sized f c) is }) a
+
+-- lists of none and of one
+pub none_of : (vs : List Value) → slice_get vs 0 ≡ None → [] ≡ vs
+none_of [] h = refl
+none_of (v ∷ vs) h = absurd (cc h)
+
+pub one_of : (vs : List Value) (x : Value) → slice_get vs 0 ≡ Some x → length vs ≡ 1 → x ∷ [] ≡ vs
+one_of [] x h n = absurd (cc h)
+one_of (v ∷ []) x h n = ap (λ (x : Value). x ∷ []) (sym (some_same h))
+one_of (v ∷ u ∷ vs) x h n = absurd (omega (arith, n))
+
+-- an operator came to what is wanted now
+pub moves_resumed : (c c' : Course) (e : Expr) (vs : List Value) (v : Value) (p : Priced) (w : Want) (purse : Purse) → Affords c.purse purse p.units → Resumes e vs v c.thread p → Means p.given w
+    → c' ≡ record { purse = purse; held = c.held; thread = c.thread; work = c.work }
+    → (files : Option Files) (whole : Run) (fuel : ℕ) (mine : List (Event × Reply)) → At files whole fuel mine c.purse (goes_on (frame.Operands (Expression e) vs) (Went v) c)
+    → At files whole fuel mine c'.purse (remains c' w)
+moves_resumed c c' e vs v p w purse affords resumes means is files whole fuel mine a =
+    rw is (subst (λ (r : Run). At files whole fuel mine purse r) (sym (means sources c.thread.left (rest sources c.work) c.thread.state))
+    (affords files whole fuel mine _ _ (resumes sources (rest sources c.work)) a))
 
 -- ---- assignments
 
@@ -228,7 +247,69 @@ global_asked c c' e x w purse is other affords does same =
     (sym (does.does sources (rest sources (frame.Sized ∷ c.work))))
     (record { payments = 1 ∷ []; all = refl; same = refl })) same
 
+-- a value came to the frame of an assignment to a name: it is bound
+assigns_value : (a : Around) (d : Stmt-F Stmt Branch FuncDef Handler) (x : List ℕ) (v : Value) (s : State) (k : Onward) → assigned_at d ≡ Some x
+    → gathers (map (eval a) (drop 1 (stmt_operands_at {B = Branch} {F = FuncDef} {H = Handler} {S = Stmt} d))) (v ∷ []) (performs_at {B = Branch} {F = FuncDef} {H = Handler} {S = Stmt} a.access d) s k ≡ stores x v s k
+assigns_value a (Stmt-F.Assign target e) x v s k h = to_name (out-Expr target) h
+  where
+    to_name : (t : Expr-F Expr) → target_name t ≡ Some x → gathers (map (eval a) (target_operands_at t)) (v ∷ []) (λ vs. assigns_at a.access t vs) s k ≡ stores x v s k
+    to_name (Expr-F.Name y) h = ap (λ (x : List ℕ). stores x v s k) (some_same h)
+    to_name (Expr-F.Number n) h = absurd (cc h)
+    to_name (Expr-F.Str text) h = absurd (cc h)
+    to_name Expr-F.Nothing h = absurd (cc h)
+    to_name Expr-F.True h = absurd (cc h)
+    to_name Expr-F.False h = absurd (cc h)
+    to_name (Expr-F.Tuple es) h = absurd (cc h)
+    to_name (Expr-F.List es) h = absurd (cc h)
+    to_name (Expr-F.Attribute a x) h = absurd (cc h)
+    to_name (Expr-F.Call f es) h = absurd (cc h)
+    to_name (Expr-F.Subscript a b) h = absurd (cc h)
+    to_name (Expr-F.Negative a) h = absurd (cc h)
+    to_name (Expr-F.Binary o a b) h = absurd (cc h)
+    to_name (Expr-F.Compare o a b) h = absurd (cc h)
+    to_name (Expr-F.Not a) h = absurd (cc h)
+    to_name (Expr-F.And a b) h = absurd (cc h)
+    to_name (Expr-F.Or a b) h = absurd (cc h)
+assigns_value a (Stmt-F.Evaluate e) x v s k h = absurd (cc h)
+assigns_value a (Stmt-F.Augment y o e) x v s k h = absurd (cc h)
+assigns_value a (Stmt-F.Delete target) x v s k h = absurd (cc h)
+assigns_value a Stmt-F.Pass x v s k h = absurd (cc h)
+assigns_value a Stmt-F.Break x v s k h = absurd (cc h)
+assigns_value a Stmt-F.Continue x v s k h = absurd (cc h)
+assigns_value a (Stmt-F.Return o) x v s k h = absurd (cc h)
+assigns_value a (Stmt-F.Raise o) x v s k h = absurd (cc h)
+assigns_value a (Stmt-F.Import items) x v s k h = absurd (cc h)
+assigns_value a (Stmt-F.From dots parts names) x v s k h = absurd (cc h)
+assigns_value a (Stmt-F.If bs otherwise) x v s k h = absurd (cc h)
+assigns_value a (Stmt-F.While test body) x v s k h = absurd (cc h)
+assigns_value a (Stmt-F.Try body hs otherwise last) x v s k h = absurd (cc h)
+assigns_value a (Stmt-F.Def f) x v s k h = absurd (cc h)
+
+assigns_some : (a : Around) (o : Option Stmt) (x : List ℕ) (v : Value) (s : State) (k : Onward) → assigned_name o ≡ Some x
+    → gathers (map (eval a) (drop 1 (operands_of_stmt o))) (v ∷ []) (performs a o) s k ≡ stores x v s k
+assigns_some a None x v s k h = absurd (cc h)
+assigns_some a (Some stmt) x v s k h = assigns_value a (out-Stmt stmt) x v s k h
+
+pub value_stored : (c c' : Course) (stmts : List Stmt) (at : ℕ) (vs : List Value) (x y : List ℕ) (v : Value) (w : Want) (thread : Thread) → vs ≡ [] → assigned_name (slice_get stmts at) ≡ Some x → y ≡ x
+    → Does thread (item_begins (it.Store y v) c.thread) w → c' ≡ record { purse = c.purse; held = c.held; thread = thread; work = c.work }
+    → (files : Option Files) (whole : Run) (fuel : ℕ) (mine : List (Event × Reply)) → At files whole fuel mine c.purse (goes_on (frame.Operands (Statement stmts at) vs) (Went v) c)
+    → At files whole fuel mine c'.purse (remains c' w)
+value_stored c c' stmts at vs x y v w thread none name same does is files whole fuel mine a =
+    rw is (subst (λ (r : Run). At files whole fuel mine c.purse r)
+    (ap (λ (vs : List Value). goes_on (frame.Operands (Statement stmts at) vs) (Went v) c) none
+    ∙ assigns_some (around_at sources c.thread.left) (slice_get stmts at) x v c.thread.state (rest sources c.work c.thread.left) name
+    ∙ ap (λ (x : List ℕ). stores x v c.thread.state (rest sources c.work c.thread.left)) (sym same)
+    ∙ sym (does.does sources (rest sources c.work))) a)
+
 -- ---- turns
+
+-- the unit of a turn is paid, and its test comes
+pub test_comes : (c c' : Course) (test test' : Expr) (body : List Stmt) (n m : ℕ) (purse : Purse) → m ≡ suc n → test' ≡ test → Affords c.purse purse 1
+    → c' ≡ record { purse = purse; held = c.held; thread = c.thread; work = c.work }
+    → Moves c.purse (remains c (want.Then (it.Turn test body m))) c' (want.Both (it.Eval test') (frame.Decide test body n))
+test_comes c c' test test' body n m purse more same affords is =
+    rw (more, same) (moves_paid c c' (it.Turn test body (suc n)) (want.Both (it.Eval test) (frame.Decide test body n)) purse 1 c.thread c.work affords
+    (record { payments = 1 ∷ []; all = refl; same = refl }) is)
 
 decided : (v : Value) (good bad : Piece) → is_listed v ≡ false → decides v good bad ≡ (if is_true v then good else bad)
 decided v good bad plain = unlisted v (λ u. if is_true u then good else bad) plain

@@ -116,3 +116,18 @@ first_operand (Stmt-F.Assign target e) = Some e
 first_operand (Stmt-F.Return e) = e
 first_operand (Stmt-F.Raise e) = e
 first_operand stmt = None
+
+-- the name that a target is; any other target is none
+abbrev pub target_name : Expr-F Expr → Option (List ℕ)
+target_name (Expr-F.Name x) = Some x
+target_name target = None
+
+-- the name to which a statement assigns the value of its only operand
+abbrev pub assigned_at : Stmt-F Stmt Branch FuncDef Handler → Option (List ℕ)
+assigned_at (Stmt-F.Assign target e) = target_name (out-Expr target)
+assigned_at stmt = None
+
+-- the same of a statement that may be missing
+abbrev pub assigned_name : Option Stmt → Option (List ℕ)
+assigned_name None = None
+assigned_name (Some stmt) = assigned_at (out-Stmt stmt)

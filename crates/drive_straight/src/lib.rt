@@ -15,4 +15,4 @@ pub use course::Course;
 pub use expressions::evaluate;
 pub use loops::turn;
 pub use next::Next;
-pub use resuming::{resume_block, resume_loop, resume_sized};
+pub use resuming::{resume_block, resume_loop, resume_operands, resume_sized};

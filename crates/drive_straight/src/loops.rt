@@ -1,5 +1,5 @@
 //! Turns of a loop (Language Reference 8.2).
-ghost use Rattle.std.specs.Prelude.{◌≡◌};
+ghost use Rattle.std.specs.Prelude.{◌≡◌, ◌<◌};
 ghost use Rattle.py_frames.specs.declared.work.Item.TheVariants as items;
 ghost use Rattle.drive_straight.specs.Remains.{Leads, begins};
 
@@ -16,6 +16,25 @@ use py_value::{Value, truth};
 use std::alloc::Global;
 use step_shared::is_listed;
 
+/// A turn whose test has no value at once: its unit is paid, and then the test comes.
+fn begin_test(
+    course: &mut Course,
+    test: Shared<Expr>,
+    body: Shared<Seq<Stmt>>,
+    turns: u64,
+) -> Result<Next, NoMemory>
+    requires some { 0 < turns }
+    ensures moves { Leads course.old (begins (items.Turn test body turns)) course.new result }
+    ensures held { course.new.held ≡ course.old.held }
+{
+    if !afford(&mut course.purse, 1) {
+        return Ok(Next::Piece(Item::Turn { test, body, turns }));
+    }
+    let expr = test.share()?;
+    let turns = turns - 1;
+    Ok(Next::Wanted(Want::Both(Item::Eval(expr), Frame::Decide { test, body, turns })))
+}
+
 /// A turn of a loop that can take so many: its test, and then its block, at once if they can be.
 pub fn turn(
     alloc: Global,
@@ -31,7 +50,7 @@ pub fn turn(
         return Ok(Next::Piece(Item::Turn { test, body, turns }));
     }
     match value_in_statement(alloc, course, &test)? {
-        None => Ok(Next::Piece(Item::Turn { test, body, turns })),
+        None => begin_test(course, test, body, turns),
         Some((value, units)) => {
             if is_listed(&value) {
                 return Ok(Next::Piece(Item::Turn { test, body, turns }));

@@ -9,7 +9,9 @@ use Rattle.value_operators.specs.Arithmetic.{binary}
 use Rattle.py_syntax.specs.declared.expr.BinaryOp.{BinaryOp}
 use Rattle.py_syntax.specs.declared.expr.Comparison.{Comparison}
 use Rattle.py_syntax.specs.declared.expr.Comparison.TheVariants as comparing
-use Rattle.py_syntax.specs.declared.expr.Expr.{Expr, out-Expr}
+use Rattle.py_syntax.specs.declared.expr.Expr.{Expr, out-Expr, out-roll-Expr}
+use Rattle.py_syntax.specs.declared.expr.Expr.TheVariants as tree
+use Rattle.py_syntax.specs.declared.expr.Expr.TheVariants.{rolls-Binary, rolls-Compare}
 use Rattle.py_syntax.specs.declared.expr.Expr.TheOpen.{Expr-F}
 use Rattle.meaning_runs.specs.Runs.{Run}
 use Rattle.meaning_runs.specs.Costs.{pay, units_of}
@@ -17,8 +19,9 @@ use Rattle.meaning_state.specs.declared.thread.State.{State}
 use Rattle.meaning_state.specs.declared.thread.Thread.{Thread}
 use Rattle.meaning_script.specs.Pieces.{Piece, Onward, on_value, gathers, applied_on, gives, sized, all_listed, with_two}
 use Rattle.meaning_script.specs.Operators.{Around, applies_at, compared, compares, compares_in, compares_values, eval, operands_at, operator_of}
-use Rattle.meaning_script.specs.Meaning.{around_at}
-use Rattle.py_frames.specs.Does.{completes}
+use Rattle.meaning_state.specs.declared.flow.Flow.TheVariants.{Went}
+use Rattle.meaning_script.specs.Meaning.{World, around_at}
+use Rattle.py_frames.specs.Does.{Rest, completes, frame_does}
 use Rattle.py_frames.specs.declared.work.Form.TheVariants.{Expression}
 use Rattle.py_frames.specs.declared.work.Frame.TheVariants as frame
 use Rattle.step_shared.specs.Listing.{is_listed, is_listed_at, first_listed}
@@ -26,7 +29,7 @@ use Rattle.step_shared.proofs.Operands.{all_unlisted}
 use Rattle.step_expressions.specs.Forms.{eval_at}
 use Rattle.step_expressions.proofs.Layers.{eval_is}
 use Rattle.step_straight.specs.Costs.{Costs}
-use Rattle.step_straight.specs.Comes.{Comes, Gives, HasBoth, IsOfTwo, Prices}
+use Rattle.step_straight.specs.Comes.{Comes, Gives, HasBoth, HasRight, IsOfTwo, IsRightOf, Prices, Resumes, given_does}
 use Rattle.step_straight.specs.declared.given.Given.TheVariants as given
 use Rattle.step_straight.specs.declared.given.Priced.{Priced}
 use Rattle.step_straight.proofs.Paying.{costs_as, costs_then}
@@ -48,6 +51,13 @@ two_of_binary e a b o is = means_two e a b (Expr-F.Binary o a b) is refl (λ aro
 pub two_of_compare : (e a b : Expr) (o : Comparison) → out-Expr e ≡ Expr-F.Compare o a b → IsOfTwo e a b
 two_of_compare e a b o is = means_two e a b (Expr-F.Compare o a b) is refl (λ around s k. refl)
 
+-- the forms of two operands, of an expression as it was met
+pub binary_form : (e a b : Expr) (o : BinaryOp) → e ≡ tree.Binary o a b → out-Expr e ≡ Expr-F.Binary o a b
+binary_form e a b o is = ap out-Expr (is ∙ sym (rolls-Binary o a b)) ∙ out-roll-Expr (Expr-F.Binary o a b)
+
+pub compare_form : (e a b : Expr) (o : Comparison) → e ≡ tree.Compare o a b → out-Expr e ≡ Expr-F.Compare o a b
+compare_form e a b o is = ap out-Expr (is ∙ sym (rolls-Compare o a b)) ∙ out-roll-Expr (Expr-F.Compare o a b)
+
 -- both have their values
 pub has_both : (e a b : Expr) (s : State) (x y : Value) (m n sum : ℕ) → IsOfTwo e a b → Gives a s x m → Gives b s y n → sum ≡ m + n → is_listed x ≡ false → is_listed y ≡ false
     → HasBoth e s x y sum
@@ -61,6 +71,19 @@ has_both e a b s x y m n sum two left right is plain too = record {
       (right around (on_value k (λ v s. gathers [] (x ∷ v ∷ []) go s k))));
 }
 
+-- the left one is waited for
+pub waits_left : (e a b : Expr) (th : Thread) → IsOfTwo e a b → Comes e th (record { given = given.Waits a (frame.Operands (Expression e) []); units = 0 })
+waits_left e a b th two w next =
+    let around = around_at w th.left in
+    let k = next th.left in
+    record {
+      payments = [];
+      all = refl;
+      same =
+          two.means around th.state k
+          ∙ ap (λ (es : List Expr). eval around a th.state (on_value k (λ v s. gathers (map (eval around) (drop 1 es)) (v ∷ []) (completes around (Expression e)) s k))) (sym two.operands);
+    }
+
 -- the left one has its value, and the right one is waited for
 pub waits_right : (e a b : Expr) (th : Thread) (x : Value) (units : ℕ) → IsOfTwo e a b → Gives a th.state x units
     → Comes e th (record { given = given.Waits b (frame.Operands (Expression e) (x ∷ [])); units = units })
@@ -70,6 +93,46 @@ waits_right e a b th x units two left w next =
     costs_as (two.means around th.state k)
     (ap (λ (es : List Expr). eval around b th.state (on_value k (λ v s. gathers (map (eval around) (drop 2 es)) (x ∷ v ∷ []) (completes around (Expression e)) s k))) (sym two.operands))
     (left around (on_value k (λ v s. gathers (eval around b ∷ []) (v ∷ []) (applied_on (applies_at around (out-Expr e))) s k)))
+
+-- a value came to the frame that gathers the operands, of which it is the left one
+came_left : (e a b : Expr) (th : Thread) (x : Value) (w : World) (next : Rest) → IsOfTwo e a b
+    → frame_does w th.left (frame.Operands (Expression e) []) next (Went x) th.state
+    ≡ eval (around_at w th.left) b th.state (on_value (next th.left) (λ v s. gathers [] (x ∷ v ∷ []) (applied_on (applies_at (around_at w th.left) (out-Expr e))) s (next th.left)))
+came_left e a b th x w next two =
+    ap (λ (es : List Expr). gathers (map (eval (around_at w th.left)) (drop 1 es)) (x ∷ []) (completes (around_at w th.left) (Expression e)) th.state (next th.left)) two.operands
+
+-- and the right one has its value
+pub has_right : (e b : Expr) (th : Thread) (x y : Value) (units : ℕ) → IsRightOf e b → Gives b th.state y units → is_listed x ≡ false → is_listed y ≡ false → HasRight e th [] x x y units
+has_right e b th x y units is gives plain too = record {
+  left = plain;
+  right = too;
+  costs = λ w next. costs_as (came_left e is.left b th x w next is.two) refl (gives (around_at w th.left) _);
+}
+
+-- or is waited for
+pub resumes_waiting : (e b : Expr) (th : Thread) (x : Value) → IsRightOf e b → Resumes e [] x th (record { given = given.Waits b (frame.Operands (Expression e) (x ∷ [])); units = 0 })
+resumes_waiting e b th x is w next =
+    let around = around_at w th.left in
+    let k = next th.left in
+    record {
+      payments = [];
+      all = refl;
+      same =
+          came_left e is.left b th x w next is.two
+          ∙ ap (λ (es : List Expr). eval around b th.state (on_value k (λ v s. gathers (map (eval around) (drop 2 es)) (x ∷ v ∷ []) (completes around (Expression e)) s k))) (sym is.two.operands);
+    }
+
+-- the right one came behind the left one
+pub came_right : (e a b : Expr) (th : Thread) (x y : Value) → IsOfTwo e a b → is_listed x ≡ false → is_listed y ≡ false → HasRight e th (x ∷ []) y x y 0
+came_right e a b th x y two plain too = record {
+  left = plain;
+  right = too;
+  costs = λ w next. record {
+    payments = [];
+    all = refl;
+    same = ap (λ (es : List Expr). gathers (map (eval (around_at w th.left)) (drop 2 es)) (x ∷ y ∷ []) (completes (around_at w th.left) (Expression e)) th.state (next th.left)) two.operands;
+  };
+}
 
 -- ---- the operator
 
@@ -87,16 +150,29 @@ none_first : (x y : Value) → is_listed x ≡ false → is_listed y ≡ false �
 none_first x y left right = rw (left, right) refl
 
 -- an operator of numbers and texts
+-- from the operator on two values on
+operation_costs : (e a b : Expr) (th : Thread) (o : BinaryOp) (x y : Value) (units : ℕ) (given : Applied) (p : Priced) (w : World) (next : Rest) (run : Run) → out-Expr e ≡ Expr-F.Binary o a b
+    → is_listed x ≡ false → is_listed y ≡ false → given ≡ binary (operator_of o) x y → Prices given units p
+    → Costs units run (applied_on (applies_at (around_at w th.left) (out-Expr e)) (x ∷ y ∷ []) th.state (next th.left))
+    → Costs p.units run (given_does w th.left p.given next th.state)
+operation_costs e a b th o x y units given p w next run is left right gave prices costs =
+    let around = around_at w th.left in
+    let k = next th.left in
+    prices w th.left next th.state run (costs_as refl
+    (ap (λ (d : Expr-F Expr). pay 1 (applies_at around d (x ∷ y ∷ []) th.state (sized k))) is
+    ∙ ap (λ (q : Piece). pay 1 (q th.state (sized k))) (all_unlisted (x ∷ y ∷ []) (λ vs. with_two vs (λ x y. gives (binary (operator_of o) x y))) (none_first x y left right))
+    ∙ ap (λ (a : Applied). pay 1 (gives a th.state (sized k))) (sym gave))
+    costs)
+
 pub comes_operation : (e a b : Expr) (th : Thread) (o : BinaryOp) (x y : Value) (units : ℕ) (given : Applied) (p : Priced) → out-Expr e ≡ Expr-F.Binary o a b → HasBoth e th.state x y units
     → given ≡ binary (operator_of o) x y → Prices given units p → Comes e th p
 comes_operation e a b th o x y units given p is both gave prices w next =
-    let around = around_at w th.left in
-    let k = next th.left in
-    prices w th.left next th.state _ (costs_as refl
-    (ap (λ (d : Expr-F Expr). pay 1 (applies_at around d (x ∷ y ∷ []) th.state (sized k))) is
-    ∙ ap (λ (q : Piece). pay 1 (q th.state (sized k))) (all_unlisted (x ∷ y ∷ []) (λ vs. with_two vs (λ x y. gives (binary (operator_of o) x y))) (none_first x y both.left both.right))
-    ∙ ap (λ (a : Applied). pay 1 (gives a th.state (sized k))) (sym gave))
-    (both.costs around k))
+    operation_costs e a b th o x y units given p w next _ is both.left both.right gave prices (both.costs (around_at w th.left) (next th.left))
+
+pub resumes_operation : (e a b : Expr) (th : Thread) (o : BinaryOp) (vs : List Value) (v x y : Value) (units : ℕ) (given : Applied) (p : Priced) → out-Expr e ≡ Expr-F.Binary o a b → HasRight e th vs v x y units
+    → given ≡ binary (operator_of o) x y → Prices given units p → Resumes e vs v th p
+resumes_operation e a b th o vs v x y units given p is has gave prices w next =
+    operation_costs e a b th o x y units given p w next _ is has.left has.right gave prices (has.costs w next)
 
 -- a comparison that is asked of no machine
 in_values : (c : Comparison) (negated : Bool) (d : Value-F Value) (x y : Value) → is_listed_at d ≡ false → compares_in c negated d x y ≡ compares_values c x y
@@ -111,16 +187,28 @@ compares_plain comparing.In x y left right = in_values comparing.In false (out-V
 compares_plain comparing.NotIn x y left right = in_values comparing.NotIn true (out-Value y) x y right ∙ values_plain comparing.NotIn x y left right
 compares_plain c x y left right = values_plain c x y left right
 
+comparison_costs : (e a b : Expr) (th : Thread) (c : Comparison) (x y : Value) (units : ℕ) (given : Applied) (p : Priced) (w : World) (next : Rest) (run : Run) → out-Expr e ≡ Expr-F.Compare c a b
+    → is_listed x ≡ false → is_listed y ≡ false → given ≡ compared c x y → Prices given units p
+    → Costs units run (applied_on (applies_at (around_at w th.left) (out-Expr e)) (x ∷ y ∷ []) th.state (next th.left))
+    → Costs p.units run (given_does w th.left p.given next th.state)
+comparison_costs e a b th c x y units given p w next run is left right gave prices costs =
+    let around = around_at w th.left in
+    let k = next th.left in
+    prices w th.left next th.state run (costs_as refl
+    (ap (λ (d : Expr-F Expr). pay 1 (applies_at around d (x ∷ y ∷ []) th.state (sized k))) is
+    ∙ ap (λ (q : Piece). pay 1 (q th.state (sized k))) (compares_plain c x y left right)
+    ∙ ap (λ (a : Applied). pay 1 (gives a th.state (sized k))) (sym gave))
+    costs)
+
 pub comes_comparison : (e a b : Expr) (th : Thread) (c : Comparison) (x y : Value) (units : ℕ) (given : Applied) (p : Priced) → out-Expr e ≡ Expr-F.Compare c a b → HasBoth e th.state x y units
     → given ≡ compared c x y → Prices given units p → Comes e th p
 comes_comparison e a b th c x y units given p is both gave prices w next =
-    let around = around_at w th.left in
-    let k = next th.left in
-    prices w th.left next th.state _ (costs_as refl
-    (ap (λ (d : Expr-F Expr). pay 1 (applies_at around d (x ∷ y ∷ []) th.state (sized k))) is
-    ∙ ap (λ (q : Piece). pay 1 (q th.state (sized k))) (compares_plain c x y both.left both.right)
-    ∙ ap (λ (a : Applied). pay 1 (gives a th.state (sized k))) (sym gave))
-    (both.costs around k))
+    comparison_costs e a b th c x y units given p w next _ is both.left both.right gave prices (both.costs (around_at w th.left) (next th.left))
+
+pub resumes_comparison : (e a b : Expr) (th : Thread) (c : Comparison) (vs : List Value) (v x y : Value) (units : ℕ) (given : Applied) (p : Priced) → out-Expr e ≡ Expr-F.Compare c a b → HasRight e th vs v x y units
+    → given ≡ compared c x y → Prices given units p → Resumes e vs v th p
+resumes_comparison e a b th c vs v x y units given p is has gave prices w next =
+    comparison_costs e a b th c x y units given p w next _ is has.left has.right gave prices (has.costs w next)
 
 -- of what was priced, if anything was
 pub if_priced : {P Q : Priced → Type 0} (o : Option Priced) → ((p : Priced) → P p → Q p) → IfSome o P → IfSome o Q

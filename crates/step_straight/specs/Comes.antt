@@ -11,8 +11,10 @@ use Rattle.meaning_state.specs.declared.thread.Thread.{Thread}
 use Rattle.meaning_script.specs.Names.{Access}
 use Rattle.meaning_script.specs.Operators.{Around, applies_at, atom_at, eval, operands_at}
 use Rattle.meaning_script.specs.Pieces.{Onward, applied_on, gathers, gives, pay, sized}
-use Rattle.meaning_script.specs.Meaning.{World}
+use Rattle.meaning_script.specs.Meaning.{World, around_at}
 use Rattle.py_frames.specs.Does.{Rest, frame_does, item_does}
+use Rattle.py_frames.specs.declared.work.Form.TheVariants.{Expression}
+use Rattle.py_frames.specs.declared.work.Frame.TheVariants as frame
 use Rattle.py_frames.specs.declared.work.Item.TheVariants as it
 use Rattle.step_shared.specs.Listing.{is_listed}
 use Rattle.step_expressions.specs.Forms.{is_atom}
@@ -22,6 +24,8 @@ use Rattle.step_straight.specs.declared.given.Given.TheVariants as given
 use Rattle.step_straight.specs.declared.given.Priced.{Priced}
 use Rattle.step_straight.specs.declared.operators.Both.{Both}
 use Rattle.step_straight.specs.declared.operators.Both.TheVariants as both
+use Rattle.step_straight.specs.declared.resuming.Right.{Right}
+use Rattle.step_straight.specs.declared.resuming.Right.TheVariants as right
 
 -- the expression is an atom, and in this state it has this value without an event
 pub record IsAtomOf (e : Expr) (s : State) (v : Value) : Type 0 where
@@ -66,3 +70,27 @@ BothCome e th both.Later = Unit {0}
 abbrev pub Prices : Applied → ℕ → Priced → Type 0
 Prices applied units p = (w : World) (d : ℕ) (next : Rest) (s : State) (run : Run)
     → Costs units run (pay 1 (gives applied s (sized (next d)))) → Costs p.units run (given_does w d p.given next s)
+
+-- the expression has two operands, of which this is the right one
+pub record IsRightOf (e b : Expr) : Type 0 where
+  pub left : Expr
+  pub two : IsOfTwo e left b
+
+-- a value came to the frame that gathers the operands of an expression, and so the expression came to this for its price
+abbrev pub Resumes : Expr → List Value → Value → Thread → Priced → Type 0
+Resumes e vs v th p = (w : World) (next : Rest)
+    → Costs p.units (frame_does w th.left (frame.Operands (Expression e) vs) next (Went v) th.state) (given_does w th.left p.given next th.state)
+
+-- so many units are paid behind a value that came to that frame, and what comes next is the operator on both values, of
+-- which neither is one that a list comes for
+pub record HasRight (e : Expr) (th : Thread) (vs : List Value) (v x y : Value) (units : ℕ) : Type 0 where
+  pub left : is_listed x ≡ false
+  pub right : is_listed y ≡ false
+  pub costs : (w : World) (next : Rest) → Costs units (frame_does w th.left (frame.Operands (Expression e) vs) next (Went v) th.state)
+      (applied_on (applies_at (around_at w th.left) (out-Expr e)) (x ∷ y ∷ []) th.state (next th.left))
+
+-- what the right operand came to, behind the value of the left one
+abbrev pub RightComes : Expr → Thread → Value → Right → Type 0
+RightComes e th x (right.Value b) = HasRight e th [] x x b.value b.units
+RightComes e th x (right.Waits p) = Resumes e [] x th p
+RightComes e th x right.Later = Unit {0}

@@ -5,7 +5,9 @@
 mod atoms;
 mod given;
 mod operators;
+mod resuming;
 mod straight;
 
 pub use given::{Given, Priced};
+pub use resuming::{with_left, with_right};
 pub use straight::at_once;

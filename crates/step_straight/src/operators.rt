@@ -25,14 +25,26 @@ use value_operators::binary;
 pub enum Both {
     /// Their values, and what is paid for them.
     Values(Value, Value, u64),
-    /// The right one is not at hand.
+    /// One is not at hand.
     Waits(Priced),
-    /// The left one is not, or there is none that counts as it stands.
+    /// They are to be taken piece by piece.
     Later,
 }
 
+/// The left operand is waited for.
+fn wait_left(alloc: Global, expr: &Shared<Expr>, left: &Shared<Expr>) -> Result<Given, NoMemory>
+    ensures { IfOk result (λ given. given
+        ≡ givens.Waits left.now (frames.Operands (Expression expr.now) [])) }
+{
+    let frame = Frame::Operands {
+        form: Form::Expression(expr.share()?),
+        done: Seq::new(alloc),
+    };
+    Ok(Given::Waits(left.share()?, frame))
+}
+
 /// The right operand is waited for, behind the value of the left one.
-fn wait(
+pub fn wait(
     alloc: Global,
     expr: &Shared<Expr>,
     left: Value,
@@ -51,7 +63,7 @@ fn wait(
 }
 
 /// The operands of an expression, from left to right.
-#[tactic(auto, using(crate::proofs::OperatorCosts::has_both, crate::proofs::OperatorCosts::waits_right))]
+#[tactic(auto, using(crate::proofs::OperatorCosts::has_both, crate::proofs::OperatorCosts::waits_left, crate::proofs::OperatorCosts::waits_right))]
 fn gather(
     alloc: Global,
     thread: &Thread,
@@ -63,7 +75,10 @@ fn gather(
     ensures { IfOk result (λ both. BothCome expr.now thread.now both) }
 {
     let x = match atom(alloc, thread, a.get())? {
-        None => return Ok(Both::Later),
+        None => {
+            let given = wait_left(alloc, expr, a)?;
+            return Ok(Both::Waits(Priced { given, units: 0 }));
+        }
         Some(x) => x,
     };
     let y = match atom(alloc, thread, b.get())? {
@@ -86,7 +101,7 @@ fn gather(
 /// What an operator gave behind so many units, with its own unit and the size of its value. None where the sum does not
 /// fit.
 #[tactic(auto, using(crate::proofs::OperatorCosts::prices_value, crate::proofs::OperatorCosts::prices_error))]
-fn price(applied: Applied, before: u64) -> Option<Priced>
+pub fn price(applied: Applied, before: u64) -> Option<Priced>
     ensures { IfSome result (λ priced. Prices applied before priced) }
 {
     let units = before.checked_add(1)?;

@@ -17,3 +17,8 @@ pub returns-in_ok-next-in-Loop-clause-moves : goal.returns-in_ok-next-in-Loop-cl
 returns-in_ok-next-in-Loop-clause-moves c =
     rw c.in-Loop.is (next_wanted c.args.course.now c.resume_loop.new.course c.next_want-in-Loop.new.course (goes_on (frame.Loop c.in-Loop.test c.in-Loop.body c.in-Loop.turns) c.args.flow) c.in_ok-next-in-Loop.next c.next_want-in-Loop.result
     c.in_ok-next-in-Loop.ensures.moves c.next_want-in-Loop.ensures.moves)
+
+pub returns-in_ok-next-in-Operands-clause-moves : goal.returns-in_ok-next-in-Operands-clause-moves
+returns-in_ok-next-in-Operands-clause-moves c =
+    rw c.in-Operands.is (next_wanted c.args.course.now c.resume_operands.new.course c.next_want-in-Operands.new.course (goes_on (frame.Operands c.in-Operands.form c.in-Operands.done) c.args.flow) c.in_ok-next-in-Operands.next c.next_want-in-Operands.result
+    c.in_ok-next-in-Operands.ensures.moves c.next_want-in-Operands.ensures.moves)
