@@ -51,7 +51,7 @@ use Rattle.step_straight.specs.Comes.{Comes, Resumes, given_does}
 use Rattle.step_straight.specs.declared.given.Given.{Given}
 use Rattle.step_straight.specs.declared.given.Given.TheVariants as given
 use Rattle.step_straight.specs.declared.given.Priced.{Priced}
-use Rattle.drive_straight.specs.Remains.{Affords, Assigns, Did, IsValueOf, Means, Moves, assigned_at, assigned_name, first_operand, goes_on, remains, target_name}
+use Rattle.drive_straight.specs.Remains.{Affords, Assigns, Did, IsValueOf, Means, Moves, first_operand, goes_on, remains}
 use Rattle.drive_straight.specs.declared.course.Course.{Course}
 
 stands_behind : {files : Option Files} {whole : Run} {fuel : ℕ} {mine : List (Event × Reply)} {next : Run} (ns : List ℕ) (b : ℕ) → in_all ns ≤ b
@@ -87,10 +87,6 @@ pub moves_given : (c c' : Course) (e : Expr) (p : Priced) (w : Want) (purse : Pu
 moves_given c c' e p w purse affords comes means is =
     moves_paid c c' (it.Eval e) w purse p.units c.thread c.work affords
     (costs_as refl (sym (means sources c.thread.left (rest sources c.work) c.thread.state)) (comes sources (rest sources c.work))) is
-
--- nothing was done
-pub stays : (c c' : Course) (w : Want) → c' ≡ c → Moves c.purse (remains c w) c' w
-stays c c' w is = subst (λ (after : Course). Moves c.purse (remains c w) after w) (sym is) (λ files whole fuel mine a. a)
 
 -- one move behind the other
 pub moves_on : (purse : Purse) (run : Run) (c c' : Course) (w : Want) (next : Run) → Moves purse run c w
@@ -246,60 +242,6 @@ global_asked c c' e x w purse is other affords does same =
     (ap (λ (p : Piece). p s k) (eval_is a e) ∙ ap (λ (t : Expr-F Expr). eval_at a t s k) is ∙ ap (λ (r : Run). pay 1 r) (reads_module s a x (sized k) other))
     (sym (does.does sources (rest sources (frame.Sized ∷ c.work))))
     (record { payments = 1 ∷ []; all = refl; same = refl })) same
-
--- a value came to the frame of an assignment to a name: it is bound
-assigns_value : (a : Around) (d : Stmt-F Stmt Branch FuncDef Handler) (x : List ℕ) (v : Value) (s : State) (k : Onward) → assigned_at d ≡ Some x
-    → gathers (map (eval a) (drop 1 (stmt_operands_at {B = Branch} {F = FuncDef} {H = Handler} {S = Stmt} d))) (v ∷ []) (performs_at {B = Branch} {F = FuncDef} {H = Handler} {S = Stmt} a.access d) s k ≡ stores x v s k
-assigns_value a (Stmt-F.Assign target e) x v s k h = to_name (out-Expr target) h
-  where
-    to_name : (t : Expr-F Expr) → target_name t ≡ Some x → gathers (map (eval a) (target_operands_at t)) (v ∷ []) (λ vs. assigns_at a.access t vs) s k ≡ stores x v s k
-    to_name (Expr-F.Name y) h = ap (λ (x : List ℕ). stores x v s k) (some_same h)
-    to_name (Expr-F.Number n) h = absurd (cc h)
-    to_name (Expr-F.Str text) h = absurd (cc h)
-    to_name Expr-F.Nothing h = absurd (cc h)
-    to_name Expr-F.True h = absurd (cc h)
-    to_name Expr-F.False h = absurd (cc h)
-    to_name (Expr-F.Tuple es) h = absurd (cc h)
-    to_name (Expr-F.List es) h = absurd (cc h)
-    to_name (Expr-F.Attribute a x) h = absurd (cc h)
-    to_name (Expr-F.Call f es) h = absurd (cc h)
-    to_name (Expr-F.Subscript a b) h = absurd (cc h)
-    to_name (Expr-F.Negative a) h = absurd (cc h)
-    to_name (Expr-F.Binary o a b) h = absurd (cc h)
-    to_name (Expr-F.Compare o a b) h = absurd (cc h)
-    to_name (Expr-F.Not a) h = absurd (cc h)
-    to_name (Expr-F.And a b) h = absurd (cc h)
-    to_name (Expr-F.Or a b) h = absurd (cc h)
-assigns_value a (Stmt-F.Evaluate e) x v s k h = absurd (cc h)
-assigns_value a (Stmt-F.Augment y o e) x v s k h = absurd (cc h)
-assigns_value a (Stmt-F.Delete target) x v s k h = absurd (cc h)
-assigns_value a Stmt-F.Pass x v s k h = absurd (cc h)
-assigns_value a Stmt-F.Break x v s k h = absurd (cc h)
-assigns_value a Stmt-F.Continue x v s k h = absurd (cc h)
-assigns_value a (Stmt-F.Return o) x v s k h = absurd (cc h)
-assigns_value a (Stmt-F.Raise o) x v s k h = absurd (cc h)
-assigns_value a (Stmt-F.Import items) x v s k h = absurd (cc h)
-assigns_value a (Stmt-F.From dots parts names) x v s k h = absurd (cc h)
-assigns_value a (Stmt-F.If bs otherwise) x v s k h = absurd (cc h)
-assigns_value a (Stmt-F.While test body) x v s k h = absurd (cc h)
-assigns_value a (Stmt-F.Try body hs otherwise last) x v s k h = absurd (cc h)
-assigns_value a (Stmt-F.Def f) x v s k h = absurd (cc h)
-
-assigns_some : (a : Around) (o : Option Stmt) (x : List ℕ) (v : Value) (s : State) (k : Onward) → assigned_name o ≡ Some x
-    → gathers (map (eval a) (drop 1 (operands_of_stmt o))) (v ∷ []) (performs a o) s k ≡ stores x v s k
-assigns_some a None x v s k h = absurd (cc h)
-assigns_some a (Some stmt) x v s k h = assigns_value a (out-Stmt stmt) x v s k h
-
-pub value_stored : (c c' : Course) (stmts : List Stmt) (at : ℕ) (vs : List Value) (x y : List ℕ) (v : Value) (w : Want) (thread : Thread) → vs ≡ [] → assigned_name (slice_get stmts at) ≡ Some x → y ≡ x
-    → Does thread (item_begins (it.Store y v) c.thread) w → c' ≡ record { purse = c.purse; held = c.held; thread = thread; work = c.work }
-    → (files : Option Files) (whole : Run) (fuel : ℕ) (mine : List (Event × Reply)) → At files whole fuel mine c.purse (goes_on (frame.Operands (Statement stmts at) vs) (Went v) c)
-    → At files whole fuel mine c'.purse (remains c' w)
-value_stored c c' stmts at vs x y v w thread none name same does is files whole fuel mine a =
-    rw is (subst (λ (r : Run). At files whole fuel mine c.purse r)
-    (ap (λ (vs : List Value). goes_on (frame.Operands (Statement stmts at) vs) (Went v) c) none
-    ∙ assigns_some (around_at sources c.thread.left) (slice_get stmts at) x v c.thread.state (rest sources c.work c.thread.left) name
-    ∙ ap (λ (x : List ℕ). stores x v c.thread.state (rest sources c.work c.thread.left)) (sym same)
-    ∙ sym (does.does sources (rest sources c.work))) a)
 
 -- ---- turns
 

@@ -5,7 +5,6 @@ ghost use Rattle.drive_straight.specs.Remains.{Affords};
 use drive_account::Purse;
 
 /// Pays units in one sum, if they are there. Else nothing changes.
-#[tactic(auto, using(crate::proofs::AtOnce::affords))]
 pub fn afford(purse: &mut Purse, units: u64) -> bool
     ensures unpaid { result ≡ false → purse.new ≡ purse.old }
     ensures paid { IsTrue result → Affords purse.old purse.new units }

@@ -19,9 +19,8 @@ use Rattle.meaning_state.specs.declared.thread.State.{State}
 use Rattle.meaning_state.specs.declared.thread.Thread.{Thread}
 use Rattle.meaning_script.specs.Pieces.{Piece, Onward, on_value, gathers, applied_on, gives, sized, all_listed, with_two}
 use Rattle.meaning_script.specs.Operators.{Around, applies_at, compared, compares, compares_in, compares_values, eval, operands_at, operator_of}
-use Rattle.meaning_state.specs.declared.flow.Flow.TheVariants.{Went}
 use Rattle.meaning_script.specs.Meaning.{World, around_at}
-use Rattle.py_frames.specs.Does.{Rest, completes, frame_does}
+use Rattle.py_frames.specs.Does.{Rest, completes}
 use Rattle.py_frames.specs.declared.work.Form.TheVariants.{Expression}
 use Rattle.py_frames.specs.declared.work.Frame.TheVariants as frame
 use Rattle.step_shared.specs.Listing.{is_listed, is_listed_at, first_listed}
@@ -29,7 +28,7 @@ use Rattle.step_shared.proofs.Operands.{all_unlisted}
 use Rattle.step_expressions.specs.Forms.{eval_at}
 use Rattle.step_expressions.proofs.Layers.{eval_is}
 use Rattle.step_straight.specs.Costs.{Costs}
-use Rattle.step_straight.specs.Comes.{Comes, Gives, HasBoth, HasRight, IsOfTwo, IsRightOf, Prices, Resumes, given_does}
+use Rattle.step_straight.specs.Comes.{Comes, Gives, HasBoth, HasRight, IsOfTwo, Prices, Resumes, given_does}
 use Rattle.step_straight.specs.declared.given.Given.TheVariants as given
 use Rattle.step_straight.specs.declared.given.Priced.{Priced}
 use Rattle.step_straight.proofs.Paying.{costs_as, costs_then}
@@ -93,34 +92,6 @@ waits_right e a b th x units two left w next =
     costs_as (two.means around th.state k)
     (ap (λ (es : List Expr). eval around b th.state (on_value k (λ v s. gathers (map (eval around) (drop 2 es)) (x ∷ v ∷ []) (completes around (Expression e)) s k))) (sym two.operands))
     (left around (on_value k (λ v s. gathers (eval around b ∷ []) (v ∷ []) (applied_on (applies_at around (out-Expr e))) s k)))
-
--- a value came to the frame that gathers the operands, of which it is the left one
-came_left : (e a b : Expr) (th : Thread) (x : Value) (w : World) (next : Rest) → IsOfTwo e a b
-    → frame_does w th.left (frame.Operands (Expression e) []) next (Went x) th.state
-    ≡ eval (around_at w th.left) b th.state (on_value (next th.left) (λ v s. gathers [] (x ∷ v ∷ []) (applied_on (applies_at (around_at w th.left) (out-Expr e))) s (next th.left)))
-came_left e a b th x w next two =
-    ap (λ (es : List Expr). gathers (map (eval (around_at w th.left)) (drop 1 es)) (x ∷ []) (completes (around_at w th.left) (Expression e)) th.state (next th.left)) two.operands
-
--- and the right one has its value
-pub has_right : (e b : Expr) (th : Thread) (x y : Value) (units : ℕ) → IsRightOf e b → Gives b th.state y units → is_listed x ≡ false → is_listed y ≡ false → HasRight e th [] x x y units
-has_right e b th x y units is gives plain too = record {
-  left = plain;
-  right = too;
-  costs = λ w next. costs_as (came_left e is.left b th x w next is.two) refl (gives (around_at w th.left) _);
-}
-
--- or is waited for
-pub resumes_waiting : (e b : Expr) (th : Thread) (x : Value) → IsRightOf e b → Resumes e [] x th (record { given = given.Waits b (frame.Operands (Expression e) (x ∷ [])); units = 0 })
-resumes_waiting e b th x is w next =
-    let around = around_at w th.left in
-    let k = next th.left in
-    record {
-      payments = [];
-      all = refl;
-      same =
-          came_left e is.left b th x w next is.two
-          ∙ ap (λ (es : List Expr). eval around b th.state (on_value k (λ v s. gathers (map (eval around) (drop 2 es)) (x ∷ v ∷ []) (completes around (Expression e)) s k))) (sym is.two.operands);
-    }
 
 -- the right one came behind the left one
 pub came_right : (e a b : Expr) (th : Thread) (x y : Value) → IsOfTwo e a b → is_listed x ≡ false → is_listed y ≡ false → HasRight e th (x ∷ []) y x y 0

@@ -63,7 +63,7 @@ pub fn wait(
 }
 
 /// The operands of an expression, from left to right.
-#[tactic(auto, using(crate::proofs::OperatorCosts::has_both, crate::proofs::OperatorCosts::waits_left, crate::proofs::OperatorCosts::waits_right))]
+#[tactic(auto, using(crate::proofs::OperatorCosts::waits_left, crate::proofs::OperatorCosts::waits_right))]
 fn gather(
     alloc: Global,
     thread: &Thread,
@@ -100,7 +100,6 @@ fn gather(
 
 /// What an operator gave behind so many units, with its own unit and the size of its value. None where the sum does not
 /// fit.
-#[tactic(auto, using(crate::proofs::OperatorCosts::prices_value, crate::proofs::OperatorCosts::prices_error))]
 pub fn price(applied: Applied, before: u64) -> Option<Priced>
     ensures { IfSome result (λ priced. Prices applied before priced) }
 {
@@ -121,7 +120,7 @@ pub fn price(applied: Applied, before: u64) -> Option<Priced>
 }
 
 /// `a op b`. None where it is to be done piece by piece.
-#[tactic(auto, using(crate::proofs::OperatorCosts::two_of_binary, crate::proofs::OperatorCosts::comes_operation))]
+#[tactic(auto, using(crate::proofs::OperatorCosts::two_of_binary))]
 pub fn operation(
     alloc: Global,
     thread: &Thread,
@@ -141,7 +140,7 @@ pub fn operation(
 }
 
 /// A comparison. None where it is to be done piece by piece.
-#[tactic(auto, using(crate::proofs::OperatorCosts::two_of_compare, crate::proofs::OperatorCosts::comes_comparison))]
+#[tactic(auto, using(crate::proofs::OperatorCosts::two_of_compare))]
 pub fn comparison(
     alloc: Global,
     thread: &Thread,

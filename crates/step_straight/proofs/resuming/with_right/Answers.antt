@@ -3,7 +3,7 @@ use Rattle.step_straight.proofs.OperatorCosts.{binary_form, came_right, compare_
 use Rattle.step_straight.proofs.resuming.with_right.Goals as goal
 
 pub returns-in_ok-binary-in-Binary : goal.returns-in_ok-binary-in-Binary
-returns-in_ok-binary-in-Binary c = 
+returns-in_ok-binary-in-Binary c =
     let e = c.args.expr.now in
     let a = c.in-Binary.field-1 in
     let b = c.in-Binary.field-2 in
@@ -14,7 +14,7 @@ returns-in_ok-binary-in-Binary c =
     if_priced c.price.result (λ p h. resumes_operation e a b c.args.thread.now c.in-Binary.op (x ∷ []) y x y 0 c.in_ok-binary-in-Binary.field-0 p form both (search rules) h) c.price.ensures
 
 pub returns-in_ok-compared-in-Compare : goal.returns-in_ok-compared-in-Compare
-returns-in_ok-compared-in-Compare c = 
+returns-in_ok-compared-in-Compare c =
     let e = c.args.expr.now in
     let a = c.in-Compare.field-1 in
     let b = c.in-Compare.field-2 in
