@@ -48,7 +48,8 @@ remains c want = want_does sources c.thread.left want (rest sources c.work) c.th
 
 -- whatever script stood at `run` stands at what is wanted
 abbrev pub Moves : Purse → Run → Course → Want → Type 0
-Moves purse run c w = (files : Option Files) (whole : Run) (fuel : ℕ) (mine : List (Event × Reply)) → At files whole fuel mine purse run → At files whole fuel mine c.purse (remains c w)
+Moves purse run c w = (files : Option Files) (whole : Run) (fuel : ℕ) (mine : List (Event × Reply))
+    → At files whole fuel mine purse run → At files whole fuel mine c.purse (remains c w)
 
 -- what there is to do in a state, and then the work that waits
 abbrev pub Due : Type 0
@@ -84,12 +85,14 @@ Affords old new units = (files : Option Files) (whole : Run) (fuel : ℕ) (mine 
 
 -- what is wanted does what an expression came to
 abbrev pub Means : Given → Want → Type 0
-Means given want = (w : World) (d : ℕ) (next : Rest) (s : State) → want_does w d want next s ≡ given_does w d given next s
+Means given want = (w : World) (d : ℕ) (next : Rest) (s : State)
+    → want_does w d want next s ≡ given_does w d given next s
 
 -- behind one unit more the expression has this value, for so many units in all
 abbrev pub IsValueOf : Expr → Course → Value → ℕ → Type 0
 IsValueOf e c v units = (w : World) (next : Rest)
-    → Costs units (pay 1 (want_does w c.thread.left (want.Then (it.Eval e)) next c.thread.state)) (next c.thread.left (Went v) c.thread.state)
+    → Costs units (pay 1 (want_does w c.thread.left (want.Then (it.Eval e)) next c.thread.state))
+    (next c.thread.left (Went v) c.thread.state)
 
 -- an assignment of the expression to the name stands at the place
 pub record Assigns (stmts : List Stmt) (at : ℕ) (x : List ℕ) (e : Expr) : Type 0 where
@@ -106,7 +109,9 @@ place_behind at false = at
 
 -- whatever script stood at the statements from a place on stands behind the first of them, if that was done
 abbrev pub Did : Course → List Stmt → ℕ → Course → Bool → Type 0
-Did old stmts at new is_done = Moves old.purse (remains old (want.Then (it.Block stmts at))) new (want.Then (it.Block stmts (place_behind at is_done)))
+Did old stmts at new is_done =
+    Moves old.purse (remains old (want.Then (it.Block stmts at))) new
+    (want.Then (it.Block stmts (place_behind at is_done)))
 
 -- the first operand of a simple statement that has one and may be begun with it; of `x += e` the name is read first,
 -- and `del` begins with its target

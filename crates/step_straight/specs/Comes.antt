@@ -40,14 +40,16 @@ Gives e s v units = (around : Around) (k : Onward) → Costs units (eval around 
 pub record IsOfTwo (e a b : Expr) : Type 0 where
   pub operands : operands_at (out-Expr e) ≡ a ∷ b ∷ []
   pub means : (around : Around) (s : State) (k : Onward)
-      → eval around e s k ≡ gathers (eval around a ∷ eval around b ∷ []) [] (applied_on (applies_at around (out-Expr e))) s k
+      → eval around e s k
+      ≡ gathers (eval around a ∷ eval around b ∷ []) [] (applied_on (applies_at around (out-Expr e))) s k
 
 -- the operands of the expression have these values, neither of which a list comes for, and so many units are paid for
 -- both; what comes next is the operator
 pub record HasBoth (e : Expr) (s : State) (x y : Value) (units : ℕ) : Type 0 where
   pub left : is_listed x ≡ false
   pub right : is_listed y ≡ false
-  pub costs : (around : Around) (k : Onward) → Costs units (eval around e s k) (applied_on (applies_at around (out-Expr e)) (x ∷ y ∷ []) s k)
+  pub costs : (around : Around) (k : Onward)
+      → Costs units (eval around e s k) (applied_on (applies_at around (out-Expr e)) (x ∷ y ∷ []) s k)
 
 -- what an expression came to, and then `next`: its value, its error, or the value of an operand that is not at hand,
 -- for which a frame waits
@@ -58,7 +60,8 @@ given_does w d (given.Waits e f) next s = item_does w d (it.Eval e) (λ d. frame
 
 -- the expression came to this for its price
 abbrev pub Comes : Expr → Thread → Priced → Type 0
-Comes e th p = (w : World) (next : Rest) → Costs p.units (item_does w th.left (it.Eval e) next th.state) (given_does w th.left p.given next th.state)
+Comes e th p = (w : World) (next : Rest)
+    → Costs p.units (item_does w th.left (it.Eval e) next th.state) (given_does w th.left p.given next th.state)
 
 -- what the operands of an expression came to
 abbrev pub BothCome : Expr → Thread → Both → Type 0
@@ -76,17 +79,19 @@ pub record IsRightOf (e b : Expr) : Type 0 where
   pub left : Expr
   pub two : IsOfTwo e left b
 
--- a value came to the frame that gathers the operands of an expression, and so the expression came to this for its price
+-- a value came to the frame that gathers the operands of an expression, and so that came to this for its price
 abbrev pub Resumes : Expr → List Value → Value → Thread → Priced → Type 0
 Resumes e vs v th p = (w : World) (next : Rest)
-    → Costs p.units (frame_does w th.left (frame.Operands (Expression e) vs) next (Went v) th.state) (given_does w th.left p.given next th.state)
+    → Costs p.units (frame_does w th.left (frame.Operands (Expression e) vs) next (Went v) th.state)
+    (given_does w th.left p.given next th.state)
 
 -- so many units are paid behind a value that came to that frame, and what comes next is the operator on both values, of
 -- which neither is one that a list comes for
 pub record HasRight (e : Expr) (th : Thread) (vs : List Value) (v x y : Value) (units : ℕ) : Type 0 where
   pub left : is_listed x ≡ false
   pub right : is_listed y ≡ false
-  pub costs : (w : World) (next : Rest) → Costs units (frame_does w th.left (frame.Operands (Expression e) vs) next (Went v) th.state)
+  pub costs : (w : World) (next : Rest)
+      → Costs units (frame_does w th.left (frame.Operands (Expression e) vs) next (Went v) th.state)
       (applied_on (applies_at (around_at w th.left) (out-Expr e)) (x ∷ y ∷ []) th.state (next th.left))
 
 -- what the right operand came to, behind the value of the left one
