@@ -18,7 +18,7 @@ ROOT = pathlib.Path(__file__).resolve().parent.parent
 NAME = r"[^\s(){}.,;:◌]+"
 HEAD = re.compile(rf"(?m)^ *(?:(?:abbrev|unfoldable) +)?(?:pub +)?(?:(data|record) +)?({NAME}) *(?=[:({{])")
 TAKES = re.compile(r"(?ms)^ *(?:pub )?(?:ghost )?use ([\w⟦⟧<>.+]+?)(?:\.\{(.*?)\}| as (\w+))?;?$")
-WORD = re.compile(r"(?:[^\s(){}\[\].,;:&*!?<>|]|-\[\])+")
+WORD = re.compile(r"(?:-\[\]|[^\s(){}\[\].,;:&*!?<>|])+")
 FUNCTION = re.compile(r"(?m)^ *pub fn (\w+)")
 
 

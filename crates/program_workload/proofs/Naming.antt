@@ -12,6 +12,9 @@ use Rattle.program_workload.specs.Generator.{Word, script_name, file_of}
 abbrev slash : ℕ → Bool
 slash b = eqb b 47
 
+no_part-[] : IsTrue (is_part []) → ⊥
+no_part-[] h = cc
+
 no_part-dot : IsTrue (is_part (codes ".")) → ⊥
 no_part-dot h = cc
 

@@ -11,6 +11,9 @@ use Rattle.tree_walk.specs.Names.{child_of, child_by}
 abbrev slash : ℕ → Bool
 slash b = eqb b 47
 
+no_part-[] : IsTrue (is_part []) → ⊥
+no_part-[] h = cc
+
 no_part-dot : IsTrue (is_part (codes ".")) → ⊥
 no_part-dot h = cc
 
