@@ -25,7 +25,7 @@ use Rattle.step_shared.proofs.Operands.{unlisted}
 use Rattle.step_shared.proofs.Options.{some_same}
 use Rattle.step_shared.proofs.Places.{order_goes}
 use Rattle.py_frames.specs.Does.{Does, Rest, operands_of_stmt, performs, rest, begins as item_begins}
-use Rattle.py_frames.specs.declared.work.Form.TheVariants.{Expression, Statement}
+use Rattle.py_frames.specs.declared.work.Form.TheVariants.{Statement}
 use Rattle.py_frames.specs.declared.want.Want.{Want}
 use Rattle.py_frames.specs.declared.want.Want.TheVariants as want
 use Rattle.py_frames.specs.declared.work.Frame.{Frame}
@@ -47,11 +47,11 @@ use Rattle.step_expressions.proofs.Layers.{eval_is}
 use Rattle.drive_account.specs.At.{At, MayBeUnread}
 use Rattle.drive_account.specs.declared.purse.Purse.{Purse}
 use Rattle.step_straight.specs.Costs.{Costs, in_all, paying}
-use Rattle.step_straight.specs.Comes.{Comes, Resumes, given_does}
+use Rattle.step_straight.proofs.Paying.{costs_as}
+use Rattle.step_straight.specs.Comes.{Comes, given_does}
 use Rattle.step_straight.specs.declared.given.Given.{Given}
 use Rattle.step_straight.specs.declared.given.Given.TheVariants as given
-use Rattle.step_straight.specs.declared.given.Priced.{Priced}
-use Rattle.drive_straight.specs.Remains.{Affords, Assigns, Did, IsValueOf, Means, Moves, first_operand, goes_on, remains}
+use Rattle.drive_straight.specs.Remains.{Affords, Assigns, Did, IsValueOf, Moves, first_operand, goes_on, remains}
 use Rattle.drive_straight.specs.declared.course.Course.{Course}
 
 stands_behind : {files : Option Files} {whole : Run} {fuel : ℕ} {mine : List (Event × Reply)} {next : Run} (ns : List ℕ) (b : ℕ) → in_all ns ≤ b
@@ -77,16 +77,6 @@ pub moves_paid : (c c' : Course) (item : Item) (w : Want) (purse : Purse) (units
     → c' ≡ record { purse = purse; held = c.held; thread = thread; work = work } → Moves c.purse (remains c (want.Then item)) c' w
 moves_paid c c' item w purse units thread work affords costs is =
     subst (λ (after : Course). Moves c.purse (remains c (want.Then item)) after w) (sym is) (λ files whole fuel mine a. affords files whole fuel mine _ _ costs a)
-
-costs_as : {a b c d : Run} {n : ℕ} → a ≡ b → c ≡ d → Costs n b c → Costs n a d
-costs_as is to h = record { payments = h.payments; all = h.all; same = is ∙ h.same ∙ ap (paying h.payments) to }
-
--- an expression came to what is wanted now
-pub moves_given : (c c' : Course) (e : Expr) (p : Priced) (w : Want) (purse : Purse) → Affords c.purse purse p.units → Comes e c.thread p → Means p.given w
-    → c' ≡ record { purse = purse; held = c.held; thread = c.thread; work = c.work } → Moves c.purse (remains c (want.Then (it.Eval e))) c' w
-moves_given c c' e p w purse affords comes means is =
-    moves_paid c c' (it.Eval e) w purse p.units c.thread c.work affords
-    (costs_as refl (sym (means sources c.thread.left (rest sources c.work) c.thread.state)) (comes sources (rest sources c.work))) is
 
 -- one move behind the other
 pub moves_on : (purse : Purse) (run : Run) (c c' : Course) (w : Want) (next : Run) → Moves purse run c w
@@ -130,15 +120,6 @@ one_of [] x h n = absurd (cc h)
 one_of (v ∷ []) x h n = ap (λ (x : Value). x ∷ []) (sym (some_same h))
 one_of (v ∷ u ∷ vs) x h n = absurd (omega (arith, n))
 
--- an operator came to what is wanted now
-pub moves_resumed : (c c' : Course) (e : Expr) (vs : List Value) (v : Value) (p : Priced) (w : Want) (purse : Purse) → Affords c.purse purse p.units → Resumes e vs v c.thread p → Means p.given w
-    → c' ≡ record { purse = purse; held = c.held; thread = c.thread; work = c.work }
-    → (files : Option Files) (whole : Run) (fuel : ℕ) (mine : List (Event × Reply)) → At files whole fuel mine c.purse (goes_on (frame.Operands (Expression e) vs) (Went v) c)
-    → At files whole fuel mine c'.purse (remains c' w)
-moves_resumed c c' e vs v p w purse affords resumes means is files whole fuel mine a =
-    rw is (subst (λ (r : Run). At files whole fuel mine purse r) (sym (means sources c.thread.left (rest sources c.work) c.thread.state))
-    (affords files whole fuel mine _ _ (resumes sources (rest sources c.work)) a))
-
 -- ---- assignments
 
 runs_assign : (a : Around) (stmt : Stmt) (target e : Expr) → out-Stmt stmt ≡ Stmt-F.Assign target e
@@ -173,7 +154,7 @@ assigned c c' stmts at x e v units purse form local value affords is =
 
 -- ---- statements that are begun with an operand
 
-runs_rolled : (a : Around) (d : Stmt-F Stmt Branch FuncDef Handler) (e : Expr) → first_operand d ≡ Some e
+pub runs_rolled : (a : Around) (d : Stmt-F Stmt Branch FuncDef Handler) (e : Expr) → first_operand d ≡ Some e
     → run a (roll-Stmt d) ≡ (λ s k. pay 1 (gathers (eval a e ∷ map (eval a) (drop 1 (stmt_operands_at {B = Branch} {F = FuncDef} {H = Handler} {S = Stmt} d))) [] (performs_at {B = Branch} {F = FuncDef} {H = Handler} {S = Stmt} a.access d) s k))
 runs_rolled a (Stmt-F.Evaluate e') e h =
     fold-roll-Stmt Piece BranchPiece DefPiece HandlerPiece (stmt_at a) (branch_at a) def_at (handler_at a) (Stmt-F.Evaluate e')
@@ -253,7 +234,7 @@ test_comes c c' test test' body n m purse more same affords is =
     rw (more, same) (moves_paid c c' (it.Turn test body (suc n)) (want.Both (it.Eval test) (frame.Decide test body n)) purse 1 c.thread c.work affords
     (record { payments = 1 ∷ []; all = refl; same = refl }) is)
 
-decided : (v : Value) (good bad : Piece) → is_listed v ≡ false → decides v good bad ≡ (if is_true v then good else bad)
+pub decided : (v : Value) (good bad : Piece) → is_listed v ≡ false → decides v good bad ≡ (if is_true v then good else bad)
 decided v good bad plain = unlisted v (λ u. if is_true u then good else bad) plain
 
 turned : (c : Course) (test : Expr) (body : List Stmt) (n : ℕ) (v : Value) (units : ℕ) → IsValueOf test c v units → is_listed v ≡ false

@@ -1,1 +1,2 @@
 mod AtOnce
+mod Operands

@@ -1,5 +1,5 @@
 -- What remains of a script, and what is done of it in place.
-use Rattle.std.specs.Prelude.{◌≡◌, ℕ, ◌+◌, List, [], Option, Some, None, Bool, true, false, Result, IfOk, slice_get}
+use Rattle.std.specs.Prelude.{◌≡◌, ℕ, ◌+◌, List, [], Option, Some, None, Bool, true, false, not, Result, IfOk, slice_get}
 use Rattle.base_types.specs.declared.no_memory.NoMemory.{NoMemory}
 use Rattle.tree_files.specs.Files.{Files}
 use Rattle.py_value.specs.declared.value.Value.{Value}
@@ -15,7 +15,6 @@ use Rattle.py_syntax.specs.declared.stmt.Stmt.{Stmt, out-Stmt}
 use Rattle.py_syntax.specs.declared.stmt.Stmt.TheOpen.{Stmt-F}
 use Rattle.meaning_state.specs.declared.flow.Flow.{Flow}
 use Rattle.meaning_state.specs.declared.flow.Flow.TheVariants.{Went}
-use Rattle.meaning_state.specs.declared.thread.State.{State}
 use Rattle.meaning_script.specs.Pieces.{pay}
 use Rattle.meaning_script.specs.Meaning.{World, first_state}
 use Rattle.step_calls.specs.Sources.{sources}
@@ -31,6 +30,8 @@ use Rattle.drive_account.specs.declared.purse.Purse.{Purse}
 use Rattle.step_straight.specs.Costs.{Costs}
 use Rattle.step_straight.specs.Comes.{given_does}
 use Rattle.step_straight.specs.declared.given.Given.{Given}
+use Rattle.drive_straight.specs.declared.coming.Use.{Use}
+use Rattle.drive_straight.specs.declared.coming.Use.TheVariants as uses
 use Rattle.drive_straight.specs.declared.course.Course.{Course}
 use Rattle.drive_straight.specs.declared.next.Next.{Next}
 use Rattle.drive_straight.specs.declared.next.Next.TheVariants as next
@@ -69,6 +70,14 @@ due (next.Wanted w) c = remains c w
 due (next.Piece item) c = begins item c
 due (next.Frame f flow) c = goes_on f flow c
 
+-- a value comes to the work that waits
+abbrev pub gives : Value → Due
+gives v c = remains c (want.Go (Went v))
+
+-- what an expression came to, and then the work that waits
+abbrev pub comes : Given → Due
+comes given c = given_does sources c.thread.left given (rest sources c.work) c.thread.state
+
 -- whatever script stood at what was due stands at what comes next
 abbrev pub LeadsTo : Course → Due → Course → Next → Type 0
 LeadsTo old was new next = (files : Option Files) (whole : Run) (fuel : ℕ) (mine : List (Event × Reply))
@@ -83,11 +92,6 @@ abbrev pub Affords : Purse → Purse → ℕ → Type 0
 Affords old new units = (files : Option Files) (whole : Run) (fuel : ℕ) (mine : List (Event × Reply)) (run next : Run)
     → Costs units run next → At files whole fuel mine old run → At files whole fuel mine new next
 
--- what is wanted does what an expression came to
-abbrev pub Means : Given → Want → Type 0
-Means given want = (w : World) (d : ℕ) (next : Rest) (s : State)
-    → want_does w d want next s ≡ given_does w d given next s
-
 -- behind one unit more the expression has this value, for so many units in all
 abbrev pub IsValueOf : Expr → Course → Value → ℕ → Type 0
 IsValueOf e c v units = (w : World) (next : Rest)
@@ -101,6 +105,22 @@ pub record Assigns (stmts : List Stmt) (at : ℕ) (x : List ℕ) (e : Expr) : Ty
   pub target : Expr
   pub form : out-Stmt stmt ≡ Stmt-F.Assign target e
   pub name : out-Expr target ≡ Expr-F.Name x
+
+-- the expression that a statement returns the value of
+abbrev pub returned_of : Stmt-F Stmt Branch FuncDef Handler → Option Expr
+returned_of (Stmt-F.Return e) = e
+returned_of stmt = None
+
+-- the same of a statement that may be missing
+abbrev pub returned_at : Option Stmt → Option Expr
+returned_at None = None
+returned_at (Some stmt) = returned_of (out-Stmt stmt)
+
+-- the statement at the place returns the value of an expression that has it, for so many units in all
+pub record Returns (stmts : List Stmt) (at : ℕ) (c : Course) (v : Value) (units : ℕ) : Type 0 where
+  pub expr : Expr
+  pub there : returned_at (slice_get stmts at) ≡ Some expr
+  pub value : IsValueOf expr c v units
 
 -- the place in a block behind a statement that was done, or of one that was not
 abbrev pub place_behind : ℕ → Bool → ℕ
@@ -122,17 +142,66 @@ first_operand (Stmt-F.Return e) = e
 first_operand (Stmt-F.Raise e) = e
 first_operand stmt = None
 
+-- the same of a statement that may be missing
+abbrev pub operand_at : Option Stmt → Option Expr
+operand_at None = None
+operand_at (Some stmt) = first_operand (out-Stmt stmt)
+
 -- the name that a target is; any other target is none
 abbrev pub target_name : Expr-F Expr → Option (List ℕ)
 target_name (Expr-F.Name x) = Some x
 target_name target = None
 
--- the name to which a statement assigns the value of its only operand
-abbrev pub assigned_at : Stmt-F Stmt Branch FuncDef Handler → Option (List ℕ)
-assigned_at (Stmt-F.Assign target e) = target_name (out-Expr target)
-assigned_at stmt = None
+-- what a statement does that binds a value to a target
+abbrev pub binding : Option (List ℕ) → Use
+binding (Some x) = uses.Bind x
+binding None = uses.Other
+
+-- what a statement does with the value of its only operand
+abbrev pub use_of : Stmt-F Stmt Branch FuncDef Handler → Use
+use_of (Stmt-F.Assign target e) = binding (target_name (out-Expr target))
+use_of (Stmt-F.Evaluate e) = uses.Discard
+use_of (Stmt-F.Return e) = uses.Return
+use_of (Stmt-F.Raise e) = uses.Raise
+use_of stmt = uses.Other
 
 -- the same of a statement that may be missing
-abbrev pub assigned_name : Option Stmt → Option (List ℕ)
-assigned_name None = None
-assigned_name (Some stmt) = assigned_at (out-Stmt stmt)
+abbrev pub use_at : Option Stmt → Use
+use_at None = uses.Other
+use_at (Some stmt) = use_of (out-Stmt stmt)
+
+-- a `while`, which pays before each test instead of when it begins, and a `def`
+abbrev pub is_left_at : Stmt-F Stmt Branch FuncDef Handler → Bool
+is_left_at (Stmt-F.While test body) = true
+is_left_at (Stmt-F.Def f) = true
+is_left_at stmt = false
+
+-- the same of a statement that may be missing
+abbrev pub is_left : Option Stmt → Bool
+is_left None = false
+is_left (Some stmt) = is_left_at (out-Stmt stmt)
+
+-- an `if` with these branches and this block behind `else` stands at the place
+pub record IsIf (stmts : List Stmt) (at : ℕ) (bs : List Branch) (otherwise : List Stmt) : Type 0 where
+  pub stmt : Stmt
+  pub there : slice_get stmts at ≡ Some stmt
+  pub form : out-Stmt stmt ≡ Stmt-F.If bs otherwise
+
+-- the form `object.name`
+abbrev pub is_attribute : Expr-F Expr → Bool
+is_attribute (Expr-F.Attribute object x) = true
+is_attribute form = false
+
+-- an expression begins with its first operand; but a call of an attribute begins with the object of that, and `and` and
+-- `or` may leave out an operand
+abbrev pub is_operated : Expr-F Expr → Bool
+is_operated (Expr-F.Call callee es) = not (is_attribute (out-Expr callee))
+is_operated (Expr-F.Tuple es) = true
+is_operated (Expr-F.List es) = true
+is_operated (Expr-F.Attribute object x) = true
+is_operated (Expr-F.Subscript object index) = true
+is_operated (Expr-F.Negative a) = true
+is_operated (Expr-F.Not a) = true
+is_operated (Expr-F.Binary o a b) = true
+is_operated (Expr-F.Compare c a b) = true
+is_operated form = false

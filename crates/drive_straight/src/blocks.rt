@@ -1,16 +1,19 @@
 //! Statements of a block.
-ghost use Rattle.std.specs.Prelude.{◌≡◌, ◌<◌, IfOk, IfSome, length};
+ghost use Rattle.std.specs.Prelude.{◌≡◌, ◌<◌, IfOk, IfSome, Some, length, slice_get};
 ghost use Rattle.std.specs.Option.{option_copied};
 ghost use Rattle.py_syntax.specs.declared.stmt.Stmt.{out-Stmt};
 ghost use Rattle.py_frames.specs.declared.work.Item.TheVariants as items;
-ghost use Rattle.drive_straight.specs.Remains.{Assigns, Did, IsValueOf, Leads, begins, first_operand};
+ghost use Rattle.drive_straight.specs.Remains.{Assigns, Did, IsValueOf, Leads, LeadsTo, Returns, begins};
+ghost use Rattle.drive_straight.specs.Remains.{first_operand, operand_at, returned_at, returned_of};
 
+use crate::choices::begin_other;
 use crate::course::Course;
+use crate::expressions::evaluate;
 use crate::next::Next;
 use crate::paying::afford;
 use base_owners::Shared;
 use base_types::{Exact, NoMemory, Seq, Text};
-use meaning_state::Flow;
+use meaning_state::{Flow, Leave};
 use py_frames::{Form, Frame, Item, Want};
 use py_syntax::{Expr, Stmt};
 use py_value::Value;
@@ -101,25 +104,20 @@ fn first_operand(stmt: &Stmt) -> Option<&Shared<Expr>>
     }
 }
 
-/// The statements of a block from a place on: the first operand of the first one, if that is a simple statement, whose
-/// unit is paid.
+/// The statements of a block from a place on: the first one is a simple statement with this operand, whose unit is
+/// paid.
 fn begin_operands(
     alloc: Global,
     course: &mut Course,
     stmts: Shared<Seq<Stmt>>,
     at: usize,
+    operand: Shared<Expr>,
 ) -> Result<Next, NoMemory>
     requires within { at < length stmts }
+    requires first { operand_at (slice_get stmts at) ≡ Some operand }
     ensures moves { Leads course.old (begins (items.Block stmts at)) course.new result }
     ensures held { course.new.held ≡ course.old.held }
 {
-    let operand = match stmts.get().get(at) {
-        None => return Ok(Next::Piece(Item::Block { stmts, at })),
-        Some(stmt) => match first_operand(stmt) {
-            None => return Ok(Next::Piece(Item::Block { stmts, at })),
-            Some(operand) => operand.share()?,
-        },
-    };
     if !afford(&mut course.purse, 1) {
         return Ok(Next::Piece(Item::Block { stmts, at }));
     }
@@ -134,7 +132,101 @@ fn begin_operands(
         form: Form::Statement(stmts, at),
         done: Seq::new(alloc),
     };
-    Ok(Next::Wanted(Want::Both(Item::Eval(operand), operands)))
+    course.work.push(operands)?;
+    evaluate(alloc, course, operand)
+}
+
+/// The first operand of the statement at a place.
+fn operand_at(stmts: &Seq<Stmt>, at: usize) -> Result<Option<Shared<Expr>>, NoMemory>
+    ensures { IfOk result (λ operand. operand ≡ operand_at (slice_get stmts.now at)) }
+{
+    match stmts.get(at) {
+        None => Ok(None),
+        Some(stmt) => match first_operand(stmt) {
+            None => Ok(None),
+            Some(operand) => Ok(Some(operand.share()?)),
+        },
+    }
+}
+
+/// The expression that a statement returns the value of.
+fn returned_of(stmt: &Stmt) -> Option<&Shared<Expr>>
+    ensures { option_copied result ≡ returned_of (out-Stmt stmt.now) }
+{
+    match stmt {
+        Stmt::Return(expr) => match expr {
+            None => None,
+            Some(expr) => Some(expr),
+        },
+        _ => None,
+    }
+}
+
+/// The expression that the statement at a place returns the value of.
+fn returned_at(stmts: &Seq<Stmt>, at: usize) -> Option<&Shared<Expr>>
+    ensures { option_copied result ≡ returned_at (slice_get stmts.now at) }
+{
+    match stmts.get(at) {
+        None => None,
+        Some(stmt) => returned_of(stmt),
+    }
+}
+
+/// The value that the statement at a place returns, if that is what it does and the value is at hand, and the units of
+/// the statement.
+fn returned(
+    alloc: Global,
+    course: &Course,
+    stmts: &Seq<Stmt>,
+    at: usize,
+) -> Result<Option<(Value, u64)>, NoMemory>
+    ensures { IfOk result (λ found. IfSome found (λ p. Returns stmts.now at course.now p.0 p.1)) }
+{
+    match returned_at(stmts, at) {
+        None => Ok(None),
+        Some(expr) => match value_in_statement(alloc, course, expr)? {
+            None => Ok(None),
+            Some((value, units)) => Ok(Some((value, units))),
+        },
+    }
+}
+
+/// The statements of a block from a place on: the first one returns a value.
+fn leave_block(
+    course: &mut Course,
+    stmts: Shared<Seq<Stmt>>,
+    at: usize,
+    value: Value,
+    units: u64,
+) -> Next
+    requires returned { Returns stmts at course.old value units }
+    ensures moves { LeadsTo course.old (begins (items.Block stmts at)) course.new result }
+    ensures held { course.new.held ≡ course.old.held }
+{
+    if !afford(&mut course.purse, units) {
+        return Next::Piece(Item::Block { stmts, at });
+    }
+    Next::Wanted(Want::Go(Flow::Left(Leave::Return(value))))
+}
+
+/// The statements of a block from a place on: the first one begins, at once if it can.
+fn begin_statement(
+    alloc: Global,
+    course: &mut Course,
+    stmts: Shared<Seq<Stmt>>,
+    at: usize,
+) -> Result<Next, NoMemory>
+    requires within { at < length stmts }
+    ensures moves { Leads course.old (begins (items.Block stmts at)) course.new result }
+    ensures held { course.new.held ≡ course.old.held }
+{
+    if let Some((value, units)) = returned(alloc, course, stmts.get(), at)? {
+        return Ok(leave_block(course, stmts, at, value, units));
+    }
+    match operand_at(stmts.get(), at)? {
+        None => begin_other(course, stmts, at),
+        Some(operand) => begin_operands(alloc, course, stmts, at, operand),
+    }
 }
 
 /// The statements of a block from a place on, for as long as they can be done at once.
@@ -150,7 +242,7 @@ pub fn block(
     let mut at = first;
     'statements: while at < stmts.get().len() {
         if !statement(alloc, course, &stmts, at)? {
-            return begin_operands(alloc, course, stmts, at);
+            return begin_statement(alloc, course, stmts, at);
         }
         at += 1;
     }

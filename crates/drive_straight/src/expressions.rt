@@ -1,36 +1,53 @@
 //! Expressions.
 ghost use Rattle.std.specs.Prelude.{◌≡◌};
+ghost use Rattle.py_syntax.specs.declared.expr.Expr.{out-Expr};
 ghost use Rattle.py_frames.specs.declared.work.Item.TheVariants as items;
-ghost use Rattle.drive_straight.specs.Remains.{Leads, begins};
+ghost use Rattle.drive_straight.specs.Remains.{Leads, begins, is_attribute, is_operated};
 
+use crate::coming::come;
 use crate::course::Course;
-use crate::next::{Next, wanted};
+use crate::gathering::gather;
+use crate::names::ask;
+use crate::next::Next;
 use crate::paying::afford;
 use base_owners::Shared;
-use base_types::{Exact, NoMemory};
-use py_frames::{Frame, Item};
+use base_types::{NoMemory, Seq};
+use py_frames::Item;
 use py_syntax::Expr;
 use std::alloc::Global;
-use step_names::{is_local_name, read_global};
 use step_straight::{Priced, at_once};
 
-/// An expression that has no value at once. A name that is not local is read of the module, and its unit is paid.
-fn ask(course: &mut Course, expr: Shared<Expr>) -> Result<Next, NoMemory>
+fn is_attribute(expr: &Expr) -> bool
+    ensures { result ≡ is_attribute (out-Expr expr.now) }
+{
+    match expr {
+        Expr::Attribute(_, _) => true,
+        _ => false,
+    }
+}
+
+/// Whether an expression begins with its first operand. A call of an attribute begins with the object of that, and
+/// `and` and `or` may leave out an operand.
+fn is_operated(expr: &Expr) -> bool
+    ensures { result ≡ is_operated (out-Expr expr.now) }
+{
+    match expr {
+        Expr::Call(callee, _) => !is_attribute(callee.get()),
+        Expr::Tuple(_) | Expr::List(_) | Expr::Attribute(_, _) | Expr::Subscript(_, _) => true,
+        Expr::Negative(_) | Expr::Not(_) | Expr::Binary(_, _, _) | Expr::Compare(_, _, _) => true,
+        _ => false,
+    }
+}
+
+/// An expression that has no value at once: its operands come, or the name is asked for.
+fn begin(alloc: Global, course: &mut Course, expr: Shared<Expr>) -> Result<Next, NoMemory>
     ensures moves { Leads course.old (begins (items.Eval expr)) course.new result }
     ensures held { course.new.held ≡ course.old.held }
 {
-    let name = match expr.get() {
-        Expr::Name(name) => name.copy()?,
-        _ => return Ok(Next::Piece(Item::Eval(expr))),
-    };
-    if is_local_name(&course.thread, &name) {
-        return Ok(Next::Piece(Item::Eval(expr)));
+    if is_operated(expr.get()) {
+        return gather(alloc, course, expr, Seq::new(alloc));
     }
-    if !afford(&mut course.purse, 1) {
-        return Ok(Next::Piece(Item::Eval(expr)));
-    }
-    course.work.push(Frame::Sized)?;
-    Ok(Next::Wanted(read_global(&course.thread, name)?))
+    ask(course, expr)
 }
 
 /// An expression, at once if it can be.
@@ -39,12 +56,12 @@ pub fn evaluate(alloc: Global, course: &mut Course, expr: Shared<Expr>) -> Resul
     ensures held { course.new.held ≡ course.old.held }
 {
     match at_once(alloc, &course.thread, &expr)? {
-        None => ask(course, expr),
+        None => begin(alloc, course, expr),
         Some(Priced { given, units }) => {
             if !afford(&mut course.purse, units) {
                 return Ok(Next::Piece(Item::Eval(expr)));
             }
-            Ok(Next::Wanted(wanted(given)))
+            come(course, given)
         }
     }
 }

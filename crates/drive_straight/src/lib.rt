@@ -1,11 +1,17 @@
 //! What a script keeps while it runs, and what it does at once, in place, where nothing is asked of the machine or the
-//! tree: expressions, assignments to local variables, branches and turns of loops. All else is begun piece by piece.
+//! tree: expressions with their operands, assignments to local variables, `return`, tests and turns of loops. All else
+//! is begun piece by piece.
 #![tactic(auto)]
 
 mod blocks;
+mod choices;
+mod coming;
 mod course;
+mod deciding;
 mod expressions;
+mod gathering;
 mod loops;
+mod names;
 mod next;
 mod paying;
 mod resuming;
@@ -15,4 +21,4 @@ pub use course::Course;
 pub use expressions::evaluate;
 pub use loops::turn;
 pub use next::Next;
-pub use resuming::{resume_block, resume_loop, resume_operands, resume_sized};
+pub use resuming::{resume_block, resume_decide, resume_loop, resume_operands, resume_sized};

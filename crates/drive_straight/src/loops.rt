@@ -5,6 +5,7 @@ ghost use Rattle.drive_straight.specs.Remains.{Leads, begins};
 
 use crate::blocks::{block, value_in_statement};
 use crate::course::Course;
+use crate::expressions::evaluate;
 use crate::next::Next;
 use crate::paying::afford;
 use base_owners::Shared;
@@ -18,6 +19,7 @@ use step_shared::is_listed;
 
 /// A turn whose test has no value at once: its unit is paid, and then the test comes.
 fn begin_test(
+    alloc: Global,
     course: &mut Course,
     test: Shared<Expr>,
     body: Shared<Seq<Stmt>>,
@@ -32,7 +34,8 @@ fn begin_test(
     }
     let expr = test.share()?;
     let turns = turns - 1;
-    Ok(Next::Wanted(Want::Both(Item::Eval(expr), Frame::Decide { test, body, turns })))
+    course.work.push(Frame::Decide { test, body, turns })?;
+    evaluate(alloc, course, expr)
 }
 
 /// A turn of a loop that can take so many: its test, and then its block, at once if they can be.
@@ -50,7 +53,7 @@ pub fn turn(
         return Ok(Next::Piece(Item::Turn { test, body, turns }));
     }
     match value_in_statement(alloc, course, &test)? {
-        None => begin_test(course, test, body, turns),
+        None => begin_test(alloc, course, test, body, turns),
         Some((value, units)) => {
             if is_listed(&value) {
                 return Ok(Next::Piece(Item::Turn { test, body, turns }));

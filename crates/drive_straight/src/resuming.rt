@@ -1,25 +1,26 @@
 //! What waits for a way on, where that comes at once.
-ghost use Rattle.std.specs.Prelude.{◌≡◌, IfOk, IfSome, slice_get};
-ghost use Rattle.std.specs.Option.{option_copied};
+ghost use Rattle.std.specs.Prelude.{◌≡◌, IfOk, IfSome};
 ghost use Rattle.meaning_state.specs.declared.flow.Flow.TheVariants.{Went};
-ghost use Rattle.py_frames.specs.declared.work.Form.TheVariants.{Expression, Statement};
+ghost use Rattle.py_frames.specs.declared.work.Form.TheVariants.{Expression};
 ghost use Rattle.py_frames.specs.declared.work.Frame.TheVariants as frames;
-ghost use Rattle.drive_straight.specs.Remains.{Leads, LeadsTo, assigned_name, goes_on};
+ghost use Rattle.drive_straight.specs.Remains.{Leads, gives, goes_on};
 ghost use Rattle.step_straight.specs.Comes.{Resumes};
 
 use crate::blocks::block;
+use crate::coming::{come, give, resume_statement};
 use crate::course::Course;
+use crate::deciding::decide;
+use crate::gathering::gather;
 use crate::loops::turn;
-use crate::next::{Next, wanted};
+use crate::next::Next;
 use crate::paying::afford;
 use base_owners::Shared;
-use base_types::{Exact, NoMemory, Seq, Text};
+use base_types::{NoMemory, Seq};
 use meaning_state::Flow;
 use py_frames::{Form, Frame, Want};
 use py_syntax::{Expr, Stmt};
 use py_value::{Value, size};
 use std::alloc::Global;
-use step_names::store;
 use step_straight::{Priced, with_left, with_right};
 
 /// A statement of a block came to its end: the next ones follow.
@@ -66,22 +67,6 @@ pub fn resume_loop(
     }
 }
 
-/// The size of a value is paid.
-pub fn resume_sized(course: &mut Course, flow: Flow) -> Next
-    ensures moves { LeadsTo course.old (goes_on frames.Sized flow) course.new result }
-    ensures held { course.new.held ≡ course.old.held }
-{
-    match flow {
-        Flow::Went(value) => {
-            if !afford(&mut course.purse, size(&value)) {
-                return Next::Frame(Frame::Sized, Flow::Went(value));
-            }
-            Next::Wanted(Want::Go(Flow::Went(value)))
-        }
-        Flow::Left(leave) => Next::Wanted(Want::Go(Flow::Left(leave))),
-    }
-}
-
 /// What an operator on two operands comes to, where the value of one is here and the others were gathered before. None
 /// where it is to be done piece by piece.
 fn operator(
@@ -118,60 +103,35 @@ fn resume_expression(
 {
     match operator(alloc, course, &expr, &done, &value)? {
         None => {
-            let form = Form::Expression(expr);
-            Ok(Next::Frame(Frame::Operands { form, done }, Flow::Went(value)))
+            let mut values = done;
+            values.push(value)?;
+            gather(alloc, course, expr, values)
         }
         Some(Priced { given, units }) => {
             if !afford(&mut course.purse, units) {
                 let form = Form::Expression(expr);
                 return Ok(Next::Frame(Frame::Operands { form, done }, Flow::Went(value)));
             }
-            Ok(Next::Wanted(wanted(given)))
+            come(course, given)
         }
     }
 }
 
-/// The name to which a statement assigns the value of its only operand.
-fn assigned_name(stmts: &Seq<Stmt>, at: usize) -> Option<&Text>
-    ensures { option_copied result ≡ assigned_name (slice_get stmts.now at) }
-{
-    match stmts.get(at) {
-        Some(Stmt::Assign(target, _)) => match target.get() {
-            Expr::Name(name) => Some(name),
-            _ => None,
-        },
-        _ => None,
-    }
-}
-
-/// The value of an operand of a statement came: it is bound to a name, if that is all that the statement does.
-fn resume_statement(
+/// The value of an operand came.
+fn resume_operand(
+    alloc: Global,
     course: &mut Course,
-    stmts: Shared<Seq<Stmt>>,
-    at: usize,
+    form: Form,
     done: Seq<Value>,
     value: Value,
 ) -> Result<Next, NoMemory>
-    ensures moves { Leads course.old (goes_on (frames.Operands (Statement stmts at) done) (Went value))
-        course.new result }
+    ensures moves { Leads course.old (goes_on (frames.Operands form done) (Went value)) course.new result }
     ensures held { course.new.held ≡ course.old.held }
 {
-    let name = match assigned_name(stmts.get(), at) {
-        None => None,
-        Some(name) => Some(name.copy()?),
-    };
-    match name {
-        None => {
-            let form = Form::Statement(stmts, at);
-            Ok(Next::Frame(Frame::Operands { form, done }, Flow::Went(value)))
-        }
-        Some(name) => {
-            if !done.is_empty() {
-                let form = Form::Statement(stmts, at);
-                return Ok(Next::Frame(Frame::Operands { form, done }, Flow::Went(value)));
-            }
-            Ok(Next::Wanted(store(&mut course.thread, name, value)?))
-        }
+    match form {
+        Form::Expression(expr) => resume_expression(alloc, course, expr, done, value),
+        Form::Statement(stmts, at) => resume_statement(course, stmts, at, done, value),
+        form => Ok(Next::Frame(Frame::Operands { form, done }, Flow::Went(value))),
     }
 }
 
@@ -188,10 +148,54 @@ pub fn resume_operands(
 {
     match flow {
         Flow::Left(leave) => Ok(Next::Wanted(Want::Go(Flow::Left(leave)))),
-        Flow::Went(value) => match form {
-            Form::Expression(expr) => resume_expression(alloc, course, expr, done, value),
-            Form::Statement(stmts, at) => resume_statement(course, stmts, at, done, value),
-            form => Ok(Next::Frame(Frame::Operands { form, done }, Flow::Went(value))),
-        },
+        Flow::Went(value) => resume_operand(alloc, course, form, done, value),
+    }
+}
+
+/// A value comes to what waits for it: an operand of an expression, or what a statement or a test waits for.
+fn give_operand(alloc: Global, course: &mut Course, value: Value) -> Result<Next, NoMemory>
+    ensures moves { Leads course.old (gives value) course.new result }
+    ensures held { course.new.held ≡ course.old.held }
+{
+    match course.work.pop() {
+        None => Ok(Next::Wanted(Want::Go(Flow::Went(value)))),
+        Some(Frame::Operands { form, done }) => resume_operand(alloc, course, form, done, value),
+        Some(frame) => {
+            course.work.push(frame)?;
+            give(course, value)
+        }
+    }
+}
+
+/// The size of a value is paid.
+pub fn resume_sized(alloc: Global, course: &mut Course, flow: Flow) -> Result<Next, NoMemory>
+    ensures moves { Leads course.old (goes_on frames.Sized flow) course.new result }
+    ensures held { course.new.held ≡ course.old.held }
+{
+    match flow {
+        Flow::Went(value) => {
+            if !afford(&mut course.purse, size(&value)) {
+                return Ok(Next::Frame(Frame::Sized, Flow::Went(value)));
+            }
+            give_operand(alloc, course, value)
+        }
+        Flow::Left(leave) => Ok(Next::Wanted(Want::Go(Flow::Left(leave)))),
+    }
+}
+
+/// The test of a loop came.
+pub fn resume_decide(
+    course: &mut Course,
+    test: Shared<Expr>,
+    body: Shared<Seq<Stmt>>,
+    turns: u64,
+    flow: Flow,
+) -> Result<Next, NoMemory>
+    ensures moves { Leads course.old (goes_on (frames.Decide test body turns) flow) course.new result }
+    ensures held { course.new.held ≡ course.old.held }
+{
+    match flow {
+        Flow::Went(value) => decide(course, test, body, turns, value),
+        Flow::Left(leave) => Ok(Next::Wanted(Want::Go(Flow::Left(leave)))),
     }
 }

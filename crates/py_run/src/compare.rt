@@ -7,10 +7,12 @@ ghost use Rattle.drive_follow.specs.Following.{Answers};
 ghost use Rattle.meaning_script.specs.Meaning.{meaning};
 ghost use Rattle.step_calls.specs.Sources.{sources};
 
+use crate::drive::{Over, run};
 use crate::script::copy_of;
+use crate::start::Start;
 use drive_follow::{budget_by, ends_came, ends_out, refused};
-use drive_loop::{Course, Over, Start, run};
 use drive_port::{Halt, ReplayPort};
+use drive_straight::Course;
 use machine_events::{Follow, Pair};
 use std::alloc::Global;
 use tree_files::{Tree, TreeFault};

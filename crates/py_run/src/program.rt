@@ -9,9 +9,10 @@ ghost use Rattle.drive_account.specs.Ending.{IsMeant, BrokenOver, IsRead, outcom
 ghost use Rattle.run_module.specs.Programs.{meaning_of_name};
 ghost use Rattle.step_calls.specs.Sources.{sources};
 
+use crate::start::Start;
 use crate::thread::run_thread;
 use base_types::{Exact, NoMemory};
-use drive_loop::{Ending, Start};
+use drive_account::Ending;
 use machine_desk::Desk;
 use spec_core::Dotted;
 use std::alloc::Global;

@@ -9,9 +9,10 @@ ghost use Rattle.drive_account.specs.Ending.{IsMeant, BrokenOver, IsRead, outcom
 ghost use Rattle.meaning_script.specs.Meaning.{meaning};
 ghost use Rattle.step_calls.specs.Sources.{sources};
 
+use crate::start::Start;
 use crate::thread::run_thread;
 use base_types::{NoMemory, Seq};
-use drive_loop::{Ending, Start};
+use drive_account::Ending;
 use machine_desk::Desk;
 use std::alloc::Global;
 use tree_files::Tree;

@@ -8,11 +8,13 @@ ghost use Rattle.meaning_runs.specs.Runs.{Safe};
 ghost use Rattle.meaning_runs.specs.Follows.{Follows};
 ghost use Rattle.meaning_runs.specs.Lists.{lists_in, ends_in};
 ghost use Rattle.drive_account.specs.Ending.{IsMeant, BrokenOver, IsRead, outcome};
-ghost use Rattle.drive_loop.specs.Starts.{started};
+ghost use Rattle.py_run.specs.Starts.{started};
 
 use crate::OnDesk;
+use crate::start::Start;
+use crate::whole_thread::run_on;
 use base_types::NoMemory;
-use drive_loop::{Ending, Start, run_on};
+use drive_account::Ending;
 use machine_desk::Desk;
 use std::alloc::Global;
 use tree_files::Tree;

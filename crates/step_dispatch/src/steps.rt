@@ -159,6 +159,8 @@ pub fn begin(alloc: Global, item: Item, thread: &mut Thread) -> Result<Want, NoM
         Item::Turn { test, body, turns } => turn(thread, test, body, turns),
         Item::Test { test, body, turns } => begin_test(thread, test, body, turns),
         Item::Feed(procedure, input) => begin_feed(alloc, procedure, input, thread),
+        Item::Call { callee, arguments } => call(alloc, thread, callee, arguments),
+        Item::Member { object, name } => member(alloc, thread, object, name),
         item => begin_any(alloc, item, thread),
     }
 }
@@ -418,6 +420,11 @@ pub fn replied(
         OnReply::Global(name) => global(alloc, thread, name, reply),
         OnReply::Stored => stored(alloc, thread, reply),
         OnReply::Feed(procedure) => replied_feed(alloc, procedure, reply, thread),
+        OnReply::Member {
+            module,
+            name,
+            is_raw,
+        } => member_read(alloc, thread, module, name, is_raw, reply),
         on => replied_any(alloc, on, reply, thread),
     }
 }

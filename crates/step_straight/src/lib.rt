@@ -8,6 +8,7 @@ mod operators;
 mod resuming;
 mod straight;
 
+pub use atoms::{Bought, atom};
 pub use given::{Given, Priced};
 pub use resuming::{with_left, with_right};
 pub use straight::at_once;

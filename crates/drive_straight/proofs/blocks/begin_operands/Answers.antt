@@ -1,10 +1,14 @@
 use Rattle.std.proofs.Common.{refl, rules}
-use Rattle.drive_straight.proofs.AtOnce.{operands_begin}
+use Rattle.py_frames.specs.declared.work.Item.TheVariants as it
+use Rattle.drive_straight.specs.Remains.{begins}
+use Rattle.drive_straight.specs.declared.course.Course.{Course}
+use Rattle.drive_straight.proofs.Operands.{leads_behind, statement_begins}
 use Rattle.drive_straight.proofs.blocks.begin_operands.Goals as goal
 
 pub returns-clause-moves : goal.returns-clause-moves
 returns-clause-moves c =
-    operands_begin c.args.course.now
-    (record { purse = c.afford.new.purse; held = c.args.course.now.held; thread = c.args.course.now.thread; work = c.push.new.self })
-    c.args.stmts c.args.at c.in-Some.stmt.now c.in-Some-first_operand.operand.now _ _ c.afford.new.purse
-    (search rules) c.new.ensures (search rules) (search rules) (c.if-not-afford.ensures.paid refl) (search rules)
+    let old = c.args.course.now in
+    let blocked : Course = record { purse = c.afford.new.purse; held = old.held; thread = old.thread; work = c.push.new.self } in
+    let ready : Course = record { purse = c.afford.new.purse; held = old.held; thread = old.thread; work = c.push-2.new.self } in
+    leads_behind old ready c.evaluate.new.course (begins (it.Block c.args.stmts c.args.at)) (begins (it.Eval c.args.operand)) c.evaluate.result
+    (statement_begins old blocked ready c.args.stmts c.args.at c.args.operand c.new.result c.afford.new.purse c.new.ensures c.requires.first (c.if-not-afford.ensures.paid refl) (search rules) (search rules)) c.evaluate.ensures.moves

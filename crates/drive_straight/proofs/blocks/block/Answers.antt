@@ -13,11 +13,11 @@ returns-then-not-branch-clause-moves c =
     let old = c.args.course.now in
     let here = want.Then (it.Block c.args.stmts c.statements.at) in
     let run = remains old (want.Then (it.Block c.args.stmts c.args.first)) in
-    IfOk-weaker c.begin_operands.result _ _ (λ next behind.
-    moves_on old.purse run c.statement.new.course c.begin_operands.new.course here (due next c.begin_operands.new.course)
+    IfOk-weaker c.begin_statement.result _ _ (λ next behind.
+    moves_on old.purse run c.statement.new.course c.begin_statement.new.course here (due next c.begin_statement.new.course)
     (moves_on old.purse run c.statements.course c.statement.new.course here (remains c.statement.new.course here) c.statements.invariant.moves
     (did_not c.statements.course c.statement.new.course c.args.stmts c.statements.at c.in_ok-statement.field-0 (search rules) c.in_ok-statement.ensures.did))
-    behind) c.begin_operands.ensures.moves
+    behind) c.begin_statement.ensures.moves
 
 pub returns-clause-moves : goal.returns-clause-moves
 returns-clause-moves c = λ files whole fuel mine a.

@@ -1,9 +1,14 @@
 use Rattle.std.proofs.Common.{◌-◌, arith, refl, rules}
-use Rattle.drive_straight.proofs.AtOnce.{test_comes}
+use Rattle.py_frames.specs.declared.work.Item.TheVariants as it
+use Rattle.drive_straight.specs.Remains.{begins}
+use Rattle.drive_straight.specs.declared.course.Course.{Course}
+use Rattle.drive_straight.proofs.Operands.{leads_behind, test_begins}
 use Rattle.drive_straight.proofs.loops.begin_test.Goals as goal
 
 pub returns-clause-moves : goal.returns-clause-moves
 returns-clause-moves c =
-    test_comes c.args.course.now (record { purse = c.afford.new.purse; held = c.args.course.now.held; thread = c.args.course.now.thread; work = c.args.course.now.work })
-    c.args.test c.in_ok-expr.expr c.args.body (c.args.turns - 1) c.args.turns c.afford.new.purse
-    (omega (arith, c.requires.some)) (search rules) (c.if-not-afford.ensures.paid refl) refl
+    let old = c.args.course.now in
+    let ready : Course = record { purse = c.afford.new.purse; held = old.held; thread = old.thread; work = c.push.new.self } in
+    leads_behind old ready c.evaluate.new.course (begins (it.Turn c.args.test c.args.body c.args.turns)) (begins (it.Eval c.in_ok-expr.expr)) c.evaluate.result
+    (test_begins old ready c.args.test c.in_ok-expr.expr c.args.body (c.args.turns - 1) c.args.turns c.afford.new.purse
+    (omega (arith, c.requires.some)) (search rules) (c.if-not-afford.ensures.paid refl) (search rules)) c.evaluate.ensures.moves

@@ -1,7 +1,14 @@
 use Rattle.std.proofs.Common.{refl, rules}
+use Rattle.py_frames.specs.declared.work.Frame.TheVariants as frame
+use Rattle.drive_straight.specs.Remains.{gives, goes_on}
+use Rattle.drive_straight.specs.declared.course.Course.{Course}
 use Rattle.drive_straight.proofs.AtOnce.{paid_size}
+use Rattle.drive_straight.proofs.Operands.{leads_behind}
 use Rattle.drive_straight.proofs.resuming.resume_sized.Goals as goal
 
 pub returns-else-not-afford-clause-moves : goal.returns-else-not-afford-clause-moves
 returns-else-not-afford-clause-moves c =
-    paid_size c.args.course.now c.args.flow c.in-Went.value c.size.result c.afford.new.purse c.in-Went.is (search rules) (c.if-not-afford.ensures.paid refl)
+    let old = c.args.course.now in
+    let paid : Course = record { purse = c.afford.new.purse; held = old.held; thread = old.thread; work = old.work } in
+    leads_behind old paid c.give_operand.new.course (goes_on frame.Sized c.args.flow) (gives c.in-Went.value) c.give_operand.result
+    (paid_size old c.args.flow c.in-Went.value c.size.result c.afford.new.purse c.in-Went.is (search rules) (c.if-not-afford.ensures.paid refl)) c.give_operand.ensures.moves

@@ -6,9 +6,9 @@ use Rattle.meaning_safety.proofs.Meaning.{meaning_safe}
 use Rattle.step_calls.specs.Sources.{sources}
 use Rattle.drive_port.specs.Replay.{pairs_of}
 use Rattle.drive_follow.specs.Following.{Answers}
-use Rattle.drive_loop.specs.Overs.{Overs}
-use Rattle.drive_loop.specs.declared.drive.Over.{Over}
-use Rattle.drive_loop.specs.declared.drive.Over.TheVariants as over
+use Rattle.py_run.specs.Overs.{Overs}
+use Rattle.py_run.specs.declared.drive.Over.{Over}
+use Rattle.py_run.specs.declared.drive.Over.TheVariants as over
 use Rattle.py_run.proofs.Following.{end_shown, still_runs, follow_came, follow_out, follow_refused}
 use Rattle.py_run.proofs.compare.follow.Goals as goal
 

@@ -1,5 +1,0 @@
-use Rattle.drive_loop.proofs.Starting.{script_starts}
-use Rattle.drive_loop.proofs.start.start_script.Goals as goal
-
-pub returns-in-Ok : goal.returns-in-Ok
-returns-in-Ok c = script_starts c.args.script c.in-Ok.name c.args.text c.in-Ok.ensures

@@ -1,0 +1,8 @@
+use Rattle.std.proofs.Common.{rules}
+use Rattle.drive_straight.proofs.Operands.{same_run, test_holds}
+use Rattle.drive_straight.proofs.deciding.decide.Goals as goal
+
+pub returns-clause-moves : goal.returns-clause-moves
+returns-clause-moves c =
+    same_run c.args.course.now.purse _ _ (test_holds c.args.course.now (record { purse = c.args.course.now.purse; held = c.args.course.now.held; thread = c.args.course.now.thread; work = c.push.new.self })
+    c.args.test c.args.body c.in_ok-stmts.stmts c.args.turns c.args.value (search rules) (search rules) (search rules) (search rules))

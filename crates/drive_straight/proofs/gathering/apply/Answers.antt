@@ -1,0 +1,19 @@
+use Rattle.std.proofs.Common.{refl}
+use Rattle.py_frames.specs.declared.work.Form.TheVariants.{Expression}
+use Rattle.py_frames.specs.declared.work.Item.TheVariants as it
+use Rattle.drive_straight.specs.Remains.{begins}
+use Rattle.drive_straight.specs.declared.course.Course.{Course}
+use Rattle.drive_straight.proofs.Operands.{applied, leads_behind}
+use Rattle.drive_straight.proofs.gathering.apply.Goals as goal
+
+pub returns-then-is_call-clause-moves : goal.returns-then-is_call-clause-moves
+returns-then-is_call-clause-moves c =
+    let old = c.args.course.now in
+    let paid : Course = record { purse = c.afford.new.purse; held = old.held; thread = old.thread; work = old.work } in
+    leads_behind old paid c.call.new.course (begins (it.Operands (Expression c.args.expr) c.args.values)) (begins (it.Apply c.args.expr c.args.values)) c.call.result
+    (applied old paid c.args.expr c.args.values c.afford.new.purse c.requires.all (c.if-not-afford.ensures.paid refl) refl) c.call.ensures.moves
+
+pub returns-clause-moves : goal.returns-clause-moves
+returns-clause-moves c =
+    applied c.args.course.now (record { purse = c.afford.new.purse; held = c.args.course.now.held; thread = c.args.course.now.thread; work = c.args.course.now.work })
+    c.args.expr c.args.values c.afford.new.purse c.requires.all (c.if-not-afford.ensures.paid refl) refl

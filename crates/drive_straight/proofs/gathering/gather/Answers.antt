@@ -1,0 +1,50 @@
+use Rattle.std.proofs.Common.{refl, rules, subst, sym}
+use Rattle.meaning_script.specs.Operators.{operands_at}
+use Rattle.py_syntax.specs.declared.expr.Expr.{out-Expr}
+use Rattle.py_frames.specs.declared.want.Want.TheVariants as want
+use Rattle.py_frames.specs.declared.work.Form.TheVariants.{Expression}
+use Rattle.py_frames.specs.declared.work.Item.TheVariants as it
+use Rattle.drive_account.specs.At.{At}
+use Rattle.drive_account.specs.declared.purse.Purse.{Purse}
+use Rattle.drive_straight.specs.Remains.{begins, remains}
+use Rattle.drive_straight.specs.declared.course.Course.{Course}
+use Rattle.drive_straight.proofs.Operands.{fewer_left, leads_behind, operand_paid, operand_waits, reaches_on, same_run}
+use Rattle.drive_straight.proofs.gathering.gather.Goals as goal
+
+pub returns-in-None-clause-moves : goal.returns-in-None-clause-moves
+returns-in-None-clause-moves c =
+    let old = c.args.course.now in
+    let here : Course = c.operands.course in
+    let mid : Course = record { purse = here.purse; held = here.held; thread = here.thread; work = c.push.new.self } in
+    let first = it.Operands (Expression c.args.expr) c.args.done in
+    let left = it.Operands (Expression c.args.expr) c.operands.values in
+    let operand = it.Eval c.in_ok-operand-in-None.operand in
+    leads_behind old mid c.reach.new.course (begins first) (begins operand) c.reach.result
+    (reaches_on old.purse here.purse here.purse (begins first old) (begins left here) (begins operand mid) c.operands.invariant.moves
+    (same_run here.purse _ _ (operand_waits here mid c.args.expr c.in_ok-operand-in-None.operand c.operands.values (search rules) (search rules)))) c.reach.ensures.moves
+
+pub returns-then-not-afford-clause-moves : goal.returns-then-not-afford-clause-moves
+returns-then-not-afford-clause-moves c = λ files whole fuel mine a.
+    subst (λ (p : Purse). At files whole fuel mine p (remains c.operands.course (want.Then (it.Operands (Expression c.args.expr) c.operands.values)))) (sym (c.if-not-afford.ensures.unpaid refl))
+    (c.operands.invariant.moves files whole fuel mine a)
+
+pub operands-smaller : goal.operands-smaller
+operands-smaller c =
+    fewer_left (operands_at (out-Expr c.args.expr)) c.operands.values c.push-in-Some-2.new.self c.in-Some-2.bought.value c.in-Some.operand.now (search rules) (search rules)
+
+pub operands-preserved : goal.operands-preserved
+operands-preserved c =
+    let here : Course = c.operands.course in
+    let paid : Course = record { purse = c.afford.new.purse; held = here.held; thread = here.thread; work = here.work } in
+    record {
+      moves = λ files whole fuel mine a.
+          operand_paid here paid c.args.expr c.in-Some.operand.now c.operands.values c.push-in-Some-2.new.self c.in-Some-2.bought.value c.in-Some-2.bought.units c.afford.new.purse
+          (search rules) (search rules) (c.if-not-afford.ensures.paid refl) (search rules) refl files whole fuel mine (c.operands.invariant.moves files whole fuel mine a);
+      held = c.operands.invariant.held;
+      expr = refl;
+    }
+
+pub returns-clause-moves : goal.returns-clause-moves
+returns-clause-moves c =
+    leads_behind c.args.course.now c.operands.course c.apply.new.course (begins (it.Operands (Expression c.args.expr) c.args.done)) (begins (it.Operands (Expression c.args.expr) c.operands.values)) c.apply.result
+    c.operands.invariant.moves c.apply.ensures.moves

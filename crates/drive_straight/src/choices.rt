@@ -1,0 +1,101 @@
+//! Statements that do not begin with an operand: `if` (Language Reference 8.1), and those that go on piece by piece.
+ghost use Rattle.std.specs.Prelude.{◌≡◌, ◌<◌, IfOk, IfSome, length, slice_get};
+ghost use Rattle.py_frames.specs.declared.work.Item.TheVariants as items;
+ghost use Rattle.drive_straight.specs.Remains.{IsIf, Leads, begins, is_left};
+
+use crate::course::Course;
+use crate::next::Next;
+use crate::paying::afford;
+use base_owners::Shared;
+use base_types::{NoMemory, Seq};
+use py_frames::{Frame, Item};
+use py_syntax::{Branch, Stmt};
+
+/// The statements of a block from a place on, of which the first is an `if`: its unit is paid, and its branches come.
+fn begin_if(
+    course: &mut Course,
+    stmts: Shared<Seq<Stmt>>,
+    at: usize,
+    branches: Shared<Seq<Branch>>,
+    otherwise: Shared<Seq<Stmt>>,
+) -> Result<Next, NoMemory>
+    requires within { at < length stmts }
+    requires form { IsIf stmts at branches otherwise }
+    ensures moves { Leads course.old (begins (items.Block stmts at)) course.new result }
+    ensures held { course.new.held ≡ course.old.held }
+{
+    if !afford(&mut course.purse, 1) {
+        return Ok(Next::Piece(Item::Block { stmts, at }));
+    }
+    let count = stmts.get().len();
+    prove!(at < count);
+    course.work.push(Frame::Block { stmts, at: at + 1 })?;
+    Ok(Next::Piece(Item::Branches {
+        branches,
+        at: 0,
+        otherwise,
+    }))
+}
+
+/// The branches of an `if`, and its block behind `else`.
+type Parts = Option<(Shared<Seq<Branch>>, Shared<Seq<Stmt>>)>;
+
+/// The parts of the `if` at a place, if one stands there.
+fn if_at(stmts: &Seq<Stmt>, at: usize) -> Result<Parts, NoMemory>
+    ensures { IfOk result (λ found. IfSome found (λ p. IsIf stmts.now at p.0 p.1)) }
+{
+    match stmts.get(at) {
+        Some(Stmt::If(branches, otherwise)) => { Ok(Some((branches.share()?, otherwise.share()?))) }
+        _ => Ok(None),
+    }
+}
+
+/// Whether the statement at a place is left to its steps: a `while`, which pays before each test instead of when it
+/// begins, and a `def`.
+fn is_left(stmts: &Seq<Stmt>, at: usize) -> bool
+    ensures { result ≡ is_left (slice_get stmts.now at) }
+{
+    match stmts.get(at) {
+        Some(Stmt::While(_, _)) | Some(Stmt::Def(_)) => true,
+        _ => false,
+    }
+}
+
+/// The statements of a block from a place on: the unit of the first one is paid, and then it goes on piece by
+/// piece.
+fn begin_paid(course: &mut Course, stmts: Shared<Seq<Stmt>>, at: usize) -> Result<Next, NoMemory>
+    requires within { at < length stmts }
+    ensures moves { Leads course.old (begins (items.Block stmts at)) course.new result }
+    ensures held { course.new.held ≡ course.old.held }
+{
+    if is_left(stmts.get(), at) {
+        return Ok(Next::Piece(Item::Block { stmts, at }));
+    }
+    if !afford(&mut course.purse, 1) {
+        return Ok(Next::Piece(Item::Block { stmts, at }));
+    }
+    let count = stmts.get().len();
+    prove!(at < count);
+    let block = Frame::Block {
+        stmts: stmts.share()?,
+        at: at + 1,
+    };
+    course.work.push(block)?;
+    Ok(Next::Piece(Item::Begun { stmts, at }))
+}
+
+/// The statements of a block from a place on, of which the first does not begin with an operand.
+pub fn begin_other(
+    course: &mut Course,
+    stmts: Shared<Seq<Stmt>>,
+    at: usize,
+) -> Result<Next, NoMemory>
+    requires within { at < length stmts }
+    ensures moves { Leads course.old (begins (items.Block stmts at)) course.new result }
+    ensures held { course.new.held ≡ course.old.held }
+{
+    match if_at(stmts.get(), at)? {
+        None => begin_paid(course, stmts, at),
+        Some((branches, otherwise)) => begin_if(course, stmts, at, branches, otherwise),
+    }
+}

@@ -1,0 +1,129 @@
+//! Values that come to what waits for them.
+ghost use Rattle.std.specs.Prelude.{◌≡◌, IfOk, slice_get};
+ghost use Rattle.meaning_state.specs.declared.flow.Flow.TheVariants.{Went};
+ghost use Rattle.py_frames.specs.declared.work.Form.TheVariants.{Statement};
+ghost use Rattle.py_frames.specs.declared.work.Frame.TheVariants as frames;
+ghost use Rattle.drive_straight.specs.Remains.{Leads, comes, gives, goes_on, use_at};
+
+use crate::course::Course;
+use crate::deciding::{decide, pick};
+use crate::names::reach;
+use crate::next::Next;
+use base_owners::Shared;
+use base_types::{Exact, NoMemory, Seq, Text};
+use meaning_state::{Flow, Leave};
+use py_frames::{Form, Frame, Item, Want};
+use py_syntax::{Expr, Stmt};
+use py_value::Value;
+use step_names::store;
+use step_straight::Given;
+
+/// What a statement does with the value of its only operand.
+#[derive(Drop)]
+pub enum Use {
+    /// It binds the value to a name.
+    Bind(Text),
+    /// It lets the value go.
+    Discard,
+    /// It returns the value.
+    Return,
+    /// It raises the value.
+    Raise,
+    /// Something else, or it has more operands.
+    Other,
+}
+
+/// What a statement does with the value of its only operand.
+fn use_at(stmts: &Seq<Stmt>, at: usize) -> Result<Use, NoMemory>
+    ensures { IfOk result (λ it. it ≡ use_at (slice_get stmts.now at)) }
+{
+    match stmts.get(at) {
+        Some(Stmt::Assign(target, _)) => match target.get() {
+            Expr::Name(name) => Ok(Use::Bind(name.copy()?)),
+            _ => Ok(Use::Other),
+        },
+        Some(Stmt::Evaluate(_)) => Ok(Use::Discard),
+        Some(Stmt::Return(_)) => Ok(Use::Return),
+        Some(Stmt::Raise(_)) => Ok(Use::Raise),
+        _ => Ok(Use::Other),
+    }
+}
+
+/// The value of an operand of a statement came: the statement is done, if that is all that it needs.
+pub fn resume_statement(
+    course: &mut Course,
+    stmts: Shared<Seq<Stmt>>,
+    at: usize,
+    done: Seq<Value>,
+    value: Value,
+) -> Result<Next, NoMemory>
+    ensures moves { Leads course.old (goes_on (frames.Operands (Statement stmts at) done) (Went value))
+        course.new result }
+    ensures held { course.new.held ≡ course.old.held }
+{
+    if !done.is_empty() {
+        let form = Form::Statement(stmts, at);
+        return Ok(Next::Frame(Frame::Operands { form, done }, Flow::Went(value)));
+    }
+    match use_at(stmts.get(), at)? {
+        Use::Bind(name) => Ok(Next::Wanted(store(&mut course.thread, name, value)?)),
+        Use::Discard => {
+            drop(value);
+            Ok(Next::Wanted(Want::Go(Flow::Went(Value::Nothing))))
+        }
+        Use::Return => Ok(Next::Wanted(Want::Go(Flow::Left(Leave::Return(value))))),
+        Use::Raise => {
+            let mut values = done;
+            values.push(value)?;
+            Ok(Next::Piece(Item::Perform { stmts, at, values }))
+        }
+        Use::Other => {
+            let form = Form::Statement(stmts, at);
+            Ok(Next::Frame(Frame::Operands { form, done }, Flow::Went(value)))
+        }
+    }
+}
+
+/// A value comes to what waits for it: a statement, or a test.
+pub fn give(course: &mut Course, value: Value) -> Result<Next, NoMemory>
+    ensures moves { Leads course.old (gives value) course.new result }
+    ensures held { course.new.held ≡ course.old.held }
+{
+    match course.work.pop() {
+        None => Ok(Next::Wanted(Want::Go(Flow::Went(value)))),
+        Some(Frame::Operands { form, done }) => match form {
+            Form::Statement(stmts, at) => resume_statement(course, stmts, at, done, value),
+            form => {
+                course.work.push(Frame::Operands { form, done })?;
+                Ok(Next::Wanted(Want::Go(Flow::Went(value))))
+            }
+        },
+        Some(Frame::Decide { test, body, turns }) => decide(course, test, body, turns, value),
+        Some(
+            Frame::Test {
+                branches,
+                at,
+                otherwise,
+            },
+        ) => pick(course, branches, at, otherwise, value),
+        Some(frame) => {
+            course.work.push(frame)?;
+            Ok(Next::Wanted(Want::Go(Flow::Went(value))))
+        }
+    }
+}
+
+/// What an expression came to comes to what waits for it.
+pub fn come(course: &mut Course, given: Given) -> Result<Next, NoMemory>
+    ensures moves { Leads course.old (comes given) course.new result }
+    ensures held { course.new.held ≡ course.old.held }
+{
+    match given {
+        Given::Value(value) => give(course, value),
+        Given::Raised(error) => Ok(Next::Wanted(Want::Go(Flow::Left(Leave::Raised(error))))),
+        Given::Waits(operand, frame) => {
+            course.work.push(frame)?;
+            reach(course, operand)
+        }
+    }
+}

@@ -1,0 +1,74 @@
+//! Tests that have a value (Language Reference 8.1 and 8.2).
+ghost use Rattle.std.specs.Prelude.{◌≡◌};
+ghost use Rattle.meaning_state.specs.declared.flow.Flow.TheVariants.{Went};
+ghost use Rattle.py_frames.specs.declared.work.Frame.TheVariants as frames;
+ghost use Rattle.drive_straight.specs.Remains.{Leads, goes_on};
+
+use crate::course::Course;
+use crate::next::Next;
+use base_owners::Shared;
+use base_types::{NoMemory, Seq};
+use meaning_state::Flow;
+use py_frames::{Frame, Item, Want};
+use py_syntax::{Branch, Expr, Stmt};
+use py_value::{Value, truth};
+use step_shared::is_listed;
+
+/// The test of a loop has a value: its block comes, or its end.
+pub fn decide(
+    course: &mut Course,
+    test: Shared<Expr>,
+    body: Shared<Seq<Stmt>>,
+    turns: u64,
+    value: Value,
+) -> Result<Next, NoMemory>
+    ensures moves { Leads course.old (goes_on (frames.Decide test body turns) (Went value)) course.new result }
+    ensures held { course.new.held ≡ course.old.held }
+{
+    if is_listed(&value) {
+        let frame = Frame::Decide { test, body, turns };
+        return Ok(Next::Frame(frame, Flow::Went(value)));
+    }
+    if !truth(&value) {
+        return Ok(Next::Wanted(Want::Go(Flow::Went(Value::Nothing))));
+    }
+    let stmts = body.share()?;
+    course.work.push(Frame::Loop { test, body, turns })?;
+    Ok(Next::Wanted(Want::Then(Item::Block { stmts, at: 0 })))
+}
+
+/// The test of a branch has a value: its block comes. Where it does not hold the branch is passed as any other.
+pub fn pick(
+    course: &mut Course,
+    branches: Shared<Seq<Branch>>,
+    at: usize,
+    otherwise: Shared<Seq<Stmt>>,
+    value: Value,
+) -> Result<Next, NoMemory>
+    ensures moves { Leads course.old (goes_on (frames.Test branches at otherwise) (Went value)) course.new result }
+    ensures held { course.new.held ≡ course.old.held }
+{
+    let _ = course;
+    if is_listed(&value) || !truth(&value) {
+        let frame = Frame::Test {
+            branches,
+            at,
+            otherwise,
+        };
+        return Ok(Next::Frame(frame, Flow::Went(value)));
+    }
+    match branches.get().get(at) {
+        None => {
+            let frame = Frame::Test {
+                branches,
+                at,
+                otherwise,
+            };
+            Ok(Next::Frame(frame, Flow::Went(value)))
+        }
+        Some(branch) => Ok(Next::Wanted(Want::Then(Item::Block {
+            stmts: branch.body.share()?,
+            at: 0,
+        }))),
+    }
+}

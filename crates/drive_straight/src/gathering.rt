@@ -1,0 +1,116 @@
+//! Operands of an expression, for as long as they have values at once.
+ghost use Rattle.std.specs.Prelude.{◌≡◌, None, length, slice_get, true};
+ghost use Rattle.std.specs.Option.{option_copied};
+ghost use Rattle.py_syntax.specs.declared.expr.Expr.{out-Expr};
+ghost use Rattle.meaning_script.specs.Operators.{operands_at};
+ghost use Rattle.py_frames.specs.declared.work.Form.TheVariants.{Expression};
+ghost use Rattle.py_frames.specs.declared.work.Item.TheVariants as items;
+ghost use Rattle.drive_straight.specs.Remains.{Leads, begins};
+ghost use Rattle.step_expressions.specs.OperatorForms.{is_call};
+
+use crate::course::Course;
+use crate::names::reach;
+use crate::next::Next;
+use crate::paying::afford;
+use base_owners::Shared;
+use base_types::{NoMemory, Seq};
+use py_frames::{Form, Frame, Item};
+use py_syntax::Expr;
+use py_value::Value;
+use std::alloc::Global;
+use step_straight::atom;
+
+/// An operand of an expression.
+fn operand_of(expr: &Expr, at: usize) -> Option<&Shared<Expr>>
+    ensures { option_copied result ≡ slice_get (operands_at (out-Expr expr.now)) at }
+{
+    match expr {
+        Expr::Tuple(items) | Expr::List(items) => items.get().get(at),
+        Expr::Attribute(a, _) | Expr::Negative(a) | Expr::Not(a) => match at {
+            0 => Some(a),
+            _ => None,
+        },
+        Expr::Call(callee, arguments) => match at {
+            0 => Some(callee),
+            _ => arguments.get().get(at - 1),
+        },
+        Expr::Subscript(a, b) | Expr::Binary(_, a, b) | Expr::Compare(_, a, b) => match at {
+            0 => Some(a),
+            1 => Some(b),
+            _ => None,
+        },
+        _ => None,
+    }
+}
+
+/// A call whose operands have values, and whose unit is paid.
+fn call(course: &mut Course, expr: Shared<Expr>, values: Seq<Value>) -> Result<Next, NoMemory>
+    requires form { is_call (out-Expr expr) ≡ true }
+    ensures moves { Leads course.old (begins (items.Apply expr values)) course.new result }
+    ensures held { course.new.held ≡ course.old.held }
+{
+    if values.is_empty() {
+        return Ok(Next::Piece(Item::Apply { expr, values }));
+    }
+    let mut arguments = values;
+    let callee = arguments.remove(0);
+    course.work.push(Frame::Sized)?;
+    Ok(Next::Piece(Item::Call { callee, arguments }))
+}
+
+fn is_call(expr: &Expr) -> bool
+    ensures { result ≡ is_call (out-Expr expr.now) }
+{
+    match expr {
+        Expr::Call(_, _) => true,
+        _ => false,
+    }
+}
+
+/// All operands have values: the unit of the expression is paid, and it is applied to them.
+fn apply(course: &mut Course, expr: Shared<Expr>, values: Seq<Value>) -> Result<Next, NoMemory>
+    requires all { slice_get (operands_at (out-Expr expr)) (length values) ≡ None }
+    ensures moves { Leads course.old (begins (items.Operands (Expression expr) values)) course.new result }
+    ensures held { course.new.held ≡ course.old.held }
+{
+    if !afford(&mut course.purse, 1) {
+        let form = Form::Expression(expr);
+        return Ok(Next::Piece(Item::Operands { form, done: values }));
+    }
+    if is_call(expr.get()) {
+        return call(course, expr, values);
+    }
+    Ok(Next::Piece(Item::Apply { expr, values }))
+}
+
+/// The operands of an expression that have no values yet, for as long as they have some at once, and then the
+/// expression. Each is paid for when it has its value.
+pub fn gather(
+    alloc: Global,
+    course: &mut Course,
+    expr: Shared<Expr>,
+    done: Seq<Value>,
+) -> Result<Next, NoMemory>
+    ensures moves { Leads course.old (begins (items.Operands (Expression expr) done)) course.new result }
+    ensures held { course.new.held ≡ course.old.held }
+{
+    let mut values = done;
+    'operands: while let Some(operand) = operand_of(expr.get(), values.len()) {
+        match atom(alloc, &course.thread, operand.get())? {
+            None => {
+                let operand = operand.share()?;
+                let form = Form::Expression(expr);
+                course.work.push(Frame::Operands { form, done: values })?;
+                return reach(course, operand);
+            }
+            Some(bought) => {
+                if !afford(&mut course.purse, bought.units) {
+                    let form = Form::Expression(expr);
+                    return Ok(Next::Piece(Item::Operands { form, done: values }));
+                }
+                values.push(bought.value)?;
+            }
+        }
+    }
+    apply(course, expr, values)
+}

@@ -1,0 +1,43 @@
+//! Names of the module.
+ghost use Rattle.std.specs.Prelude.{◌≡◌};
+ghost use Rattle.py_frames.specs.declared.work.Item.TheVariants as items;
+ghost use Rattle.drive_straight.specs.Remains.{Leads, begins};
+
+use crate::course::Course;
+use crate::next::Next;
+use crate::paying::afford;
+use base_owners::Shared;
+use base_types::{Exact, NoMemory};
+use py_frames::{Frame, Item, Want};
+use py_syntax::Expr;
+use step_names::{is_local_name, read_global};
+
+/// An expression that has no value at once. A name that is not local is read of the module, and its unit is paid.
+pub fn ask(course: &mut Course, expr: Shared<Expr>) -> Result<Next, NoMemory>
+    ensures moves { Leads course.old (begins (items.Eval expr)) course.new result }
+    ensures held { course.new.held ≡ course.old.held }
+{
+    let name = match expr.get() {
+        Expr::Name(name) => name.copy()?,
+        _ => return Ok(Next::Piece(Item::Eval(expr))),
+    };
+    if is_local_name(&course.thread, &name) {
+        return Ok(Next::Piece(Item::Eval(expr)));
+    }
+    if !afford(&mut course.purse, 1) {
+        return Ok(Next::Piece(Item::Eval(expr)));
+    }
+    course.work.push(Frame::Sized)?;
+    Ok(Next::Wanted(read_global(&course.thread, name)?))
+}
+
+/// An operand that has no value at once: a name is asked for now, and any other expression begins next.
+pub fn reach(course: &mut Course, operand: Shared<Expr>) -> Result<Next, NoMemory>
+    ensures moves { Leads course.old (begins (items.Eval operand)) course.new result }
+    ensures held { course.new.held ≡ course.old.held }
+{
+    match operand.get() {
+        Expr::Name(_) => ask(course, operand),
+        _ => Ok(Next::Wanted(Want::Then(Item::Eval(operand)))),
+    }
+}

@@ -1,0 +1,94 @@
+-- Turns that see neither a port nor a tree, one after another.
+use Rattle.std.proofs.Common.{◌≡◌, ℕ, List, ◌∷◌, Bool, Option, Result, IfOk, refl, subst, sym, ◌∙◌}
+use Rattle.std.proofs.lemmas.Result.{IfOk-weaker}
+use Rattle.base_types.specs.declared.no_memory.NoMemory.{NoMemory}
+use Rattle.tree_files.specs.Files.{Files}
+use Rattle.machine_events.specs.declared.event.Event.{Event}
+use Rattle.machine_events.specs.declared.event.Reply.{Reply}
+use Rattle.meaning_runs.specs.Runs.{Run}
+use Rattle.meaning_runs.specs.Costs.{after_reply}
+use Rattle.meaning_state.specs.declared.flow.Flow.{Flow}
+use Rattle.meaning_state.specs.declared.thread.State.{State}
+use Rattle.meaning_state.specs.declared.thread.Thread.{Thread}
+use Rattle.step_calls.specs.Sources.{sources}
+use Rattle.py_frames.specs.Does.{DoesIn, rest, replies, frame_does, reply_does}
+use Rattle.py_frames.specs.declared.replies.OnReply.{OnReply}
+use Rattle.py_frames.specs.declared.want.Want.{Want}
+use Rattle.py_frames.specs.declared.want.Want.TheVariants as want
+use Rattle.py_frames.specs.declared.work.Frame.{Frame}
+use Rattle.py_frames.specs.declared.work.Item.{Item}
+use Rattle.drive_account.specs.At.{At}
+use Rattle.drive_straight.specs.Remains.{Due, LeadsTo, Moves, begins, due, goes_on}
+use Rattle.drive_straight.specs.declared.next.Next.{Next}
+use Rattle.py_run.specs.Turns.{Stepped, Wants, remains}
+use Rattle.drive_straight.specs.declared.course.Course.{Course}
+use Rattle.py_run.specs.declared.course.Turn.{Turn}
+use Rattle.py_run.specs.declared.course.Turn.TheVariants as turn
+use Rattle.drive_account.specs.declared.purse.Purse.{Purse}
+
+-- the same of what a step wants next
+abbrev pub Leads : Purse → Run → Course → Result Want NoMemory → Type 0
+Leads purse run c r = IfOk r (λ next. Moves purse run c next)
+
+pub wanted : (purse : Purse) (run : Run) (c : Course) (w w' : Want) → w ≡ w' → Moves purse run c w → Moves purse run c w'
+wanted purse run c w w' is moves = subst (λ (w : Want). Moves purse run c w) is moves
+
+pub over_course : (purse : Purse) (run : Run) (r : Result Want NoMemory) (c c' : Course) → c ≡ c' → Leads purse run c' r → Leads purse run c r
+over_course purse run r c c' is leads = subst (λ (c : Course). Leads purse run c r) (sym is) leads
+
+-- a step, behind a payment or none
+pub leads : (purse : Purse) (run : Run) (c c' : Course) (w : Want) (next : Run) (r r' : Result Want NoMemory) → Moves purse run c w → r ≡ r'
+    → ((files : Option Files) (whole : Run) (fuel : ℕ) (mine : List (Event × Reply)) → At files whole fuel mine c.purse (remains c w) → At files whole fuel mine c'.purse next)
+    → IfOk r' (λ w'. remains c' w' ≡ next) → Leads purse run c' r
+leads purse run c c' w next r r' moves is pays means =
+    rw is (IfOk-weaker r' _ _ (λ w' m. λ files whole fuel mine a. rw m (pays files whole fuel mine (moves files whole fuel mine a))) means)
+
+-- what was due is done as far as it can be
+pub leads_by : (purse : Purse) (run : Run) (c mid after : Course) (w : Want) (was : Due) (r r' : Result Want NoMemory) → Moves purse run c w
+    → ((files : Option Files) (whole : Run) (fuel : ℕ) (mine : List (Event × Reply)) → At files whole fuel mine c.purse (remains c w) → At files whole fuel mine mid.purse (was mid))
+    → r ≡ r' → Wants mid was after r' → Leads purse run after r
+leads_by purse run c mid after w was r r' moves due is wants =
+    rw is (IfOk-weaker r' _ _ (λ w' on. λ files whole fuel mine a. on files whole fuel mine (due files whole fuel mine (moves files whole fuel mine a))) wants)
+
+-- what comes next is wanted
+pub next_wanted : (old mid new : Course) (was : Due) (next : Next) (r : Result Want NoMemory) → LeadsTo old was mid next → Wants mid (due next) new r → Wants old was new r
+next_wanted old mid new was next r leads wants =
+    IfOk-weaker r _ _ (λ w on. λ files whole fuel mine a. on files whole fuel mine (leads files whole fuel mine a)) wants
+
+-- a way on comes to a frame that was taken off
+pub comes_on : (c : Course) (flow : Flow) (frame : Frame) (frames : List Frame) → ((d : ℕ) (s : State) → rest sources c.work d flow s ≡ frame_does sources d frame (rest sources frames) flow s)
+    → (files : Option Files) (whole : Run) (fuel : ℕ) (mine : List (Event × Reply)) → At files whole fuel mine c.purse (remains c (want.Go flow))
+    → At files whole fuel mine c.purse (goes_on frame flow (record { purse = c.purse; held = c.held; thread = c.thread; work = frames }))
+comes_on c flow frame frames comes files whole fuel mine a = subst (λ (r : Run). At files whole fuel mine c.purse r) (comes c.thread.left c.thread.state) a
+
+-- a reply that was paid for comes to what waits for it
+pub leads_replied : (purse : Purse) (run : Run) (c c' : Course) (paid : Purse) (on : OnReply) (reply : Reply) (thread : Thread) (r r' : Result Want NoMemory)
+    → Moves purse run c (want.Replied on reply)
+    → ((files : Option Files) (whole : Run) (fuel : ℕ) (mine : List (Event × Reply)) (next : Run) → At files whole fuel mine c.purse (after_reply reply next) → At files whole fuel mine paid next)
+    → c' ≡ record { purse = paid; held = c.held; thread = thread; work = c.work } → r ≡ r'
+    → IfOk r' (DoesIn sources thread (replies on reply c.thread sources)) → Leads purse run c' r
+leads_replied purse run c c' paid on reply thread r r' moves pays is same does =
+    let after : Course = record { purse = paid; held = c.held; thread = thread; work = c.work } in
+    let next : Run = reply_does sources c.thread.left on (rest sources c.work) c.thread.state reply in
+    over_course purse run r c' after is (leads purse run c after (want.Replied on reply) next r r' moves same (λ files whole fuel mine a. pays files whole fuel mine next a)
+    (IfOk-weaker r' (DoesIn sources thread (replies on reply c.thread sources)) (λ w. remains after w ≡ next) (λ w d. d.does (rest sources c.work)) does))
+
+-- a frame that was put first waits for the item
+pub begins_pushed : (c : Course) (frames : List Frame) (item : Item) (frame : Frame) → frames ≡ frame ∷ c.work
+    → (files : Option Files) (whole : Run) (fuel : ℕ) (mine : List (Event × Reply)) → At files whole fuel mine c.purse (remains c (want.Both item frame))
+    → At files whole fuel mine c.purse (begins item (record { purse = c.purse; held = c.held; thread = c.thread; work = frames }))
+begins_pushed c frames item frame is files whole fuel mine a = rw is a
+
+-- the turn that leads elsewhere
+pub comes_to : (purse : Purse) (run : Run) (c c' : Course) (w : Want) (t : Turn) → Moves purse run c w → Stepped c.purse c' (remains c w) t → Stepped purse c' run t
+comes_to purse run c c' w t moves step files faults mine = record {
+  moves = λ whole fuel a. (step files faults mine).moves whole fuel (moves files whole fuel mine a);
+  counts = (step files faults mine).counts;
+}
+
+-- what is wanted is handed on
+pub hands_on : (purse : Purse) (run : Run) (c : Course) (w : Want) → Moves purse run c w → Stepped purse c run (turn.On w)
+hands_on purse run c w moves files faults mine = record {
+  moves = λ whole fuel a. moves files whole fuel mine a;
+  counts = refl;
+}

@@ -1,0 +1,43 @@
+-- From what a step wants to where a turn leads.
+use Rattle.std.proofs.Common.{◌≡◌, ℕ, List, Option, refl, subst}
+use Rattle.tree_files.specs.Files.{Files}
+use Rattle.machine_events.specs.declared.event.Event.{Event}
+use Rattle.machine_events.specs.declared.event.Reply.{Reply}
+use Rattle.meaning_runs.specs.Runs.{Run}
+use Rattle.meaning_state.specs.declared.flow.Flow.{Flow}
+use Rattle.meaning_state.specs.declared.thread.State.{State}
+use Rattle.meaning_script.specs.Meaning.{ends}
+use Rattle.step_calls.specs.Sources.{sources}
+use Rattle.py_frames.specs.Does.{rest}
+use Rattle.py_frames.specs.declared.want.Want.{Want}
+use Rattle.py_frames.specs.declared.want.Want.TheVariants as want
+use Rattle.drive_account.specs.At.{At, IsShort}
+use Rattle.py_run.specs.Turns.{Stepped, remains}
+use Rattle.drive_straight.specs.declared.course.Course.{Course}
+use Rattle.py_run.specs.declared.course.Turn.{Turn}
+use Rattle.py_run.specs.declared.course.Turn.TheVariants as turn
+use Rattle.drive_account.specs.declared.purse.Purse.{Purse}
+
+-- a step leads on, where what it wants means what was to be done
+pub stepped : (purse : Purse) (after : Course) (run : Run) (w : Want) → after.purse ≡ purse → remains after w ≡ run → Stepped purse after run (turn.On w)
+stepped purse after run w same is files faults mine = record {
+  moves = λ whole fuel a. rw (same, is) a;
+  counts = refl;
+}
+
+-- a payment could not be made
+pub stepped_out : (purse : Purse) (after : Course) (run : Run)
+    → ((files : Option Files) (whole : Run) (fuel : ℕ) (mine : List (Event × Reply)) → At files whole fuel mine purse run → IsShort files whole fuel mine after.purse.budget after.purse.of_tree)
+    → Stepped purse after run turn.Out
+stepped_out purse after run spent files faults mine = record {
+  moves = λ whole fuel a. spent files whole fuel mine a;
+  counts = refl;
+}
+
+-- no work is left
+pub stepped_came : (purse : Purse) (c after : Course) (flow : Flow) → after.purse ≡ purse → ((d : ℕ) (s : State) → rest sources c.work d flow s ≡ ends flow s)
+    → Stepped purse after (remains c (want.Go flow)) (turn.Came flow)
+stepped_came purse c after flow same comes files faults mine = record {
+  moves = λ whole fuel a. rw same (subst (λ (run : Run). At files whole fuel mine purse run) (comes c.thread.left c.thread.state) a);
+  counts = refl;
+}

@@ -1,0 +1,82 @@
+-- What a turn of the driver does.
+use Rattle.std.specs.Prelude.{◌≡◌, ℕ, List, Option, Result, IfOk}
+use Rattle.base_types.specs.declared.no_memory.NoMemory.{NoMemory}
+use Rattle.tree_files.specs.Files.{Files}
+use Rattle.tree_files.specs.Count.{Rose}
+use Rattle.tree_files.specs.declared.tree.Stamp.{Stamp}
+use Rattle.tree_files.specs.declared.tree.Stamp.TheVariants as stamps
+use Rattle.machine_events.specs.declared.event.Event.{Event}
+use Rattle.machine_events.specs.declared.event.Reply.{Reply}
+use Rattle.machine_shown.specs.Shown.{shown}
+use Rattle.meaning_runs.specs.Runs.{Run, Over, Ended, IsUnread, Safe}
+use Rattle.drive_port.specs.View.{View}
+use Rattle.drive_account.specs.declared.held.Held.{Held}
+use Rattle.meaning_state.specs.declared.flow.Flow.{Flow}
+use Rattle.meaning_script.specs.Meaning.{outcome_of}
+use Rattle.step_calls.specs.Sources.{sources}
+use Rattle.py_frames.specs.Does.{rest, fed}
+use Rattle.py_frames.specs.declared.want.Want.{Want}
+use Rattle.py_frames.specs.declared.procedures.Procedure.{Procedure}
+use Rattle.find_load.specs.declared.words.In.{In}
+use Rattle.drive_account.specs.Ending.{Holds}
+use Rattle.drive_account.specs.At.{At, IsShort}
+use Rattle.drive_straight.specs.declared.course.Course.{Course}
+use Rattle.py_run.specs.declared.course.Turn.{Turn}
+use Rattle.py_run.specs.declared.course.Turn.TheVariants as turn
+use Rattle.drive_account.specs.declared.purse.Purse.{Purse}
+pub use Rattle.drive_straight.specs.Remains.{remains}
+use Rattle.drive_straight.specs.Remains.{Due, Moves}
+
+-- what remains where a procedure is fed
+abbrev pub feeds : Course → Procedure → In → Run
+feeds c p input = fed sources c.thread.left p input c.thread.state (rest sources c.work c.thread.left)
+
+-- where no work is left
+abbrev pub ended : Flow → Run
+ended flow = Over (Ended (outcome_of flow))
+
+-- where a turn leads
+abbrev pub After : Option Files → Run → ℕ → List (Event × Reply) → Course → Turn → Type 0
+After files whole fuel mine c (turn.On want) = At files whole fuel mine c.purse (remains c want)
+After files whole fuel mine c (turn.Came flow) = At files whole fuel mine c.purse (ended flow)
+After files whole fuel mine c turn.Out = IsShort files whole fuel mine c.purse.budget c.purse.of_tree
+After files whole fuel mine c (turn.Unread left) = IsUnread files whole fuel mine left
+
+-- a call of the tree fails only where its count of faults rose; where none failed, that is as it was
+abbrev pub Counts : ℕ → ℕ → Turn → Type 0
+Counts old new (turn.Unread left) = Rose old new
+Counts old new t = new ≡ old
+
+-- a turn from `run` on: whatever script stood there stands
+-- where the turn leads; and how the tree's count of faults went
+pub record Turned (files : Option Files) (faults faults' : ℕ) (mine mine' : List (Event × Reply)) (purse : Purse) (after : Course) (run : Run) (t : Turn) : Type 0 where
+  pub moves : (whole : Run) (fuel : ℕ) → At files whole fuel mine purse run → After files whole fuel mine' after t
+  pub counts : Counts faults faults' t
+
+-- a turn that makes no event and asks no tree
+abbrev pub Stepped : Purse → Course → Run → Turn → Type 0
+Stepped purse after run t = (files : Option Files) (faults : ℕ) (mine : List (Event × Reply)) → Turned files faults faults mine mine purse after run t
+
+-- a turn that asks the tree
+abbrev pub Looked : Option Files → ℕ → ℕ → Purse → Course → Run → Turn → Type 0
+Looked files faults faults' purse after run t = (mine : List (Event × Reply)) → Turned files faults faults' mine mine purse after run t
+
+-- a file stands there
+abbrev pub IsFileStamp : Stamp → Type 0
+IsFileStamp (stamps.File size) = Unit {0}
+IsFileStamp (stamps.Dir time) = ⊥
+IsFileStamp stamps.Absent = ⊥
+
+-- a turn that makes an event
+abbrev pub Made : List (Event × Reply) → List (Event × Reply) → Purse → Course → Run → Turn → Type 0
+Made mine mine' purse after run t = (files : Option Files) (faults : ℕ) → Turned files faults faults mine mine' purse after run t
+
+-- a turn may be done: it is the script's turn, what is held is known, and its events show all that it asks for
+pub record Stood {S : Type 0} (v : View S) (held : Held) (run : Run) : Type 0 where
+  pub ready : v.ready
+  pub holds : Holds v held
+  pub safe : Safe (shown v.number v.mine) run
+
+-- whatever script stood at what was due stands at what is wanted, if memory was not wanted
+abbrev pub Wants : Course → Due → Course → Result Want NoMemory → Type 0
+Wants old was new r = IfOk r (λ want. Moves old.purse (was old) new want)

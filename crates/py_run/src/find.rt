@@ -1,0 +1,86 @@
+//! Turns that search.
+ghost use Rattle.std.specs.Prelude.{◌≡◌, ℕ, List, IfOk, OnOk, OnErr, IsErrOf, Option};
+ghost use Rattle.find_load.specs.declared.words.In.TheVariants as given;
+ghost use Rattle.machine_events.specs.declared.event.Event.{Event};
+ghost use Rattle.machine_events.specs.declared.event.Reply.{Reply};
+ghost use Rattle.meaning_runs.specs.Runs.{Run};
+ghost use Rattle.py_frames.specs.declared.want.Want.TheVariants as wants;
+ghost use Rattle.drive_port.specs.View.{View, Stays};
+ghost use Rattle.drive_account.specs.Ending.{Holds};
+ghost use Rattle.tree_files.specs.Files.{Files};
+ghost use Rattle.drive_search.specs.Searching.{AfterSought, CountsSought};
+ghost use Rattle.drive_search.specs.Asking.{Parted, Refused, Asked, AllKept};
+ghost use Rattle.py_run.specs.Turns.{Stood, Turned, After, Counts, remains, feeds};
+
+use crate::course::Turn;
+use crate::steps::feed;
+use drive_port::{Halt, Port};
+use drive_search::{Sought, seek};
+use drive_straight::Course;
+use find_load::In;
+use py_frames::Procedure;
+use py_value::Items;
+use spec_core::Dotted;
+use std::alloc::Global;
+use tree_files::Tree;
+
+/// What was found is what the procedure is fed.
+fn found(
+    alloc: Global,
+    course: &mut Course,
+    procedure: Procedure,
+    sought: Sought,
+) -> Result<Turn, Halt>
+    ensures after { IfOk result (λ turn. (files : Option Files) (whole : Run) (fuel : ℕ) (mine : List (Event × Reply))
+        → AfterSought files whole fuel mine course.old.purse
+        (λ answer. feeds course.old procedure (given.Found answer)) sought
+        → After files whole fuel mine course.new turn) }
+    ensures counts { IfOk result (λ turn. (old new : ℕ) → CountsSought old new sought → Counts old new turn) }
+    ensures held { course.new.held ≡ course.old.held }
+    ensures refused { IsErrOf result Halt.Refused → ⊥ }
+{
+    match sought {
+        Sought::Found(answer) => feed(alloc, course, procedure, In::Found(answer)),
+        Sought::Out => {
+            drop(procedure);
+            Ok(Turn::Out)
+        }
+        Sought::Unread(left) => {
+            drop(procedure);
+            Ok(Turn::Unread(left))
+        }
+    }
+}
+
+/// A name is searched on a path.
+pub fn find<P: Port, T: Tree>(
+    alloc: Global,
+    port: &mut P,
+    tree: &mut T,
+    course: &mut Course,
+    name: Dotted,
+    path: Items,
+    procedure: Procedure,
+) -> Result<Turn, Halt>
+    requires stood { Stood (P.view port.old) course.old.held (remains course.old (wants.Find name path procedure)) }
+    ensures stays { Stays (P.view port.old) (P.view port.new) }
+    ensures turned { IfOk result (Turned (T.files tree.old) (T.faults tree.old) (T.faults tree.new)
+        (P.view port.old).mine (P.view port.new).mine course.old.purse course.new
+        (remains course.old (wants.Find name path procedure))) }
+    ensures kept { OnOk result (AllKept (T.lists tree.old) (T.lists tree.new) (P.view port.old).mine
+        (P.view port.new).mine) }
+    ensures holds { OnOk result (Holds (P.view port.new) course.new.held) }
+    ensures part { OnErr result (Parted (T.files tree.old) (P.view port.old).mine
+        (P.view port.new).mine course.old.purse (remains course.old (wants.Find name path procedure))) }
+    ensures refused { IsErrOf result Halt.Refused → Refused (P.view port.new) (T.files tree.old)
+        (P.view port.old).mine course.old.purse (remains course.old (wants.Find name path procedure)) }
+    ensures asked { Asked (T.files tree.old) (T.files tree.new) (T.faults tree.old) (T.faults tree.new) }
+{
+    match seek(port, tree, &mut course.purse, name, path) {
+        Ok(sought) => found(alloc, course, procedure, sought),
+        Err(halt) => {
+            drop(procedure);
+            Err(halt)
+        }
+    }
+}

@@ -1,0 +1,123 @@
+//! Turns that look into the tree.
+ghost use Rattle.std.specs.Prelude.{◌≡◌, ◌≤◌, ℕ, List, IfOk, IsErrOf, IfSome, Option, Some, None, true};
+ghost use Rattle.std.specs.Option.{ForSome};
+ghost use Rattle.tree_files.specs.Count.{Rose};
+ghost use Rattle.tree_files.specs.Files.{Files, IsFileAt};
+ghost use Rattle.meaning_runs.specs.Runs.{Run, Pays, Looks, TextOf};
+ghost use Rattle.find_load.specs.declared.words.In.TheVariants as given;
+ghost use Rattle.meaning_script.specs.Imports.{opens};
+ghost use Rattle.py_frames.specs.declared.want.Want.TheVariants as wants;
+ghost use Rattle.drive_search.specs.Asking.{Asked};
+ghost use Rattle.py_run.specs.Turns.{Looked, IsFileStamp, remains, feeds};
+
+use crate::course::Turn;
+use crate::steps::feed;
+use base_types::TreePath;
+use drive_port::Halt;
+use drive_straight::Course;
+use find_load::In;
+use path_finder::{LoadFault, load_text};
+use py_frames::Procedure;
+use std::alloc::Global;
+use tree_files::{Stamp, Tree, TreeFault};
+
+/// A call of the tree failed: the script stands where it paid for it.
+fn unread(course: &Course) -> Result<Turn, Halt>
+    ensures refused { IsErrOf result Halt.Refused → ⊥ }
+    ensures looked { IfOk result (λ turn. (files : Option Files) (old new : ℕ) (run : Run) → Rose old new
+        → Looked files old new course.now.purse course.now run turn) }
+{
+    match course.purse.read {
+        Some(left) => Ok(Turn::Unread(left)),
+        None => Err(Halt::NoMemory),
+    }
+}
+
+/// The text of a file that stands there, for a unit.
+fn load<T: Tree>(
+    alloc: Global,
+    tree: &mut T,
+    course: &mut Course,
+    path: &TreePath,
+    procedure: Procedure,
+) -> Result<Turn, Halt>
+    requires file { ForSome (T.files tree.old) (λ f. IsFileAt f path.now) }
+    ensures turned { IfOk result (Looked (T.files tree.old) (T.faults tree.old)
+        (T.faults tree.new) course.old.purse course.new (Pays true 1
+        (Looks (TextOf path.now) (λ text. feeds course.old procedure (given.Opened (Some text)))))) }
+    ensures held { course.new.held ≡ course.old.held }
+    ensures refused { IsErrOf result Halt.Refused → ⊥ }
+    ensures asked { Asked (T.files tree.old) (T.files tree.new) (T.faults tree.old) (T.faults tree.new) }
+    ensures lists_stay { T.lists tree.new ≡ T.lists tree.old }
+{
+    if !course.purse.pay(true, 1) {
+        drop(procedure);
+        return Ok(Turn::Out);
+    }
+    match load_text(alloc, tree, path) {
+        Ok(text) => feed(alloc, course, procedure, In::Opened(Some(Some(text)))),
+        Err(LoadFault::TooLong) => feed(alloc, course, procedure, In::Opened(Some(None))),
+        Err(LoadFault::Tree(TreeFault::Failed)) => {
+            drop(procedure);
+            unread(course)
+        }
+        Err(LoadFault::Tree(TreeFault::NoMemory)) => {
+            drop(procedure);
+            Err(Halt::NoMemory)
+        }
+    }
+}
+
+/// The text of a file, if one stands there by what was seen.
+fn seen<T: Tree>(
+    alloc: Global,
+    tree: &mut T,
+    course: &mut Course,
+    path: &TreePath,
+    procedure: Procedure,
+    stamp: Stamp,
+) -> Result<Turn, Halt>
+    requires file { IsFileStamp stamp → ForSome (T.files tree.old) (λ f. IsFileAt f path.now) }
+    ensures turned { IfOk result (Looked (T.files tree.old) (T.faults tree.old)
+        (T.faults tree.new) course.old.purse course.new (opens path.now
+        (feeds course.old procedure (given.Opened None)) (λ text. feeds course.old procedure
+        (given.Opened (Some text))) stamp)) }
+    ensures held { course.new.held ≡ course.old.held }
+    ensures refused { IsErrOf result Halt.Refused → ⊥ }
+    ensures asked { Asked (T.files tree.old) (T.files tree.new) (T.faults tree.old) (T.faults tree.new) }
+    ensures lists_stay { T.lists tree.new ≡ T.lists tree.old }
+{
+    match stamp {
+        Stamp::File(_) => load(alloc, tree, course, path, procedure),
+        Stamp::Dir(_) => feed(alloc, course, procedure, In::Opened(None)),
+        Stamp::Absent => feed(alloc, course, procedure, In::Opened(None)),
+    }
+}
+
+/// The text of a file, if one stands there.
+pub fn file<T: Tree>(
+    alloc: Global,
+    tree: &mut T,
+    course: &mut Course,
+    path: &TreePath,
+    procedure: Procedure,
+) -> Result<Turn, Halt>
+    ensures turned { IfOk result (Looked (T.files tree.old) (T.faults tree.old)
+        (T.faults tree.new) course.old.purse course.new (remains course.old (wants.File path.now procedure))) }
+    ensures held { course.new.held ≡ course.old.held }
+    ensures refused { IsErrOf result Halt.Refused → ⊥ }
+    ensures asked { Asked (T.files tree.old) (T.files tree.new) (T.faults tree.old) (T.faults tree.new) }
+    ensures lists_stay { T.lists tree.new ≡ T.lists tree.old }
+{
+    match tree.stamp(path) {
+        Ok(stamp) => seen(alloc, tree, course, path, procedure, stamp),
+        Err(TreeFault::Failed) => {
+            drop(procedure);
+            unread(course)
+        }
+        Err(TreeFault::NoMemory) => {
+            drop(procedure);
+            Err(Halt::NoMemory)
+        }
+    }
+}
