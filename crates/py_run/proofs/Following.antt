@@ -1,5 +1,5 @@
 -- From where the driver leaves a script, over a recorded list, to where the list parts.
-use Rattle.std.proofs.Common.{◌≡◌, ℕ, List, Bool, Option, Some, None, Result, Ok, Err, IfOk, take, slice_get, refl, sym, subst, ◌∙◌}
+use Rattle.std.proofs.Common.{◌≡◌, ℕ, List, Bool, Option, Some, Result, IfOk, take, slice_get, sym, subst}
 use Rattle.std.proofs.lemmas.Result.{IfOk-weaker}
 use Rattle.tree_files.specs.Files.{Files}
 use Rattle.tree_files.specs.declared.tree.TreeFault.{TreeFault}

@@ -14,7 +14,6 @@ use Rattle.py_frames.specs.declared.want.Want.TheVariants as want
 use Rattle.drive_account.specs.At.{At, IsShort}
 use Rattle.py_run.specs.Turns.{Stepped, remains}
 use Rattle.drive_straight.specs.declared.course.Course.{Course}
-use Rattle.py_run.specs.declared.course.Turn.{Turn}
 use Rattle.py_run.specs.declared.course.Turn.TheVariants as turn
 use Rattle.drive_account.specs.declared.purse.Purse.{Purse}
 

@@ -1,4 +1,4 @@
-use Rattle.std.proofs.Common.{◌≡◌, ◌∙◌, ℕ, List, Err, IfOk, take, refl, ap, subst}
+use Rattle.std.proofs.Common.{◌∙◌, ℕ, List, Err, IfOk, take, refl, ap, subst}
 use Rattle.drive_port.specs.declared.port.Halt.{Halt}
 use Rattle.meaning_runs.specs.Runs.{Run}
 use Rattle.meaning_script.specs.Meaning.{meaning}
@@ -8,7 +8,6 @@ use Rattle.drive_port.specs.Replay.{pairs_of}
 use Rattle.drive_follow.specs.Following.{Answers}
 use Rattle.py_run.specs.Overs.{Overs}
 use Rattle.py_run.specs.declared.drive.Over.{Over}
-use Rattle.py_run.specs.declared.drive.Over.TheVariants as over
 use Rattle.py_run.proofs.Following.{end_shown, still_runs, follow_came, follow_out, follow_refused}
 use Rattle.py_run.proofs.compare.follow.Goals as goal
 

@@ -1,18 +1,15 @@
-use Rattle.std.proofs.Common.{◌≡◌, ◌-◌, ℕ, Option, Some, ◌∙◌, subst}
+use Rattle.std.proofs.Common.{◌≡◌, ◌-◌, ℕ, ◌∙◌, subst}
 use Rattle.std.proofs.lemmas.Result.{IfOk-weaker}
 use Rattle.machine_events.specs.declared.event.Event.TheVariants as ev
 use Rattle.machine_events.specs.declared.event.Reply.TheVariants.{Done}
-use Rattle.tree_files.specs.Files.{Files}
 use Rattle.machine_events.specs.declared.event.Outcome.TheVariants as o
-use Rattle.meaning_runs.specs.Runs.{Run, Stands, StandsIn, IsUnread}
+use Rattle.meaning_runs.specs.Runs.{Run}
 use Rattle.meaning_runs.proofs.Stand.{in_some}
 use Rattle.drive_port.proofs.Staying.{stays_trans}
-use Rattle.drive_account.specs.At.{IsShort}
 use Rattle.drive_account.specs.Ending.{GaveAll, Gave}
 use Rattle.drive_account.proofs.Giving.{lists_grow}
 use Rattle.drive_account.proofs.Meant.{follows_of, broken_in, is_read}
 use Rattle.meaning_script.specs.Meaning.{outcome_of}
-use Rattle.py_run.specs.Turns.{ended}
 use Rattle.py_run.specs.Overs.{Overs, IsUnfailed}
 use Rattle.py_run.specs.Starts.{started}
 use Rattle.py_run.specs.declared.drive.Over.{Over}

@@ -1,15 +1,10 @@
-use Rattle.std.proofs.Common.{◌≡◌, Result, IfOk, refl, sym, subst, ap, ◌∙◌}
-use Rattle.std.proofs.lemmas.Result.{IfOk-weaker}
+use Rattle.std.proofs.Common.{◌≡◌, Result, refl, sym, subst, ap, ◌∙◌}
 use Rattle.base_types.specs.declared.no_memory.NoMemory.{NoMemory}
-use Rattle.meaning_runs.specs.Runs.{Run}
-use Rattle.step_calls.specs.Sources.{sources}
-use Rattle.py_frames.specs.Does.{rest, reply_does}
 use Rattle.py_frames.specs.declared.want.Want.{Want}
 use Rattle.py_frames.specs.declared.want.Want.TheVariants as wants
 use Rattle.drive_straight.specs.Remains.{begins, goes_on}
 use Rattle.py_run.specs.Turns.{remains}
 use Rattle.drive_straight.specs.declared.course.Course.{Course}
-use Rattle.drive_account.specs.declared.purse.Purse.{Purse}
 use Rattle.py_run.proofs.Stepping.{stepped_came, stepped_out}
 use Rattle.py_run.proofs.Leading.{Leads, wanted, leads_by, leads_replied, begins_pushed, comes_on, comes_to, hands_on}
 use Rattle.py_run.proofs.working.work_on.Goals as goal
