@@ -4,3 +4,5 @@ pub mod Seats
 pub mod Gathering
 pub mod Crossing
 pub mod Sharing
+pub mod Turning
+pub mod Playing

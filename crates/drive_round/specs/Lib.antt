@@ -1,2 +1,4 @@
 pub mod Ran
 pub mod Workers
+pub mod Played
+pub mod Solo

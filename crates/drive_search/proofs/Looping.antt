@@ -11,7 +11,7 @@ use Rattle.path_finder.specs.declared.look.Stage.{Stage}
 use Rattle.path_finder.specs.declared.look.Stage.TheVariants as stages
 use Rattle.path_finder.specs.declared.words.Found.{Found}
 use Rattle.path_finder.specs.declared.words.LookIn.{LookIn}
-use Rattle.meaning_search.specs.Searches.{searches_in}
+use Rattle.meaning_script.specs.Searches.{searches_in}
 use Rattle.drive_port.specs.View.{View}
 use Rattle.drive_account.specs.At.{At}
 use Rattle.drive_search.specs.Searching.{Taken, CountsSought, SearchParted, SearchRefused}

@@ -15,8 +15,8 @@ use Rattle.path_finder.specs.declared.words.Found.{Found}
 use Rattle.path_finder.specs.declared.words.LookIn.{LookIn}
 use Rattle.path_finder.specs.declared.words.LookWant.{LookWant}
 use Rattle.path_finder.specs.declared.words.LookWant.TheVariants as wanted
-use Rattle.meaning_search.specs.Searches.{searches_in}
-use Rattle.meaning_search.proofs.Embedding.{reads_stands}
+use Rattle.meaning_script.specs.Searches.{searches_in}
+use Rattle.meaning_script.proofs.Embedding.{reads_stands}
 use Rattle.drive_account.proofs.Giving.{lists_more}
 use Rattle.drive_account.specs.At.{At}
 use Rattle.drive_search.specs.Searching.{MayGive, Given, CountsStep, keeping}

@@ -13,7 +13,7 @@ use Rattle.path_finder.specs.declared.words.Found.{Found}
 use Rattle.path_finder.specs.declared.words.LookIn.{LookIn}
 use Rattle.path_finder.specs.declared.words.LookWant.{LookWant}
 use Rattle.path_finder.specs.declared.words.LookWant.TheVariants as wanted
-use Rattle.meaning_search.specs.Searches.{searches_in}
+use Rattle.meaning_script.specs.Searches.{searches_in}
 use Rattle.drive_port.specs.View.{View}
 use Rattle.drive_account.specs.declared.held.Held.{Held}
 use Rattle.drive_account.specs.Ending.{Holds}

@@ -12,7 +12,7 @@ ghost use Rattle.path_finder.specs.declared.words.Found.{Found};
 ghost use Rattle.path_finder.specs.declared.words.LookIn.{LookIn};
 ghost use Rattle.path_finder.specs.declared.words.LookIn.TheVariants as given;
 ghost use Rattle.path_finder.specs.declared.words.LookWant.TheVariants as wanted;
-ghost use Rattle.meaning_search.specs.Searches.{searches_in, probe_of};
+ghost use Rattle.meaning_script.specs.Searches.{searches_in, probe_of};
 ghost use Rattle.drive_port.specs.View.{View, Stays};
 ghost use Rattle.machine_shown.specs.Shown.{Shown, shown, Running};
 ghost use Rattle.tree_files.specs.Count.{Rose};

@@ -20,10 +20,10 @@ use Rattle.meaning_script.specs.Operators.{Around, eval}
 use Rattle.meaning_script.specs.Pieces.{Piece, Onward, decides, done, gathers, in_order, on_value, passes, pay, sized}
 use Rattle.meaning_script.specs.Statements.{BranchPiece, DefPiece, HandlerPiece, assigns_at, branch_at, def_at, handler_at, looped, performs_at, run, run_all, stmt_at, stmt_operands_at, target_operands_at, turns}
 use Rattle.step_calls.specs.Sources.{sources}
-use Rattle.step_shared.specs.Listing.{is_listed}
-use Rattle.step_shared.proofs.Operands.{unlisted}
-use Rattle.step_shared.proofs.Options.{some_same}
-use Rattle.step_shared.proofs.Places.{order_goes}
+use Rattle.py_frames.specs.Listing.{is_listed}
+use Rattle.py_frames.proofs.Operands.{unlisted}
+use Rattle.py_frames.proofs.Options.{some_same}
+use Rattle.py_frames.proofs.Places.{order_goes}
 use Rattle.py_frames.specs.Does.{Does, Rest, operands_of_stmt, performs, rest, begins as item_begins}
 use Rattle.py_frames.specs.declared.work.Form.TheVariants.{Statement}
 use Rattle.py_frames.specs.declared.want.Want.{Want}

@@ -22,9 +22,9 @@ use Rattle.step_expressions.proofs.Layers.{eval_is}
 use Rattle.step_expressions.proofs.Places.{drop_more, drop_some}
 use Rattle.step_expressions.specs.Forms.{eval_at, eval_call}
 use Rattle.step_expressions.specs.OperatorForms.{is_call}
-use Rattle.step_shared.proofs.Options.{some_same}
-use Rattle.step_shared.proofs.Places.{drop_none, order_goes}
-use Rattle.step_shared.specs.Listing.{is_listed}
+use Rattle.py_frames.proofs.Options.{some_same}
+use Rattle.py_frames.proofs.Places.{drop_none, order_goes}
+use Rattle.py_frames.specs.Listing.{is_listed}
 use Rattle.py_frames.specs.Does.{begun, begun_at, branches, completes, Rest, rest}
 use Rattle.py_frames.specs.declared.work.Form.TheVariants.{Expression, Statement}
 use Rattle.py_frames.specs.declared.want.Want.TheVariants as want

@@ -3,9 +3,9 @@ ghost use Rattle.drive_straight.specs.Remains.{Fresh};
 
 use drive_account::{Held, Purse};
 use meaning_state::{Scope, Stack, State, Thread};
+use py_frames::Work;
 use spec_core::NumberMap;
 use std::alloc::Global;
-use step_stack::Work;
 
 /// What a running script keeps: its budget, what it holds of the machine, what its steps see, and
 /// the work that waits.

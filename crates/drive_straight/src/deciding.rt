@@ -9,10 +9,9 @@ use crate::next::Next;
 use base_owners::Shared;
 use base_types::{NoMemory, Seq};
 use meaning_state::Flow;
-use py_frames::{Frame, Item, Want};
+use py_frames::{Frame, Item, Want, is_listed};
 use py_syntax::{Branch, Expr, Stmt};
 use py_value::{Value, truth};
-use step_shared::is_listed;
 
 /// The test of a loop has a value: its block comes, or its end.
 pub fn decide(

@@ -11,11 +11,10 @@ use crate::paying::afford;
 use base_owners::Shared;
 use base_types::{NoMemory, Seq};
 use meaning_state::Flow;
-use py_frames::{Frame, Item, Want};
+use py_frames::{Frame, Item, Want, is_listed};
 use py_syntax::{Expr, Stmt};
 use py_value::{Value, truth};
 use std::alloc::Global;
-use step_shared::is_listed;
 
 /// A turn whose test has no value at once: its unit is paid, and then the test comes.
 fn begin_test(

@@ -3,7 +3,7 @@ use Rattle.std.specs.Prelude.{◌≡◌, ℕ, List, [], Some, None, Bool, false}
 use Rattle.machine_events.specs.declared.event.Event.TheVariants as e
 use Rattle.meaning_runs.specs.Runs.{Pays, Looks, Makes, StampOf}
 use Rattle.path_finder.specs.Steps.{searches}
-use Rattle.meaning_search.specs.Searches.{searches_in}
+use Rattle.meaning_script.specs.Searches.{searches_in}
 use Rattle.meaning_state.specs.declared.fault.Fault.TheVariants as fault
 use Rattle.meaning_state.specs.declared.flow.Flow.TheVariants.{Went, Left}
 use Rattle.meaning_state.specs.declared.thread.State.{State}

@@ -25,7 +25,7 @@ use Rattle.machine_shown.specs.Knowing.{Has, HasAll, KnowsItems, MayAdd, Enough}
 use Rattle.path_finder.specs.Entries as entries
 use Rattle.path_finder.specs.declared.words.Found.{Found}
 use Rattle.path_finder.specs.declared.words.Found.TheVariants as found
-use Rattle.meaning_search.specs.Searches.{IsNamed}
+use Rattle.meaning_script.specs.Searches.{IsNamed}
 use Rattle.meaning_runs.specs.Runs.{Safe}
 use Rattle.meaning_state.specs.declared.fault.Fault.{Fault}
 use Rattle.meaning_state.specs.declared.fault.Fault.TheVariants as fault

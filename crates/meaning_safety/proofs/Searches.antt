@@ -5,8 +5,8 @@ use Rattle.machine_shown.specs.Shown.{Shown, Running}
 use Rattle.path_finder.specs.Steps.{searches}
 use Rattle.path_finder.specs.declared.words.Found.{Found}
 use Rattle.meaning_runs.specs.Runs.{Run, Safe}
-use Rattle.meaning_search.specs.Searches.{searches_in, IsNamed, Same}
-use Rattle.meaning_search.proofs.Safety.{safe_search}
+use Rattle.meaning_script.specs.Searches.{searches_in, IsNamed, Same}
+use Rattle.meaning_script.proofs.Safety.{safe_search}
 use Rattle.meaning_safety.proofs.Growth.{Fits}
 
 fits_same : (s later : Shown) → Same s later → Fits s later

@@ -14,7 +14,7 @@ use Rattle.machine_shown.specs.Shown.{Shown, Running, Waiting, shown_more, holds
 use Rattle.machine_shown.specs.Knowing.{Has, HasMid}
 use Rattle.path_finder.specs.Steps.{searches}
 use Rattle.path_finder.specs.declared.words.Found.{Found}
-use Rattle.meaning_search.specs.Searches.{searches_in, IsNamed}
+use Rattle.meaning_script.specs.Searches.{searches_in, IsNamed}
 use Rattle.meaning_runs.specs.Runs.{Safe, MayMake, Makes}
 use Rattle.meaning_state.specs.declared.flow.Flow.{Flow}
 use Rattle.meaning_state.specs.declared.flow.Flow.TheVariants.{Went}

@@ -21,7 +21,7 @@ use Rattle.path_finder.specs.Entries as entries
 use Rattle.path_finder.specs.Steps as search
 use Rattle.path_finder.specs.declared.words.Found.{Found}
 use Rattle.path_finder.specs.declared.words.Found.TheVariants as found
-use Rattle.meaning_search.specs.Searches.{searches_in}
+use Rattle.meaning_script.specs.Searches.{searches_in}
 use Rattle.meaning_runs.specs.Runs.{Run, Pays, Looks, Makes, StampOf, TextOf}
 use Rattle.meaning_state.specs.declared.fault.Fault.{Fault}
 use Rattle.meaning_state.specs.declared.fault.Fault.TheVariants as fault

@@ -1,3 +1,4 @@
+pub mod Searches
 pub mod Pieces
 pub mod Names
 pub mod Entries

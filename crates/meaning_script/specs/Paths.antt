@@ -14,7 +14,7 @@ use Rattle.machine_events.specs.declared.event.Reply.TheVariants as r
 use Rattle.machine_events.specs.declared.module.Slot.{Slot}
 use Rattle.machine_events.specs.declared.module.Slot.TheVariants as slots
 use Rattle.path_finder.specs.Steps.{searches}
-use Rattle.meaning_search.specs.Searches.{searches_in}
+use Rattle.meaning_script.specs.Searches.{searches_in}
 use Rattle.namespace_path.specs.Recompute.{recomputed}
 use Rattle.namespace_path.specs.Fresh.{is_fresh}
 use Rattle.meaning_state.specs.declared.fault.Fault.TheVariants as fault

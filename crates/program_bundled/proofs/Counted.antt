@@ -12,7 +12,7 @@ use Rattle.machine_shown.specs.Own.{own}
 use Rattle.meaning_runs.specs.Runs.{Run}
 use Rattle.meaning_solo.specs.Made.{Turn}
 use Rattle.drive_account.proofs.Meant.{broken_by}
-use Rattle.drive_rounds.specs.Solo.{HasCause, HaveCauses}
+use Rattle.drive_round.specs.Solo.{HasCause, HaveCauses}
 use Rattle.import_words.specs.Words.{Word}
 use Rattle.import_words.specs.Plans.{plan_of}
 use Rattle.import_words.specs.declared.plan.Plan.TheVariants as plans

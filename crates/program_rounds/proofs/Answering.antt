@@ -21,7 +21,7 @@ use Rattle.import_words.specs.Plans.{plan_of}
 use Rattle.import_words.specs.declared.plan.Plan.{Plan}
 use Rattle.import_words.specs.declared.plan.Plan.TheVariants as plans
 use Rattle.import_words.specs.declared.plan.RunPlan.{RunPlan}
-use Rattle.drive_rounds.specs.Solo.{HasCause, HaveCauses}
+use Rattle.drive_round.specs.Solo.{HasCause, HaveCauses}
 use Rattle.program_run.specs.Statuses.{sink_fault, want_of_memory}
 use Rattle.program_run.specs.Answers.{run_if}
 use Rattle.program_run.specs.Alone.{Means, setting}

@@ -12,7 +12,7 @@ use Rattle.machine_laws.specs.Begun.{HaveScripts}
 use Rattle.machine_book.specs.Bound.{CanOpen}
 use Rattle.machine_book.specs.declared.opening.Opening.{Opening}
 use Rattle.import_words.specs.Words.{Word}
-use Rattle.drive_rounds.specs.Played.{AreShort}
+use Rattle.drive_round.specs.Played.{AreShort}
 use Rattle.program_run.specs.Results.{Came}
 use Rattle.program_rounds.specs.Rounds.{AreBelowRoot, AreFew, AreSingle, CanRun, scripts_of, sizes_of, edits_of}
 

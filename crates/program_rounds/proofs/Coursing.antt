@@ -33,8 +33,8 @@ use Rattle.drive_account.specs.declared.end.Ending.{Ending}
 use Rattle.drive_account.specs.Ending.{outcome}
 use Rattle.drive_account.proofs.Meant.{if_meant_none, if_broken_none, broken_first}
 use Rattle.drive_round.specs.Ran.{Counts, counted, no_counts, IsNewTree, Pairs, Ran, Results, Runs, AllRan, MayBegin, ThreadsRan}
-use Rattle.drive_rounds.specs.Played.{NoneBegan}
-use Rattle.drive_rounds.proofs.Playing.{has_ended}
+use Rattle.drive_round.specs.Played.{NoneBegan}
+use Rattle.drive_round.proofs.Playing.{has_ended}
 use Rattle.trace_book.specs.Views.{AllWithin, Within, base_of}
 use Rattle.trace_book.specs.declared.view.Base.{Base}
 use Rattle.import_words.specs.Words.{Word}

@@ -27,9 +27,9 @@ use Rattle.meaning_solo.proofs.Alone.{alone_by}
 use Rattle.drive_account.specs.Ending.{Broken, IsRead}
 use Rattle.drive_account.proofs.Meant.{if_meant_none, if_broken_none}
 use Rattle.drive_round.specs.Ran.{Ran, RanOver, Counts, counted, no_counts, Runs, AllRan}
-use Rattle.drive_rounds.specs.Played.{AllPlayed, none, more}
-use Rattle.drive_rounds.specs.Solo as drive
-use Rattle.drive_rounds.proofs.Turning.{is_run}
+use Rattle.drive_round.specs.Played.{AllPlayed, none, more}
+use Rattle.drive_round.specs.Solo as drive
+use Rattle.drive_round.proofs.Turning.{is_run}
 use Rattle.words_rounds.specs.declared.rounds.Round.{Round}
 use Rattle.import_words.specs.declared.plan.RunPlan.{RunPlan}
 use Rattle.program_run.specs.Statuses.{sink_fault, want_of_memory}

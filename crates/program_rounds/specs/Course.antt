@@ -15,7 +15,7 @@ use Rattle.machine_shown.specs.Own.{own}
 use Rattle.meaning_runs.specs.Runs.{Run}
 use Rattle.drive_account.specs.declared.end.Ending.{Ending}
 use Rattle.drive_round.specs.Ran.{Counts, no_counts, Ran, Results, Runs, MayBegin, ThreadsRan}
-use Rattle.drive_rounds.specs.Played.{NoneBegan}
+use Rattle.drive_round.specs.Played.{NoneBegan}
 use Rattle.program_run.specs.Alone.{Means}
 use Rattle.program_run.specs.Results.{AreWhole}
 use Rattle.program_rounds.specs.Rounds.{scripts_of, told_in}

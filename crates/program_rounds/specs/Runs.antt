@@ -20,7 +20,7 @@ use Rattle.program_run.specs.Results.{EachHasEnd}
 use Rattle.program_run.specs.Runs.{Finished, finished}
 use Rattle.program_run.specs.Together.{Acts, terms, AllActOn}
 use Rattle.program_run.specs.declared.report.Left.{Left}
-use Rattle.drive_rounds.specs.Solo.{AreTurns, HaveCauses}
+use Rattle.drive_round.specs.Solo.{AreTurns, HaveCauses}
 use Rattle.program_rounds.specs.Rounds.{AreSingle, scripts_of, trees_of, told_in, opening_in}
 
 -- what scripts of these texts mean, whatever their numbers

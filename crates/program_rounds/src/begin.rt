@@ -2,7 +2,7 @@
 ghost use Rattle.std.specs.Prelude.{◌≡◌, ◌≤◌, [], ◌++◌, ℕ, IfOk, OnOk, length, map};
 ghost use Rattle.machine_book.specs.Bound.{opened, CanOpen};
 ghost use Rattle.program_run.specs.Together.{Mean};
-ghost use Rattle.drive_rounds.specs.Played.{AreShort};
+ghost use Rattle.drive_round.specs.Played.{AreShort};
 ghost use Rattle.program_rounds.specs.Rounds.{AreFew, AreSingle, CanRun, edits_of, opening_in, scripts_of, sizes_of};
 
 use base_types::{Exact, NoMemory, Seq, Text, Texts};

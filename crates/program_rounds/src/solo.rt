@@ -5,13 +5,13 @@ ghost use Rattle.machine_spec.specs.Legal.{IsLegal};
 ghost use Rattle.machine_book.specs.Bound.{opened, CanOpen};
 ghost use Rattle.machine_desk.specs.Outgo.{Kept};
 ghost use Rattle.program_run.specs.Sinks.{at, moment, Passes};
-ghost use Rattle.drive_rounds.specs.Played.{AllPlayed, AreShort};
+ghost use Rattle.drive_round.specs.Played.{AllPlayed, AreShort};
 ghost use Rattle.program_rounds.specs.Rounds.{AreBelowRoot, AreFew, AreSingle, sizes_of};
 ghost use Rattle.program_rounds.specs.Runs.{Gives};
 
 use crate::begin::{Begun, begin, edits_of, scripts_of};
 use base_types::Seq;
-use drive_rounds::play_rounds;
+use drive_round::play_rounds;
 use import_words::{Round, RunPlan};
 use machine_book::Book;
 use machine_desk::Outlet;

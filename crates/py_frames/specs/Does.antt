@@ -37,7 +37,7 @@ use Rattle.reload_lazy.specs.Reload.{means as reload_means}
 use Rattle.run_module.specs.Means.{means as program_means}
 use Rattle.run_module.specs.Programs.{program_inside}
 use Rattle.path_finder.specs.Steps.{searches}
-use Rattle.meaning_search.specs.Searches.{searches_in}
+use Rattle.meaning_script.specs.Searches.{searches_in}
 use Rattle.spec_core.specs.Relative.{resolved}
 use Rattle.find_load.specs.Means.{means}
 use Rattle.find_load.specs.declared.words.In.{In}

@@ -11,10 +11,9 @@ use drive_port::Halt;
 use drive_straight::Course;
 use find_load::In;
 use meaning_state::Flow;
-use py_frames::{Frame, Procedure};
+use py_frames::{Frame, Procedure, Work};
 use std::alloc::Global;
 use step_dispatch::fed;
-use step_stack::Work;
 
 /// What waits for a way on: no frame, or the first one that it does not pass.
 pub fn next_frame(work: &mut Work, flow: &Flow) -> Option<Frame>

@@ -1,7 +1,7 @@
 -- Lists of exactly so many items.
 use Rattle.std.proofs.Common.{◌≡◌, List, [], ◌∷◌, Some, sym, ap}
 use Rattle.std.proofs.lemmas.Option.{same_Some}
-use Rattle.step_shared.specs.Few.{only}
+use Rattle.py_frames.specs.Few.{only}
 
 pub only_is : {X : Type 0} (xs : List X) (x : X) → Some x ≡ only xs → xs ≡ x ∷ []
 only_is [] x is = cc

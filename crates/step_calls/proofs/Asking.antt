@@ -4,7 +4,7 @@ use Rattle.py_value.specs.declared.value.Value.{Value}
 use Rattle.meaning_script.specs.Calls.{hasattr_call, getattr_call}
 use Rattle.meaning_script.specs.Meaning.{World}
 use Rattle.step_calls.specs.Around.{access_at}
-use Rattle.step_shared.specs.Few.{pair}
+use Rattle.py_frames.specs.Few.{pair}
 use Rattle.step_calls.specs.Asking.{asks_whether, asks_for, asks_or}
 
 pub hasattr_is : (w : World) (d : ℕ) (vs : List Value) → hasattr_call (access_at w d) vs ≡ asks_whether w d (pair vs)

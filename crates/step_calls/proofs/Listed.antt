@@ -17,7 +17,7 @@ use Rattle.meaning_state.specs.declared.thread.Thread.{Thread}
 use Rattle.meaning_script.specs.Pieces.{Piece, calls, as_list, lists_at, listed, all_listed}
 use Rattle.meaning_script.specs.Calls.{calls_native}
 use Rattle.meaning_script.specs.Meaning.{World, functions_at, calls_at, calls_value}
-use Rattle.step_shared.specs.Listing.{is_listed_at, is_listed, first_listed}
+use Rattle.py_frames.specs.Listing.{is_listed_at, is_listed, first_listed}
 use Rattle.step_calls.specs.Around.{loading_at}
 use Rattle.py_frames.specs.Does.{Does, pieces}
 use Rattle.py_frames.specs.declared.want.Want.{Want}

@@ -2,7 +2,7 @@
 ghost use Rattle.std.specs.Prelude.{◌≡◌, IfOk};
 ghost use Rattle.meaning_script.specs.Calls as spec;
 ghost use Rattle.step_calls.specs.Around.{access_at};
-ghost use Rattle.step_shared.specs.Few.{pair};
+ghost use Rattle.py_frames.specs.Few.{pair};
 ghost use Rattle.step_calls.specs.Asking.{asks_for, asks_or, asks_whether};
 ghost use Rattle.py_frames.specs.Unwind.{is_missing};
 ghost use Rattle.py_frames.specs.Does.{Does, pieces, goes_on};
@@ -10,10 +10,9 @@ ghost use Rattle.py_frames.specs.declared.work.Frame.TheVariants as frames;
 
 use base_types::{NoMemory, Seq};
 use meaning_state::{Fault, Flow, Leave, Thread};
-use py_frames::{Frame, Item, Want};
+use py_frames::{Frame, Item, Want, fail, pair};
 use py_value::{Kind, Native, Value};
 use std::alloc::Global;
-use step_shared::{fail, pair};
 
 /// Whether there is an attribute, by an object and a name.
 fn whether(alloc: Global, thread: &Thread, values: Seq<Value>) -> Result<Want, NoMemory>

@@ -11,11 +11,10 @@ use crate::parsing::parsing_of;
 use base_owners::Boxed;
 use base_types::{NoMemory, Seq, Text};
 use meaning_state::{Fault, Flow, Leave, Parsing, Scope, Source, Thread};
-use py_frames::{Frame, Item, Want};
+use py_frames::{Frame, Item, Want, fail};
 use source_functions::Program;
 use std::alloc::Global;
 use std::mem;
-use step_shared::fail;
 
 /// A text costs a unit for each whole 64 bytes.
 const BYTES_OF_A_UNIT: usize = 64;

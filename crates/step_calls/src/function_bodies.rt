@@ -10,10 +10,9 @@ use crate::sourced;
 use base_types::{NoMemory, Seq};
 use machine_events::Reply;
 use meaning_state::{Fault, Thread};
-use py_frames::Want;
+use py_frames::{Want, fail};
 use py_value::{ModRef, Value};
 use std::alloc::Global;
-use step_shared::fail;
 
 /// The text that a reply brings, and its module.
 fn text_in(reply: Reply) -> Option<(ModRef, Seq<u8>)>

@@ -13,12 +13,11 @@ use base_owners::{Boxed, Shared};
 use base_types::{Exact, NoMemory, Seq, Text};
 use machine_events::Event;
 use meaning_state::{Fault, Flow, FunctionScope, Leave, Locals, Parsing, Scope, Source, Thread};
-use py_frames::{Frame, Item, OnReply, Want};
+use py_frames::{Frame, Item, OnReply, Want, fail};
 use py_value::{ModRef, Value};
 use source_functions::{Function, Program};
 use std::alloc::Global;
 use std::mem;
-use step_shared::fail;
 
 /// The first of the parameters takes a value. What is left of them.
 fn bind<'a>(names: &'a [Text], value: Value, locals: &mut Locals) -> Result<&'a [Text], NoMemory>

@@ -9,10 +9,9 @@ use crate::operands::call_listed;
 use crate::values::{give, text_of};
 use base_types::{NoMemory, Seq, Text};
 use meaning_state::{Fault, Thread};
-use py_frames::Want;
+use py_frames::{Want, fail, is_listed, only, went};
 use py_value::{Applied, Kind, Raised, Value};
 use std::alloc::Global;
-use step_shared::{fail, is_listed, only, went};
 use value_operators::{repr_of, str_of};
 
 /// An error of the kind with the text.

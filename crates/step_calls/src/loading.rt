@@ -9,12 +9,11 @@ use base_types::{NoMemory, Seq, Text};
 use find_load::In;
 use machine_events::Event;
 use meaning_state::{Fault, Thread};
-use py_frames::{Item, OnReply, Procedure, Want};
+use py_frames::{Item, OnReply, Procedure, Want, fail, only};
 use py_value::{ModRef, Native, Value};
 use reload_lazy::Reloader;
 use spec_core::Dotted;
 use std::alloc::Global;
-use step_shared::{fail, only};
 
 /// The kept listings are dropped (`importlib.invalidate_caches`).
 pub fn invalidate(alloc: Global, thread: &Thread, values: &Seq<Value>) -> Result<Want, NoMemory>

@@ -3,7 +3,7 @@ ghost use Rattle.std.specs.Prelude.{◌≡◌, Some, IfOk};
 ghost use Rattle.meaning_script.specs.Calls as spec;
 ghost use Rattle.meaning_script.specs.Pieces.{all_listed, listed};
 ghost use Rattle.step_calls.specs.Around.{calls_built_in, gives_length, gives_repr, gives_str, prints_all};
-ghost use Rattle.step_shared.specs.Listing.{first_listed};
+ghost use Rattle.py_frames.specs.Listing.{first_listed};
 ghost use Rattle.py_frames.specs.Does.{Does, pieces};
 
 use crate::attributes::{get_attribute, has_attribute};
@@ -13,10 +13,9 @@ use crate::print::print;
 use crate::values::give;
 use base_types::{Exact, NoMemory, Seq, Text, Wide};
 use meaning_state::{Fault, Thread};
-use py_frames::{Item, Want};
+use py_frames::{Item, Want, fail, first_listed, is_listed, list_operand, only, went};
 use py_value::{Native, Value, type_of};
 use std::alloc::Global;
-use step_shared::{fail, first_listed, is_listed, list_operand, only, went};
 use value_operators::{length_of, repr_of, str_of};
 
 /// `print` of values that are operands.

@@ -2,15 +2,14 @@
 ghost use Rattle.std.specs.Prelude.{◌≡◌, IfOk, true};
 ghost use Rattle.meaning_script.specs.Pieces.{listed};
 ghost use Rattle.step_calls.specs.Around.{calls_with_one};
-ghost use Rattle.step_shared.specs.Listing.{is_listed};
+ghost use Rattle.py_frames.specs.Listing.{is_listed};
 ghost use Rattle.py_frames.specs.Does.{Does, pieces};
 
 use base_types::{Exact, NoMemory, Seq};
 use meaning_state::Thread;
-use py_frames::{Item, Want};
+use py_frames::{Item, Want, list_operand};
 use py_value::Value;
 use std::alloc::Global;
-use step_shared::list_operand;
 
 /// What is called has this one argument, in whose place a list comes or which is none; then it is called
 /// with that.

@@ -9,10 +9,9 @@ use crate::values::text_of;
 use base_types::{NoMemory, Text};
 use machine_events::Event;
 use meaning_state::{Fault, Flow, Leave, Thread};
-use py_frames::{OnReply, Want};
+use py_frames::{OnReply, Want, fail};
 use py_value::{Applied, Raised, Value};
 use std::alloc::Global;
-use step_shared::fail;
 use value_operators::{MOST_TEXT, str_of};
 
 /// Puts a text behind a blank.

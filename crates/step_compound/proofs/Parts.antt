@@ -6,7 +6,7 @@ use Rattle.meaning_script.specs.Pieces.{Piece, Onward, on_value, passes, in_orde
 use Rattle.meaning_script.specs.Operators.{Around, eval}
 use Rattle.meaning_script.specs.Statements.{BranchPiece, tests, run_all}
 use Rattle.py_frames.specs.Does.{branches, decides_some}
-use Rattle.step_shared.proofs.Places.{drop_none, drop_some}
+use Rattle.py_frames.proofs.Places.{drop_none, drop_some}
 use Rattle.step_compound.proofs.Forms.{branch_is}
 
 -- the pieces from a place on, where there is none

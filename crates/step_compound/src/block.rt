@@ -12,11 +12,10 @@ use crate::loops::most;
 use base_owners::Shared;
 use base_types::{Exact, NoMemory, Seq};
 use meaning_state::{Fault, Flow, Thread};
-use py_frames::{Form, Frame, Item, Want};
+use py_frames::{Form, Frame, Item, Want, fail, went};
 use py_syntax::{Expr, Stmt};
 use py_value::Value;
 use std::alloc::Global;
-use step_shared::{fail, went};
 
 /// The statements of a block from a place on.
 pub fn begin_block(thread: &Thread, stmts: Shared<Seq<Stmt>>, at: usize) -> Result<Want, NoMemory>

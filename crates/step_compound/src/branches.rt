@@ -2,8 +2,8 @@
 ghost use Rattle.std.specs.Prelude.{◌≡◌, ◌<◌, IfOk, length, true};
 ghost use Rattle.meaning_script.specs.Meaning.{around_at};
 ghost use Rattle.meaning_state.specs.declared.flow.Flow.TheVariants.{Went};
-ghost use Rattle.step_shared.specs.Listing.{is_listed};
-ghost use Rattle.step_shared.specs.Acts.{acts};
+ghost use Rattle.py_frames.specs.Listing.{is_listed};
+ghost use Rattle.py_frames.specs.Acts.{acts};
 ghost use Rattle.step_compound.specs.Known.{behind, picked};
 ghost use Rattle.py_frames.specs.Does.{Does, begins, goes_on, pieces};
 ghost use Rattle.py_frames.specs.declared.work.Frame.TheVariants as frames;
@@ -12,11 +12,10 @@ ghost use Rattle.py_frames.specs.declared.work.Item.TheVariants as items;
 use base_owners::Shared;
 use base_types::{NoMemory, Seq};
 use meaning_state::{Fault, Flow, Thread};
-use py_frames::{Frame, Item, Want};
+use py_frames::{Frame, Item, Want, fail, is_cache, is_listed};
 use py_syntax::{Branch, Stmt};
 use py_value::{Value, truth};
 use std::alloc::Global;
-use step_shared::{fail, is_cache, is_listed};
 
 /// The branches of an `if` from a place on: the test of the first, or the block of `else`.
 pub fn begin_branches(

@@ -4,7 +4,7 @@ ghost use Rattle.meaning_script.specs.Meaning.{around_at};
 ghost use Rattle.py_frames.specs.Does.{Does, begins, catches_from, goes_on, pieces};
 ghost use Rattle.py_frames.specs.declared.work.Frame.TheVariants as frames;
 ghost use Rattle.py_frames.specs.declared.work.Item.TheVariants as items;
-ghost use Rattle.step_shared.specs.Listing.{is_listed};
+ghost use Rattle.py_frames.specs.Listing.{is_listed};
 ghost use Rattle.meaning_state.specs.declared.flow.Flow.TheVariants.{Went};
 ghost use Rattle.step_compound.specs.Parts.{chosen_at, handles_by};
 
@@ -13,11 +13,10 @@ use crate::kinds::takes;
 use base_owners::Shared;
 use base_types::{Exact, NoMemory, Seq};
 use meaning_state::{Fault, Flow, Leave, Thread};
-use py_frames::{Frame, Item, Want};
+use py_frames::{Frame, Item, Want, fail, is_listed};
 use py_syntax::Handler;
 use py_value::{Raised, Value};
 use std::alloc::Global;
-use step_shared::{fail, is_listed};
 
 /// The handlers of an error from a place on: the kinds that the first one names, if it names any. An error that no handler
 /// takes goes on.

@@ -7,10 +7,9 @@ ghost use Rattle.py_frames.specs.declared.work.Item.TheVariants as items;
 use base_owners::Shared;
 use base_types::{NoMemory, Seq, Text};
 use meaning_state::{Flow, Thread};
-use py_frames::{Frame, Item, Want};
+use py_frames::{Frame, Item, Want, went};
 use py_syntax::Stmt;
 use py_value::Value;
-use step_shared::went;
 
 /// How many modules a statement imports.
 fn alias_count(stmts: &Seq<Stmt>, at: usize) -> usize

@@ -3,7 +3,7 @@ ghost use Rattle.std.specs.Prelude.{◌≡◌, IfOk, true};
 ghost use Rattle.meaning_script.specs.Pieces.{most};
 ghost use Rattle.meaning_script.specs.Meaning.{around_at};
 ghost use Rattle.meaning_state.specs.declared.flow.Flow.TheVariants.{Went};
-ghost use Rattle.step_shared.specs.Listing.{is_listed};
+ghost use Rattle.py_frames.specs.Listing.{is_listed};
 ghost use Rattle.step_compound.specs.Known.{loops};
 ghost use Rattle.py_frames.specs.Does.{Does, begins, goes_on, pieces};
 ghost use Rattle.py_frames.specs.declared.work.Frame.TheVariants as frames;
@@ -12,11 +12,10 @@ ghost use Rattle.py_frames.specs.declared.work.Item.TheVariants as items;
 use base_owners::Shared;
 use base_types::{NoMemory, Seq};
 use meaning_state::{Fault, Flow, Leave, Thread};
-use py_frames::{Frame, Item, Want};
+use py_frames::{Frame, Item, Want, fail, is_cache, is_listed};
 use py_syntax::{Expr, Stmt};
 use py_value::{Value, truth};
 use std::alloc::Global;
-use step_shared::{fail, is_cache, is_listed};
 
 /// No loop can have more turns, and no payment have more units, since each unit is one of a budget of 64 bits.
 pub fn most() -> u64

@@ -9,11 +9,10 @@ ghost use Rattle.step_compound.specs.Parts.{behind, meets};
 use base_owners::Shared;
 use base_types::{NoMemory, Seq};
 use meaning_state::{Fault, Flow, Leave, Thread};
-use py_frames::{Frame, Item, Want};
+use py_frames::{Frame, Item, Want, fail};
 use py_syntax::{Handler, Stmt};
 use py_value::{Kind, Raised};
 use std::alloc::Global;
-use step_shared::fail;
 
 /// A `try` without its `finally` block: its first block comes.
 pub fn begin_try(

@@ -5,11 +5,10 @@ ghost use Rattle.py_frames.specs.declared.work.Item.TheVariants as items;
 
 use base_types::{NoMemory, Seq};
 use meaning_state::{Fault, Thread};
-use py_frames::Want;
+use py_frames::{Want, fail};
 use py_value::{Value, type_of};
 use std::alloc::Global;
 use step_calls::{call_function, call_kind, call_native};
-use step_shared::fail;
 
 /// A value is called.
 pub fn call(

@@ -10,7 +10,7 @@ use Rattle.meaning_state.specs.declared.thread.State.{State}
 use Rattle.meaning_script.specs.Pieces.{Piece, Onward, pay, on_value, gives, sized, gathers, applied_on, operates}
 use Rattle.meaning_script.specs.Names.{member}
 use Rattle.meaning_script.specs.Operators.{Around, Part, expr_at, part_at, attribute_at, does_of, calls_part, eval, displayed, applies_at, operands_at, calls_first}
-use Rattle.step_shared.proofs.Options.{some_same}
+use Rattle.py_frames.proofs.Options.{some_same}
 use Rattle.step_expressions.specs.Forms.{eval_at, eval_call, left_of, object_of, callee_object, attribute_in, arguments_in, is_atom}
 
 abbrev part : Around → Expr → Part

@@ -13,11 +13,11 @@ use Rattle.py_syntax.specs.declared.expr.Expr.TheOpen.{Expr-F}
 use Rattle.meaning_script.specs.Pieces.{Piece, gives, listed, all_listed, with_one, with_two}
 use Rattle.meaning_script.specs.Entries.{reads_entry, has_entry}
 use Rattle.meaning_script.specs.Operators.{Around, operator_of, compared, gives_item, subscripts_at, subscripts, compares_values, compares_in, compares, applies_at}
-use Rattle.step_shared.specs.Few.{is_cache_at, is_cache}
-use Rattle.step_shared.specs.Listing.{first_listed}
-use Rattle.step_shared.proofs.Operands.{list_is_itself, listed_same, all_unlisted, all_first, first_is_listed}
+use Rattle.py_frames.specs.Few.{is_cache_at, is_cache}
+use Rattle.py_frames.specs.Listing.{first_listed}
+use Rattle.py_frames.proofs.Operands.{list_is_itself, listed_same, all_unlisted, all_first, first_is_listed}
 use Rattle.step_expressions.specs.OperatorForms.{one_of, two_of, by_one, by_two, item_of, told, inverse_of, given_at, place_of_one, place_in_item, place_of_two, place_in_cache, place_compared, place_at}
-use Rattle.step_shared.proofs.Options.{some_same}
+use Rattle.py_frames.proofs.Options.{some_same}
 use Rattle.step_expressions.proofs.OperatorLayers.{one_is, two_is}
 
 -- ---- operands that stand for themselves

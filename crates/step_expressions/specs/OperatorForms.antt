@@ -20,8 +20,8 @@ use Rattle.meaning_script.specs.Names.{member, stores}
 use Rattle.meaning_script.specs.Entries.{reads_entry, has_entry}
 use Rattle.meaning_script.specs.Operators.{Around, operator_of, compared, displayed, gives_item, calls_first}
 use Rattle.meaning_script.specs.Meaning.{World}
-use Rattle.step_shared.specs.Few.{is_cache}
-use Rattle.step_shared.specs.Listing.{first_listed}
+use Rattle.py_frames.specs.Few.{is_cache}
+use Rattle.py_frames.specs.Listing.{first_listed}
 use Rattle.py_frames.specs.Does.{Rest, pieces}
 
 -- a piece whose value pays its size

@@ -14,11 +14,10 @@ use crate::values::{has_special, one, two};
 use base_owners::Shared;
 use base_types::{Exact, NoMemory, Seq, Text};
 use meaning_state::{Fault, Flow, Leave, Thread};
-use py_frames::{Frame, Item, Want};
+use py_frames::{Frame, Item, Want, fail, given, is_cache, is_namespace_path, list_operand, sized};
 use py_syntax::{BinaryOp, Comparison, Expr};
 use py_value::{Applied, BinOp, CmpOp, Value, truth};
 use std::alloc::Global;
-use step_shared::{fail, given, is_cache, is_namespace_path, list_operand, sized};
 use value_operators::{
     binary, compare, contains, identical, limited, negate, not_in_profile, subscript,
 };

@@ -2,7 +2,7 @@
 ghost use Rattle.std.specs.Prelude.{◌≡◌, IfOk, [], ◌∷◌, Some};
 ghost use Rattle.value_operators.specs.Arithmetic as arithmetic;
 ghost use Rattle.meaning_script.specs.Operators as spec;
-ghost use Rattle.step_shared.specs.Listing.{first_listed};
+ghost use Rattle.py_frames.specs.Listing.{first_listed};
 ghost use Rattle.step_expressions.specs.OperatorForms.{augmented_by, by_two, two_of};
 ghost use Rattle.py_frames.specs.Does.{Does, pieces, begins};
 ghost use Rattle.py_frames.specs.declared.work.Item.TheVariants as items;
@@ -11,11 +11,10 @@ use crate::applying::operator_of;
 use crate::values::two;
 use base_types::{Exact, NoMemory, Seq, Text};
 use meaning_state::{Fault, Flow, Leave, Thread};
-use py_frames::{Item, Want};
+use py_frames::{Item, Want, fail, first_listed, list_operand};
 use py_syntax::BinaryOp;
 use py_value::{Applied, Value, size};
 use std::alloc::Global;
-use step_shared::{fail, first_listed, list_operand};
 use value_operators::augmented;
 
 /// An augmented assignment on its two values.

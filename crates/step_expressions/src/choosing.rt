@@ -2,7 +2,7 @@
 ghost use Rattle.std.specs.Prelude.{◌≡◌, ◌&&◌, IfOk, [], ◌∷◌, true};
 ghost use Rattle.py_syntax.specs.declared.expr.Expr.{out-Expr};
 ghost use Rattle.meaning_script.specs.Meaning.{around_at};
-ghost use Rattle.step_shared.specs.Listing.{is_listed};
+ghost use Rattle.py_frames.specs.Listing.{is_listed};
 ghost use Rattle.step_expressions.specs.Forms as spec;
 ghost use Rattle.py_frames.specs.Does.{Does, pieces, begins, goes_on};
 ghost use Rattle.py_frames.specs.declared.work.Item.TheVariants as items;
@@ -11,11 +11,10 @@ ghost use Rattle.py_frames.specs.declared.work.Frame.TheVariants as frames;
 use base_owners::Shared;
 use base_types::NoMemory;
 use meaning_state::{Fault, Flow, Thread};
-use py_frames::{Frame, Item, Want};
+use py_frames::{Frame, Item, Want, fail, is_listed, list_operand, sized};
 use py_syntax::Expr;
 use py_value::{Value, truth};
 use std::alloc::Global;
-use step_shared::{fail, is_listed, list_operand, sized};
 
 /// The right operand of `and`, where the left one does not decide.
 fn conjoin(thread: &Thread, right: &Shared<Expr>, left: Value) -> Result<Want, NoMemory>

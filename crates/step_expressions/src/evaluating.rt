@@ -11,12 +11,11 @@ use crate::gathering::operands;
 use base_owners::Shared;
 use base_types::{Exact, NoMemory, Seq, Wide};
 use meaning_state::{Fault, Thread};
-use py_frames::{Form, Frame, Item, Want};
+use py_frames::{Form, Frame, Item, Want, fail, given};
 use py_syntax::Expr;
 use py_value::{Applied, Value};
 use std::alloc::Global;
 use step_names::read_name;
-use step_shared::{fail, given};
 use value_operators::limited;
 
 /// An atom's unit is paid, and then its value is looked for.

@@ -4,9 +4,9 @@ ghost use Rattle.py_syntax.specs.declared.expr.Expr.{out-Expr};
 ghost use Rattle.step_expressions.specs.OperatorForms as spec;
 
 use base_types::Seq;
+use py_frames::{first_listed, is_cache};
 use py_syntax::{Comparison, Expr};
 use py_value::Value;
-use step_shared::{first_listed, is_cache};
 
 fn place_of_one(values: &Seq<Value>) -> Option<usize>
     ensures { result ≡ spec.place_of_one values.now }

@@ -8,9 +8,8 @@ ghost use Rattle.py_frames.specs.declared.work.Frame.TheVariants as frames;
 
 use base_types::Seq;
 use meaning_state::{Flow, Thread};
-use py_frames::Want;
+use py_frames::{Want, sized};
 use py_value::Value;
-use step_shared::sized;
 
 /// Whether a value stands for something in the machine.
 pub fn is_special(value: &Value) -> bool

@@ -15,7 +15,7 @@ use Rattle.meaning_state.specs.declared.thread.Thread.{Thread}
 use Rattle.meaning_script.specs.Meaning.{World}
 use Rattle.py_frames.specs.declared.want.Want.{Want}
 use Rattle.py_frames.specs.Does.{Does, Rest, fronts_parts, fronts_some, binds_parts, binds_some_import, follows_some}
-use Rattle.step_shared.proofs.Places.{drop_none, drop_some}
+use Rattle.py_frames.proofs.Places.{drop_none, drop_some}
 use Rattle.step_from.specs.Parts.{front_of}
 
 -- ---- pieces in order

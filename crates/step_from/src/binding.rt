@@ -11,11 +11,10 @@ use crate::places::item_at;
 use base_owners::Shared;
 use base_types::{Exact, NoMemory, Seq};
 use meaning_state::{Fault, Flow, Thread};
-use py_frames::{Frame, Item, Want};
+use py_frames::{Frame, Item, Want, fail, went};
 use py_syntax::{Alias, ImportedNames, Stmt};
 use py_value::{ModRef, Value};
 use std::alloc::Global;
-use step_shared::{fail, went};
 
 /// The items of a list are bound, once the submodules that they name are asked for.
 pub fn import_items(

@@ -12,11 +12,10 @@ use crate::places::{alias_at, front_at};
 use base_owners::Shared;
 use base_types::{Exact, NoMemory, Seq, Text};
 use meaning_state::{Fault, Flow, Thread};
-use py_frames::{Frame, Item, Want};
+use py_frames::{Frame, Item, Want, fail};
 use py_syntax::{Alias, Stmt};
 use py_value::Value;
 use std::alloc::Global;
-use step_shared::fail;
 
 /// The import of a module, with its binding.
 fn import_alias(

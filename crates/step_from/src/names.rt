@@ -3,8 +3,8 @@ ghost use Rattle.std.specs.Prelude.{◌≡◌, ◌∷◌, ◌++◌, ◌+◌, ◌
 ghost use Rattle.meaning_script.specs.ImportStatements as spec;
 
 use base_types::{Exact, NoMemory, Seq, Text, Texts};
+use py_frames::put_part;
 use py_syntax::Alias;
-use step_shared::put_part;
 
 /// A name with more parts behind it.
 fn with_parts(front: &Text, parts: &[Text]) -> Result<Text, NoMemory>

@@ -18,12 +18,11 @@ use base_owners::Shared;
 use base_types::{NoMemory, Seq, Text, Texts};
 use machine_events::{Event, Reply};
 use meaning_state::{Fault, Flow, Thread};
-use py_frames::{Frame, Item, OnReply, Want};
+use py_frames::{Frame, Item, OnReply, Want, fail, joined_name};
 use py_syntax::{ImportedNames, Stmt};
 use py_value::{ModRef, Value};
 use spec_core::{Dotted, RelativeError, resolve};
 use std::alloc::Global;
-use step_shared::{fail, joined_name};
 
 /// The module is imported, or first asked for its package where the name is relative.
 #[tactic(auto, using(crate::proofs::Levels::from_none))]

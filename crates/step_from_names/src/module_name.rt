@@ -10,11 +10,10 @@ ghost use Rattle.machine_events.specs.declared.event.Reply.TheVariants as kinds;
 use base_types::{Exact, NoMemory, Text};
 use machine_events::{Event, Reply, Slot};
 use meaning_state::{Fault, Thread};
-use py_frames::{OnReply, Want};
+use py_frames::{OnReply, Want, fail, is_namespace_path, joined_name, replace, rouse, went};
 use py_value::{ModRef, Value};
 use spec_core::Dotted;
 use std::alloc::Global;
-use step_shared::{fail, is_namespace_path, joined_name, replace, rouse, went};
 
 /// A name of a module is read.
 pub fn begin_from_module(

@@ -13,10 +13,9 @@ use crate::starred::{all_names, one_part_names, public_names};
 use base_types::{Exact, NoMemory, Text, Texts};
 use machine_events::{Event, Reply};
 use meaning_state::{Fault, Flow, Thread};
-use py_frames::{Frame, Item, OnReply, Want};
+use py_frames::{Frame, Item, OnReply, Want, fail, rouse, went};
 use py_value::{ModRef, Value};
 use std::alloc::Global;
-use step_shared::{fail, rouse, went};
 
 /// The names of `__all__` are bound, once the submodules among them are asked for.
 fn bind_all(alloc: Global, thread: &Thread, module: ModRef, value: &Value) -> Result<Want, NoMemory>

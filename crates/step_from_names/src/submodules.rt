@@ -12,11 +12,10 @@ ghost use Rattle.machine_events.specs.declared.event.Reply.TheVariants as kinds;
 use base_types::{Exact, NoMemory, Text, Texts};
 use machine_events::{Event, Reply, Slot};
 use meaning_state::{Fault, Flow, Leave, Thread};
-use py_frames::{Frame, Item, OnReply, Want};
+use py_frames::{Frame, Item, OnReply, Want, fail, joined_name, rouse, went};
 use py_value::{Kind, ModRef, Raised, Value};
 use spec_core::Dotted;
 use std::alloc::Global;
-use step_shared::{fail, joined_name, rouse, went};
 
 /// Submodules with these names, where the module is a package.
 pub fn begin_ask_submodules(

@@ -6,10 +6,9 @@ ghost use Rattle.py_frames.specs.Does.{Does, pieces};
 
 use base_types::{Exact, NoMemory, Text};
 use meaning_state::Thread;
-use py_frames::Want;
+use py_frames::{Want, is_namespace_path, replace, went};
 use py_value::{ModRef, Value};
 use std::alloc::Global;
-use step_shared::{is_namespace_path, replace, went};
 
 /// The value of an attribute of a module.
 pub fn member_value(

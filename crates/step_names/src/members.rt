@@ -13,10 +13,9 @@ use crate::member_paths::member_value;
 use base_types::{Exact, NoMemory, Text};
 use machine_events::{Event, Reply};
 use meaning_state::{Fault, Thread};
-use py_frames::{OnReply, Want};
+use py_frames::{OnReply, Want, fail, rouse, went};
 use py_value::{Kind, ModRef, Raised, Value};
 use std::alloc::Global;
-use step_shared::{fail, rouse, went};
 
 /// Whether an error of the kind tells the name of a module.
 fn is_import_kind(kind: Kind) -> bool

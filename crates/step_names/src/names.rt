@@ -13,10 +13,9 @@ use crate::paths::replace_own;
 use base_types::{Exact, NoMemory, Text};
 use machine_events::{Event, Reply};
 use meaning_state::{Fault, Flow, Thread};
-use py_frames::{Frame, Item, OnReply, Want};
+use py_frames::{Frame, Item, OnReply, Want, fail, is_namespace_path, sized, went};
 use py_value::Value;
 use std::alloc::Global;
-use step_shared::{fail, is_namespace_path, sized, went};
 
 /// A variable's value.
 fn variable(alloc: Global, thread: &Thread, name: &Text, value: Value) -> Result<Want, NoMemory>

@@ -9,9 +9,8 @@ ghost use Rattle.py_frames.specs.Does.{Does, pieces};
 
 use base_types::{Exact, NoMemory, Text};
 use meaning_state::{Fault, Thread};
-use py_frames::Want;
+use py_frames::{Want, fail, replace};
 use std::alloc::Global;
-use step_shared::{fail, replace};
 
 /// The name that the thread's own module was loaded under.
 fn own_name(thread: &Thread) -> Result<Option<Text>, NoMemory>

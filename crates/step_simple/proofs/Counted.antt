@@ -2,7 +2,7 @@
 use Rattle.std.proofs.Common.{◌≡◌, sym, ap, List, [], ◌∷◌, Option, Some, None}
 use Rattle.py_value.specs.declared.value.Value.{Value}
 use Rattle.meaning_script.specs.Pieces.{Piece, with_two, with_three}
-use Rattle.step_shared.specs.Few.{pair, triple}
+use Rattle.py_frames.specs.Few.{pair, triple}
 
 abbrev by_pair : (Value → Value → Piece) → Piece → Option (Value × Value) → Piece
 by_pair go other None = other

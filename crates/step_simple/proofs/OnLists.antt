@@ -16,10 +16,10 @@ use Rattle.meaning_script.specs.Pieces.{listed, with_two, with_three}
 use Rattle.meaning_script.specs.Names.{Access}
 use Rattle.meaning_script.specs.Operators.{Around}
 use Rattle.meaning_script.specs.Statements.{refuses_item, sets_item_at, sets_item, deletes_item_at, deletes_item, assigns_at, removes_at, raises_at, raises_value, raises, performs_at}
-use Rattle.step_shared.specs.Listing.{is_listed_at, is_listed}
+use Rattle.py_frames.specs.Listing.{is_listed_at, is_listed}
 use Rattle.py_frames.specs.Does.{performs}
 use Rattle.step_simple.specs.Known.{is_path_at, is_path, place_behind, place_before, place_of_one, place_assigned, place_removed, place_at, place_some}
-use Rattle.step_shared.proofs.Operands.{list_is_itself, listed_same}
+use Rattle.py_frames.proofs.Operands.{list_is_itself, listed_same}
 
 list_out : (items : List Value) → out-Value (values.List items) ≡ Value-F.List items
 list_out items = ap out-Value (sym (rolls-List items)) ∙ out-roll-Value (Value-F.List items)

@@ -18,8 +18,8 @@ use Rattle.meaning_script.specs.Entries.{sets_entry, deletes_entry}
 use Rattle.meaning_script.specs.Names.{stores, deletes, sets_member, deletes_member}
 use Rattle.meaning_script.specs.Operators.{Around}
 use Rattle.meaning_script.specs.Statements.{refuses_item, augments, returns, raises_at, raises_again, leaves}
-use Rattle.step_shared.specs.Few.{is_cache}
-use Rattle.step_shared.specs.Listing.{is_listed}
+use Rattle.py_frames.specs.Few.{is_cache}
+use Rattle.py_frames.specs.Listing.{is_listed}
 
 -- what stands for the search path
 abbrev pub is_path_at : Value-F Value → Bool

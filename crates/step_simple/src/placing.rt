@@ -5,9 +5,9 @@ ghost use Rattle.py_syntax.specs.declared.stmt.Stmt.{out-Stmt};
 ghost use Rattle.step_simple.specs.Known as spec;
 
 use base_types::Seq;
+use py_frames::is_listed;
 use py_syntax::{Expr, Stmt};
 use py_value::Value;
-use step_shared::is_listed;
 
 /// Whether a value stands for the search path.
 fn is_path(value: &Value) -> bool

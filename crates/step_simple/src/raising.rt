@@ -7,10 +7,9 @@ ghost use Rattle.py_frames.specs.Does.{Does, pieces};
 
 use base_types::{Exact, NoMemory, Seq, Text};
 use meaning_state::{Fault, Flow, Leave, Thread};
-use py_frames::Want;
+use py_frames::{Want, fail, only};
 use py_value::{Raised, Value};
 use std::alloc::Global;
-use step_shared::{fail, only};
 
 /// A function returns its value, or `None`.
 pub fn return_value(alloc: Global, thread: &Thread, values: Seq<Value>) -> Result<Want, NoMemory>

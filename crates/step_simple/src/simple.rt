@@ -1,7 +1,7 @@
 //! Simple statements on the values of their operands (Language Reference chapter 7).
 ghost use Rattle.std.specs.Prelude.{◌≡◌, IfOk, Some, slice_get};
 ghost use Rattle.meaning_script.specs.Meaning.{around_at};
-ghost use Rattle.step_shared.specs.Acts.{acts};
+ghost use Rattle.py_frames.specs.Acts.{acts};
 ghost use Rattle.step_simple.specs.Known.{performs, performs_some, place_some};
 ghost use Rattle.py_frames.specs.Does.{Does, begins, pieces};
 ghost use Rattle.py_frames.specs.declared.work.Item.TheVariants as items;
@@ -12,11 +12,10 @@ use crate::targets::{assign, remove};
 use base_owners::Shared;
 use base_types::{Exact, NoMemory, Seq};
 use meaning_state::{Fault, Flow, Leave, Thread};
-use py_frames::{Item, Want};
+use py_frames::{Item, Want, fail, list_operand, went};
 use py_syntax::Stmt;
 use py_value::Value;
 use std::alloc::Global;
-use step_shared::{fail, list_operand, went};
 
 /// What a simple statement does.
 fn perform_form(

@@ -4,18 +4,17 @@ ghost use Rattle.meaning_script.specs.Meaning.{around_at};
 ghost use Rattle.meaning_script.specs.Names.{stores};
 ghost use Rattle.meaning_script.specs.Pieces.{with_one, with_two};
 ghost use Rattle.meaning_script.specs.Statements.{refuses_item};
-ghost use Rattle.step_shared.specs.Acts.{acts};
+ghost use Rattle.py_frames.specs.Acts.{acts};
 ghost use Rattle.step_simple.specs.Known.{assigns, assigns_item, assigns_member, deletes_known, removes, removes_member, sets_known};
 ghost use Rattle.py_frames.specs.Does.{Does, pieces};
 
 use base_types::{Exact, NoMemory, Seq, Text};
 use meaning_state::{Fault, Thread};
-use py_frames::{Item, Want};
+use py_frames::{Item, Want, fail, is_cache, only, pair, triple};
 use py_syntax::Expr;
 use py_value::{Value, type_of};
 use std::alloc::Global;
 use step_names::{delete_member, delete_name, set_member};
-use step_shared::{fail, is_cache, only, pair, triple};
 
 fn assign_name(
     alloc: Global,

@@ -23,8 +23,8 @@ use Rattle.meaning_script.specs.Meaning.{World, around_at}
 use Rattle.py_frames.specs.Does.{Rest, completes}
 use Rattle.py_frames.specs.declared.work.Form.TheVariants.{Expression}
 use Rattle.py_frames.specs.declared.work.Frame.TheVariants as frame
-use Rattle.step_shared.specs.Listing.{is_listed, is_listed_at, first_listed}
-use Rattle.step_shared.proofs.Operands.{all_unlisted}
+use Rattle.py_frames.specs.Listing.{is_listed, is_listed_at, first_listed}
+use Rattle.py_frames.proofs.Operands.{all_unlisted}
 use Rattle.step_expressions.specs.Forms.{eval_at}
 use Rattle.step_expressions.proofs.Layers.{eval_is}
 use Rattle.step_straight.specs.Costs.{Costs}

@@ -16,7 +16,7 @@ use Rattle.py_frames.specs.Does.{Rest, frame_does, item_does}
 use Rattle.py_frames.specs.declared.work.Form.TheVariants.{Expression}
 use Rattle.py_frames.specs.declared.work.Frame.TheVariants as frame
 use Rattle.py_frames.specs.declared.work.Item.TheVariants as it
-use Rattle.step_shared.specs.Listing.{is_listed}
+use Rattle.py_frames.specs.Listing.{is_listed}
 use Rattle.step_expressions.specs.Forms.{is_atom}
 use Rattle.step_straight.specs.Costs.{Costs}
 use Rattle.step_straight.specs.declared.given.Given.{Given}

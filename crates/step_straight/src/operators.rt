@@ -12,12 +12,11 @@ use crate::given::{Given, Priced};
 use base_owners::Shared;
 use base_types::{NoMemory, Seq};
 use meaning_state::Thread;
-use py_frames::{Form, Frame};
+use py_frames::{Form, Frame, is_listed};
 use py_syntax::{BinaryOp, Comparison, Expr};
 use py_value::{Applied, Value, size};
 use std::alloc::Global;
 use step_expressions::{compared, operator_of};
-use step_shared::is_listed;
 use value_operators::binary;
 
 /// What the two operands of an operator come to.

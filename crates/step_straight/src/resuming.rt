@@ -8,11 +8,11 @@ use crate::operators::{price, wait};
 use base_owners::Shared;
 use base_types::{Exact, NoMemory};
 use meaning_state::Thread;
+use py_frames::is_listed;
 use py_syntax::Expr;
 use py_value::Value;
 use std::alloc::Global;
 use step_expressions::{compared, operator_of};
-use step_shared::is_listed;
 use value_operators::binary;
 
 /// What the right operand comes to.

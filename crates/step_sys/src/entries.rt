@@ -6,10 +6,9 @@ ghost use Rattle.py_frames.specs.declared.work.Item.TheVariants as items;
 use crate::tested::{delete_tested, has_tested, pop_tested, read_tested, set_tested};
 use base_types::NoMemory;
 use meaning_state::Thread;
-use py_frames::{Item, Want};
+use py_frames::{Item, Want, is_listed, list_operand};
 use py_value::Value;
 use std::alloc::Global;
-use step_shared::{is_listed, list_operand};
 
 /// The entry of a key, in whose place the default comes, if there is one.
 pub fn read_entry(

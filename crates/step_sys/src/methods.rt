@@ -17,11 +17,10 @@ use base_owners::Shared;
 use base_types::{NoMemory, Seq, Text, Wide};
 use machine_events::{Event, Reply};
 use meaning_state::{Fault, Thread};
-use py_frames::{Frame, Item, OnReply, Want};
+use py_frames::{Frame, Item, OnReply, Want, fail, went};
 use py_syntax::Expr;
 use py_value::{Value, nesting};
 use std::alloc::Global;
-use step_shared::{fail, went};
 use value_operators::MOST_NESTING;
 
 fn attribute_name(expr: &Expr) -> &str

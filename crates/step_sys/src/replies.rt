@@ -7,10 +7,9 @@ use crate::ways::{dropped, entry_or, entry_value, tell_entry};
 use base_types::NoMemory;
 use machine_events::Reply;
 use meaning_state::{Fault, Thread};
-use py_frames::Want;
+use py_frames::{Want, fail, went};
 use py_value::Value;
 use std::alloc::Global;
-use step_shared::{fail, went};
 
 /// The entry of a key was read.
 pub fn entry_found(

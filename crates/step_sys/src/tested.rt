@@ -11,11 +11,10 @@ use crate::ways::{absent, lack, tell_entry};
 use base_types::NoMemory;
 use machine_events::{Event, Slot};
 use meaning_state::{Fault, Thread};
-use py_frames::{OnReply, Want};
+use py_frames::{OnReply, Want, fail};
 use py_value::Value;
 use spec_core::Dotted;
 use std::alloc::Global;
-use step_shared::fail;
 
 /// The entry of a key is read.
 pub(crate) fn read_tested(

@@ -7,10 +7,9 @@ ghost use Rattle.py_frames.specs.Does.{Does, pieces};
 use base_types::{NoMemory, Text};
 use machine_events::Slot;
 use meaning_state::{Fault, Thread};
-use py_frames::Want;
+use py_frames::{Want, fail, went};
 use py_value::{Applied, Kind, Raised, Value};
 use std::alloc::Global;
-use step_shared::{fail, went};
 use value_operators::repr_of;
 
 /// The value of an entry, if there is one.

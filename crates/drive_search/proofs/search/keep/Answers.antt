@@ -2,7 +2,7 @@ use Rattle.std.proofs.Common.{◌≡◌, Err, refl, ap}
 use Rattle.machine_events.specs.declared.event.Event.TheVariants as e
 use Rattle.meaning_runs.specs.Costs.{pay, texts_units}
 use Rattle.path_finder.specs.declared.words.LookIn.TheVariants as given
-use Rattle.meaning_search.specs.Searches.{searches_in}
+use Rattle.meaning_script.specs.Searches.{searches_in}
 use Rattle.machine_shown.specs.Shown.{shown}
 use Rattle.drive_port.specs.declared.port.Halt.TheVariants.{Refused}
 use Rattle.drive_search.proofs.Holding.{holds_made}

@@ -5,7 +5,7 @@ use Rattle.path_finder.specs.Looking.{awaits, input_kind, means, Suits}
 use Rattle.path_finder.specs.declared.words.Found.{Found}
 use Rattle.path_finder.specs.declared.words.LookIn.TheVariants as given
 use Rattle.drive_port.specs.View.{Stays}
-use Rattle.meaning_search.specs.Searches.{searches_in}
+use Rattle.meaning_script.specs.Searches.{searches_in}
 use Rattle.machine_shown.specs.Shown.{shown}
 use Rattle.drive_account.specs.At.{At}
 use Rattle.drive_search.specs.Searching.{IsSafe, Keeps}

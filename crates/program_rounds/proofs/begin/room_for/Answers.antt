@@ -1,6 +1,6 @@
 use Rattle.std.proofs.Common.{sym, ap, subst, arith, length}
 use Rattle.std.proofs.lemmas.List.{length-append}
-use Rattle.drive_rounds.specs.Played.{AreShort}
+use Rattle.drive_round.specs.Played.{AreShort}
 use Rattle.program_rounds.proofs.Begun.{short_more}
 use Rattle.program_rounds.proofs.begin.room_for.Goals as goal
 

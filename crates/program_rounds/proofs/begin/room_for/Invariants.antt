@@ -1,5 +1,5 @@
 use Rattle.std.proofs.Common.{◌≡◌, length}
-use Rattle.drive_rounds.specs.Played.{AreShort}
+use Rattle.drive_round.specs.Played.{AreShort}
 use Rattle.program_rounds.proofs.begin.room_for.Given as goal
 
 abbrev pub invariant-loop : goal.invariant-loop

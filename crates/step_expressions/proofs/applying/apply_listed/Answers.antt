@@ -6,7 +6,7 @@ use Rattle.py_syntax.specs.declared.expr.Expr.{out-Expr}
 use Rattle.meaning_script.specs.Pieces.{Piece, sized}
 use Rattle.meaning_script.specs.Operators.{applies_at}
 use Rattle.meaning_script.specs.Meaning.{around_at}
-use Rattle.step_shared.proofs.Operands.{listed_with, first_is_listed, first_within}
+use Rattle.py_frames.proofs.Operands.{listed_with, first_is_listed, first_within}
 use Rattle.step_expressions.proofs.OnLists.{place_first, place_is}
 use Rattle.step_expressions.proofs.applying.apply_listed.Goals as goal
 

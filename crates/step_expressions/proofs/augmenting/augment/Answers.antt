@@ -6,7 +6,7 @@ use Rattle.meaning_script.specs.Names.{stores}
 use Rattle.meaning_script.specs.Operators.{operator_of}
 use Rattle.meaning_script.specs.Pieces.{Piece, gives, sized, on_value, with_two}
 use Rattle.step_expressions.proofs.OperatorLayers.{two_is}
-use Rattle.step_shared.proofs.Operands.{all_unlisted}
+use Rattle.py_frames.proofs.Operands.{all_unlisted}
 use Rattle.step_expressions.proofs.augmenting.augment.Goals as goal
 
 pub returns-in-None : goal.returns-in-None

@@ -5,7 +5,7 @@ use Rattle.value_operators.specs.Arithmetic.{augmented}
 use Rattle.meaning_script.specs.Names.{stores}
 use Rattle.meaning_script.specs.Operators.{operator_of}
 use Rattle.meaning_script.specs.Pieces.{Piece, gives, sized, on_value, all_listed, with_two}
-use Rattle.step_shared.proofs.Operands.{listed_with, first_is_listed, all_first}
+use Rattle.py_frames.proofs.Operands.{listed_with, first_is_listed, all_first}
 use Rattle.step_expressions.proofs.augmenting.augment_listed.Goals as goal
 
 pub list_operand-requires : goal.list_operand-requires

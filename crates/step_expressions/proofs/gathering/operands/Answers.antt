@@ -3,7 +3,7 @@ use Rattle.meaning_script.specs.Pieces.{gathers}
 use Rattle.meaning_script.specs.Operators.{eval}
 use Rattle.meaning_script.specs.Meaning.{around_at}
 use Rattle.py_frames.specs.Does.{completes, operands_of}
-use Rattle.step_shared.proofs.Places.{drop_none}
+use Rattle.py_frames.proofs.Places.{drop_none}
 use Rattle.step_expressions.proofs.Places.{drop_some}
 use Rattle.step_expressions.proofs.gathering.operands.Goals as goal
 

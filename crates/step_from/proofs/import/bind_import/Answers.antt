@@ -4,7 +4,7 @@ use Rattle.meaning_state.specs.declared.fault.Fault.TheVariants as fault
 use Rattle.meaning_script.specs.Pieces.{fails}
 use Rattle.meaning_script.specs.Meaning.{around_at}
 use Rattle.py_frames.specs.Does.{aliases_of, binds_some_import}
-use Rattle.step_shared.proofs.Lifts.{lifted}
+use Rattle.py_frames.proofs.Lifts.{lifted}
 use Rattle.step_from.proofs.Parts.{binds_nothing}
 use Rattle.step_from.proofs.import.bind_import.Goals as goal
 

@@ -6,7 +6,7 @@ use Rattle.meaning_script.specs.Meaning.{around_at}
 use Rattle.py_frames.specs.Does.{aliases_of, follows_some, frame_does, pieces}
 use Rattle.py_frames.specs.declared.work.Frame.TheVariants as frames
 use Rattle.meaning_script.specs.ImportStatements.{name_of, with_module}
-use Rattle.step_shared.proofs.Lifts.{lifted}
+use Rattle.py_frames.proofs.Lifts.{lifted}
 use Rattle.step_from.proofs.Parts.{follows_none, follows_ends, follows_step, lifted_run}
 use Rattle.step_from.proofs.import.follow_parts.Goals as goal
 

@@ -3,7 +3,7 @@ use Rattle.meaning_state.specs.declared.fault.Fault.TheVariants as fault
 use Rattle.meaning_script.specs.Pieces.{fails}
 use Rattle.meaning_script.specs.Meaning.{around_at}
 use Rattle.meaning_script.specs.ImportStatements.{imports_one}
-use Rattle.step_shared.proofs.Lifts.{lifted}
+use Rattle.py_frames.proofs.Lifts.{lifted}
 use Rattle.step_from.proofs.Parts.{imports_none, imports_only, imports_more}
 use Rattle.step_from.proofs.import.import_alias.Goals as goal
 

@@ -5,7 +5,7 @@ use Rattle.meaning_script.specs.Pieces.{fails}
 use Rattle.meaning_script.specs.Meaning.{around_at}
 use Rattle.py_frames.specs.Does.{aliases_of, fronts_some}
 use Rattle.step_from.specs.Parts.{front_of}
-use Rattle.step_shared.proofs.Lifts.{lifted}
+use Rattle.py_frames.proofs.Lifts.{lifted}
 use Rattle.step_from.proofs.Parts.{fronts_none, fronts_is}
 use Rattle.step_from.proofs.import.import_front.Goals as goal
 

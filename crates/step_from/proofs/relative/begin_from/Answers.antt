@@ -5,7 +5,7 @@ use Rattle.meaning_script.specs.ImportStatements.{from_import}
 use Rattle.py_frames.specs.Does.{from_some}
 use Rattle.step_from.specs.Parts.{from_of}
 use Rattle.step_from.proofs.Levels.{from_is}
-use Rattle.step_shared.proofs.Lifts.{lifted}
+use Rattle.py_frames.proofs.Lifts.{lifted}
 use Rattle.step_from.proofs.relative.begin_from.Goals as goal
 
 pub returns : goal.returns

@@ -4,7 +4,7 @@ use Rattle.spec_core.specs.Names.{joined}
 use Rattle.meaning_state.specs.declared.fault.Fault.TheVariants as fault
 use Rattle.meaning_script.specs.Pieces.{fails}
 use Rattle.meaning_script.specs.ImportStatements.{looks_up}
-use Rattle.step_shared.proofs.Lifts.{lifted}
+use Rattle.py_frames.proofs.Lifts.{lifted}
 use Rattle.step_from_names.proofs.Entries.{none_is, some_is, looks_none, looks_some}
 use Rattle.step_from_names.proofs.module_name.look_up.Goals as goal
 

@@ -2,7 +2,7 @@ use Rattle.std.proofs.Common.{refl}
 use Rattle.meaning_script.specs.ImportStatements.{namespace_taken}
 use Rattle.meaning_script.specs.Meaning.{around_at}
 use Rattle.meaning_script.specs.Names.{replaces}
-use Rattle.step_shared.proofs.Lifts.{lifted_at}
+use Rattle.py_frames.proofs.Lifts.{lifted_at}
 use Rattle.step_from_names.proofs.module_name.take_namespace.Goals as goal
 
 pub returns-then-is_bound : goal.returns-then-is_bound

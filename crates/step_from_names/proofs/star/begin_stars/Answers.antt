@@ -1,7 +1,7 @@
 use Rattle.std.proofs.Common.{◌∙◌, sym}
 use Rattle.meaning_script.specs.Meaning.{around_at}
 use Rattle.meaning_script.specs.ImportStatements.{binds_star}
-use Rattle.step_shared.proofs.Places.{order_ends, order_goes}
+use Rattle.py_frames.proofs.Places.{order_ends, order_goes}
 use Rattle.step_from_names.proofs.star.begin_stars.Goals as goal
 
 pub returns-in_default : goal.returns-in_default

@@ -1,7 +1,7 @@
 use Rattle.std.proofs.Common.{◌∙◌, refl, ap, codes, List, ℕ, true}
 use Rattle.machine_events.specs.declared.event.Event.TheVariants as e
 use Rattle.py_frames.specs.declared.replies.OnReply.TheVariants as ons
-use Rattle.step_shared.proofs.Awake.{awake_again}
+use Rattle.py_frames.proofs.Awake.{awake_again}
 use Rattle.step_from_names.proofs.star.wake_for_all.Goals as goal
 
 pub returns : goal.returns

@@ -5,7 +5,7 @@ use Rattle.meaning_state.specs.declared.fault.Fault.TheVariants as fault
 use Rattle.meaning_script.specs.Pieces.{fails}
 use Rattle.meaning_script.specs.Meaning.{around_at}
 use Rattle.meaning_script.specs.ImportStatements.{tries_submodule}
-use Rattle.step_shared.proofs.Lifts.{lifted}
+use Rattle.py_frames.proofs.Lifts.{lifted}
 use Rattle.step_from_names.proofs.Entries.{none_is, some_is, tries_none, tries_some}
 use Rattle.step_from_names.proofs.submodules.try_submodule.Goals as goal
 

@@ -2,7 +2,7 @@ use Rattle.std.proofs.Common.{◌∙◌, ap, List, ℕ, true}
 use Rattle.py_value.specs.declared.value.ModRef.{ModRef}
 use Rattle.machine_events.specs.declared.event.Event.TheVariants as e
 use Rattle.py_frames.specs.declared.replies.OnReply.TheVariants as ons
-use Rattle.step_shared.proofs.Awake.{awake_again}
+use Rattle.py_frames.proofs.Awake.{awake_again}
 use Rattle.step_from_names.proofs.submodules.wake_for_submodule.Goals as goal
 
 pub returns : goal.returns

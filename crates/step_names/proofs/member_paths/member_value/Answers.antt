@@ -1,7 +1,7 @@
 use Rattle.std.proofs.Common.{◌∙◌, sym, refl}
 use Rattle.meaning_script.specs.Meaning.{around_at}
 use Rattle.meaning_script.specs.Names.{replaces, member_value}
-use Rattle.step_shared.proofs.Lifts.{lifted_at}
+use Rattle.py_frames.proofs.Lifts.{lifted_at}
 use Rattle.step_names.proofs.member_paths.member_value.Goals as goal
 
 pub returns-then-is_namespace_path : goal.returns-then-is_namespace_path

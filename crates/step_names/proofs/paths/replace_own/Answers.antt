@@ -6,7 +6,7 @@ use Rattle.meaning_state.specs.declared.thread.State.{State}
 use Rattle.meaning_script.specs.Meaning.{around_at}
 use Rattle.meaning_script.specs.Names.{Access, replaces, replaces_own}
 use Rattle.meaning_script.specs.Pieces.{Onward}
-use Rattle.step_shared.proofs.Lifts.{lifted_at}
+use Rattle.py_frames.proofs.Lifts.{lifted_at}
 use Rattle.step_names.proofs.paths.replace_own.Goals as goal
 
 own_is : (access : Access) (o : Option Source) (n x : List ℕ) (s : State) (k : Onward)

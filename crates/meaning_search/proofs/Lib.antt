@@ -1,3 +1,0 @@
-pub mod Safety
-pub mod Embedding
-pub mod Naming

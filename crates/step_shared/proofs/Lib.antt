@@ -1,5 +1,0 @@
-pub mod Operands
-pub mod Lifts
-pub mod Places
-pub mod Awake
-pub mod Options

@@ -1,3 +1,0 @@
-pub mod Few
-pub mod Listing
-pub mod Acts
