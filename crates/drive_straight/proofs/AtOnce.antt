@@ -24,7 +24,7 @@ use Rattle.py_frames.specs.Listing.{is_listed}
 use Rattle.py_frames.proofs.Operands.{unlisted}
 use Rattle.py_frames.proofs.Options.{some_same}
 use Rattle.py_frames.proofs.Places.{order_goes}
-use Rattle.py_frames.specs.Does.{Does, Rest, operands_of_stmt, performs, rest, begins as item_begins}
+use Rattle.py_frames.specs.Does.{Rest, operands_of_stmt, performs, rest}
 use Rattle.py_frames.specs.declared.work.Form.TheVariants.{Statement}
 use Rattle.py_frames.specs.declared.want.Want.{Want}
 use Rattle.py_frames.specs.declared.want.Want.TheVariants as want
@@ -210,18 +210,18 @@ reads_module s a x k other = rw other refl
 pub named : (e : Expr) (x y : List ℕ) → e ≡ tree.Name x → y ≡ x → out-Expr e ≡ Expr-F.Name y
 named e x y is same = ap out-Expr (is ∙ sym (rolls-Name x)) ∙ out-roll-Expr (Expr-F.Name x) ∙ ap (λ (x : List ℕ). Expr-F.Name x) (sym same)
 
-pub global_asked : (c c' : Course) (e : Expr) (x : List ℕ) (w : Want) (purse : Purse) → out-Expr e ≡ Expr-F.Name x → is_local_name c.thread.state x ≡ false → Affords c.purse purse 1
-    → Does c.thread (item_begins (it.ReadGlobal x) c.thread) w → c' ≡ record { purse = purse; held = c.held; thread = c.thread; work = frame.Sized ∷ c.work }
-    → Moves c.purse (remains c (want.Then (it.Eval e))) c' w
-global_asked c c' e x w purse is other affords does same =
+pub global_asked : (c c' : Course) (e : Expr) (x : List ℕ) (purse : Purse) → out-Expr e ≡ Expr-F.Name x → is_local_name c.thread.state x ≡ false → Affords c.purse purse 1
+    → c' ≡ record { purse = purse; held = c.held; thread = c.thread; work = frame.Sized ∷ c.work }
+    → Moves c.purse (remains c (want.Then (it.Eval e))) c' (want.Then (it.ReadGlobal x))
+global_asked c c' e x purse is other affords same =
     let s = c.thread.state in
     let d = c.thread.left in
     let a = around_at sources d in
     let k = rest sources c.work d in
-    moves_paid c c' (it.Eval e) w purse 1 c.thread (frame.Sized ∷ c.work) affords
+    moves_paid c c' (it.Eval e) (want.Then (it.ReadGlobal x)) purse 1 c.thread (frame.Sized ∷ c.work) affords
     (costs_as
     (ap (λ (p : Piece). p s k) (eval_is a e) ∙ ap (λ (t : Expr-F Expr). eval_at a t s k) is ∙ ap (λ (r : Run). pay 1 r) (reads_module s a x (sized k) other))
-    (sym (does.does sources (rest sources (frame.Sized ∷ c.work))))
+    refl
     (record { payments = 1 ∷ []; all = refl; same = refl })) same
 
 -- ---- turns

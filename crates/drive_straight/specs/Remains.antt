@@ -14,7 +14,7 @@ use Rattle.py_syntax.specs.declared.stmt.Handler.{Handler}
 use Rattle.py_syntax.specs.declared.stmt.Stmt.{Stmt, out-Stmt}
 use Rattle.py_syntax.specs.declared.stmt.Stmt.TheOpen.{Stmt-F}
 use Rattle.meaning_state.specs.declared.flow.Flow.{Flow}
-use Rattle.meaning_state.specs.declared.flow.Flow.TheVariants.{Went}
+use Rattle.meaning_state.specs.declared.flow.Flow.TheVariants.{Left, Went}
 use Rattle.meaning_script.specs.Pieces.{pay}
 use Rattle.meaning_script.specs.Meaning.{World, first_state}
 use Rattle.step_calls.specs.Sources.{sources}
@@ -64,15 +64,24 @@ begins item c = remains c (want.Then item)
 abbrev pub goes_on : Frame → Flow → Due
 goes_on f flow c = frame_does sources c.thread.left f (rest sources c.work) flow c.thread.state
 
--- what comes next
-abbrev pub due : Next → Due
-due (next.Wanted w) c = remains c w
-due (next.Piece item) c = begins item c
-due (next.Frame f flow) c = goes_on f flow c
-
 -- a value comes to the work that waits
 abbrev pub gives : Value → Due
 gives v c = remains c (want.Go (Went v))
+
+-- what comes next
+abbrev pub due : Next → Due
+due (next.Went v) c = gives v c
+due (next.Left leave) c = remains c (want.Go (Left leave))
+due (next.Evaluate e) c = begins (it.Eval e) c
+due (next.Block stmts) c = begins (it.Block stmts 0) c
+due (next.ReadGlobal x) c = begins (it.ReadGlobal x) c
+due (next.Store x v) c = begins (it.Store x v) c
+due (next.Call callee arguments) c = begins (it.Call callee arguments) c
+due (next.Apply e vs) c = begins (it.Apply e vs) c
+due (next.Branches bs otherwise) c = begins (it.Branches bs 0 otherwise) c
+due (next.Begun stmts at) c = begins (it.Begun stmts at) c
+due (next.Piece item) c = begins item c
+due (next.Frame waiting) c = goes_on waiting.0 waiting.1 c
 
 -- what an expression came to, and then the work that waits
 abbrev pub comes : Given → Due

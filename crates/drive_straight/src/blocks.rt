@@ -3,7 +3,7 @@ ghost use Rattle.std.specs.Prelude.{◌≡◌, ◌<◌, IfOk, IfSome, Some, leng
 ghost use Rattle.std.specs.Option.{option_copied};
 ghost use Rattle.py_syntax.specs.declared.stmt.Stmt.{out-Stmt};
 ghost use Rattle.py_frames.specs.declared.work.Item.TheVariants as items;
-ghost use Rattle.drive_straight.specs.Remains.{Assigns, Did, IsValueOf, Leads, LeadsTo, Returns, begins};
+ghost use Rattle.drive_straight.specs.Remains.{Assigns, Did, IsValueOf, Leads, Returns, begins};
 ghost use Rattle.drive_straight.specs.Remains.{first_operand, operand_at, returned_at, returned_of};
 
 use crate::choices::begin_other;
@@ -11,10 +11,10 @@ use crate::course::Course;
 use crate::expressions::evaluate;
 use crate::next::Next;
 use crate::paying::afford;
-use base_owners::Shared;
+use base_owners::{Boxed, Shared};
 use base_types::{Exact, NoMemory, Seq, Text};
-use meaning_state::{Flow, Leave};
-use py_frames::{Form, Frame, Item, Want};
+use meaning_state::Leave;
+use py_frames::{Form, Frame, Item};
 use py_syntax::{Expr, Stmt};
 use py_value::Value;
 use std::alloc::Global;
@@ -119,7 +119,7 @@ fn begin_operands(
     ensures held { course.new.held ≡ course.old.held }
 {
     if !afford(&mut course.purse, 1) {
-        return Ok(Next::Piece(Item::Block { stmts, at }));
+        return Ok(Next::Piece(Boxed::new(alloc, Item::Block { stmts, at })?));
     }
     let count = stmts.get().len();
     prove!(at < count);
@@ -193,20 +193,21 @@ fn returned(
 
 /// The statements of a block from a place on: the first one returns a value.
 fn leave_block(
+    alloc: Global,
     course: &mut Course,
     stmts: Shared<Seq<Stmt>>,
     at: usize,
     value: Value,
     units: u64,
-) -> Next
+) -> Result<Next, NoMemory>
     requires returned { Returns stmts at course.old value units }
-    ensures moves { LeadsTo course.old (begins (items.Block stmts at)) course.new result }
+    ensures moves { Leads course.old (begins (items.Block stmts at)) course.new result }
     ensures held { course.new.held ≡ course.old.held }
 {
     if !afford(&mut course.purse, units) {
-        return Next::Piece(Item::Block { stmts, at });
+        return Ok(Next::Piece(Boxed::new(alloc, Item::Block { stmts, at })?));
     }
-    Next::Wanted(Want::Go(Flow::Left(Leave::Return(value))))
+    Ok(Next::Left(Leave::Return(value)))
 }
 
 /// The statements of a block from a place on: the first one begins, at once if it can.
@@ -221,10 +222,10 @@ fn begin_statement(
     ensures held { course.new.held ≡ course.old.held }
 {
     if let Some((value, units)) = returned(alloc, course, stmts.get(), at)? {
-        return Ok(leave_block(course, stmts, at, value, units));
+        return leave_block(alloc, course, stmts, at, value, units);
     }
     match operand_at(stmts.get(), at)? {
-        None => begin_other(course, stmts, at),
+        None => begin_other(alloc, course, stmts, at),
         Some(operand) => begin_operands(alloc, course, stmts, at, operand),
     }
 }
@@ -246,5 +247,5 @@ pub fn block(
         }
         at += 1;
     }
-    Ok(Next::Wanted(Want::Go(Flow::Went(Value::Nothing))))
+    Ok(Next::Went(Value::Nothing))
 }

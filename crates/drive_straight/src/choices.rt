@@ -6,13 +6,15 @@ ghost use Rattle.drive_straight.specs.Remains.{IsIf, Leads, begins, is_left};
 use crate::course::Course;
 use crate::next::Next;
 use crate::paying::afford;
-use base_owners::Shared;
+use base_owners::{Boxed, Shared};
 use base_types::{NoMemory, Seq};
 use py_frames::{Frame, Item};
 use py_syntax::{Branch, Stmt};
+use std::alloc::Global;
 
 /// The statements of a block from a place on, of which the first is an `if`: its unit is paid, and its branches come.
 fn begin_if(
+    alloc: Global,
     course: &mut Course,
     stmts: Shared<Seq<Stmt>>,
     at: usize,
@@ -25,16 +27,15 @@ fn begin_if(
     ensures held { course.new.held ≡ course.old.held }
 {
     if !afford(&mut course.purse, 1) {
-        return Ok(Next::Piece(Item::Block { stmts, at }));
+        return Ok(Next::Piece(Boxed::new(alloc, Item::Block { stmts, at })?));
     }
     let count = stmts.get().len();
     prove!(at < count);
     course.work.push(Frame::Block { stmts, at: at + 1 })?;
-    Ok(Next::Piece(Item::Branches {
+    Ok(Next::Branches {
         branches,
-        at: 0,
         otherwise,
-    }))
+    })
 }
 
 /// The branches of an `if`, and its block behind `else`.
@@ -63,16 +64,21 @@ fn is_left(stmts: &Seq<Stmt>, at: usize) -> bool
 
 /// The statements of a block from a place on: the unit of the first one is paid, and then it goes on piece by
 /// piece.
-fn begin_paid(course: &mut Course, stmts: Shared<Seq<Stmt>>, at: usize) -> Result<Next, NoMemory>
+fn begin_paid(
+    alloc: Global,
+    course: &mut Course,
+    stmts: Shared<Seq<Stmt>>,
+    at: usize,
+) -> Result<Next, NoMemory>
     requires within { at < length stmts }
     ensures moves { Leads course.old (begins (items.Block stmts at)) course.new result }
     ensures held { course.new.held ≡ course.old.held }
 {
     if is_left(stmts.get(), at) {
-        return Ok(Next::Piece(Item::Block { stmts, at }));
+        return Ok(Next::Piece(Boxed::new(alloc, Item::Block { stmts, at })?));
     }
     if !afford(&mut course.purse, 1) {
-        return Ok(Next::Piece(Item::Block { stmts, at }));
+        return Ok(Next::Piece(Boxed::new(alloc, Item::Block { stmts, at })?));
     }
     let count = stmts.get().len();
     prove!(at < count);
@@ -81,11 +87,12 @@ fn begin_paid(course: &mut Course, stmts: Shared<Seq<Stmt>>, at: usize) -> Resul
         at: at + 1,
     };
     course.work.push(block)?;
-    Ok(Next::Piece(Item::Begun { stmts, at }))
+    Ok(Next::Begun { stmts, at })
 }
 
 /// The statements of a block from a place on, of which the first does not begin with an operand.
 pub fn begin_other(
+    alloc: Global,
     course: &mut Course,
     stmts: Shared<Seq<Stmt>>,
     at: usize,
@@ -95,7 +102,7 @@ pub fn begin_other(
     ensures held { course.new.held ≡ course.old.held }
 {
     match if_at(stmts.get(), at)? {
-        None => begin_paid(course, stmts, at),
-        Some((branches, otherwise)) => begin_if(course, stmts, at, branches, otherwise),
+        None => begin_paid(alloc, course, stmts, at),
+        Some((branches, otherwise)) => begin_if(alloc, course, stmts, at, branches, otherwise),
     }
 }

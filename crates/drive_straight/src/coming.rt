@@ -9,13 +9,13 @@ use crate::course::Course;
 use crate::deciding::{decide, pick};
 use crate::names::reach;
 use crate::next::Next;
-use base_owners::Shared;
+use base_owners::{Boxed, Shared};
 use base_types::{Exact, NoMemory, Seq, Text};
 use meaning_state::{Flow, Leave};
-use py_frames::{Form, Frame, Item, Want};
+use py_frames::{Form, Frame, Item};
 use py_syntax::{Expr, Stmt};
 use py_value::Value;
-use step_names::store;
+use std::alloc::Global;
 use step_straight::Given;
 
 /// What a statement does with the value of its only operand.
@@ -51,6 +51,7 @@ fn use_at(stmts: &Seq<Stmt>, at: usize) -> Result<Use, NoMemory>
 
 /// The value of an operand of a statement came: the statement is done, if that is all that it needs.
 pub fn resume_statement(
+    alloc: Global,
     course: &mut Course,
     stmts: Shared<Seq<Stmt>>,
     at: usize,
@@ -63,67 +64,72 @@ pub fn resume_statement(
 {
     if !done.is_empty() {
         let form = Form::Statement(stmts, at);
-        return Ok(Next::Frame(Frame::Operands { form, done }, Flow::Went(value)));
+        return Ok(Next::Frame(Boxed::new(
+            alloc,
+            (Frame::Operands { form, done }, Flow::Went(value)),
+        )?));
     }
     match use_at(stmts.get(), at)? {
-        Use::Bind(name) => Ok(Next::Wanted(store(&mut course.thread, name, value)?)),
+        Use::Bind(name) => Ok(Next::Store(name, value)),
         Use::Discard => {
             drop(value);
-            Ok(Next::Wanted(Want::Go(Flow::Went(Value::Nothing))))
+            Ok(Next::Went(Value::Nothing))
         }
-        Use::Return => Ok(Next::Wanted(Want::Go(Flow::Left(Leave::Return(value))))),
+        Use::Return => Ok(Next::Left(Leave::Return(value))),
         Use::Raise => {
             let mut values = done;
             values.push(value)?;
-            Ok(Next::Piece(Item::Perform { stmts, at, values }))
+            Ok(Next::Piece(Boxed::new(alloc, Item::Perform { stmts, at, values })?))
         }
         Use::Other => {
             let form = Form::Statement(stmts, at);
-            Ok(Next::Frame(Frame::Operands { form, done }, Flow::Went(value)))
+            Ok(Next::Frame(Boxed::new(alloc, (Frame::Operands { form, done }, Flow::Went(value)))?))
         }
     }
 }
 
 /// A value comes to what waits for it: a statement, or a test.
-pub fn give(course: &mut Course, value: Value) -> Result<Next, NoMemory>
+pub fn give(alloc: Global, course: &mut Course, value: Value) -> Result<Next, NoMemory>
     ensures moves { Leads course.old (gives value) course.new result }
     ensures held { course.new.held ≡ course.old.held }
 {
     match course.work.pop() {
-        None => Ok(Next::Wanted(Want::Go(Flow::Went(value)))),
+        None => Ok(Next::Went(value)),
         Some(Frame::Operands { form, done }) => match form {
-            Form::Statement(stmts, at) => resume_statement(course, stmts, at, done, value),
+            Form::Statement(stmts, at) => resume_statement(alloc, course, stmts, at, done, value),
             form => {
                 course.work.push(Frame::Operands { form, done })?;
-                Ok(Next::Wanted(Want::Go(Flow::Went(value))))
+                Ok(Next::Went(value))
             }
         },
-        Some(Frame::Decide { test, body, turns }) => decide(course, test, body, turns, value),
+        Some(Frame::Decide { test, body, turns }) => decide(
+            alloc, course, test, body, turns, value,
+        ),
         Some(
             Frame::Test {
                 branches,
                 at,
                 otherwise,
             },
-        ) => pick(course, branches, at, otherwise, value),
+        ) => pick(alloc, course, branches, at, otherwise, value),
         Some(frame) => {
             course.work.push(frame)?;
-            Ok(Next::Wanted(Want::Go(Flow::Went(value))))
+            Ok(Next::Went(value))
         }
     }
 }
 
 /// What an expression came to comes to what waits for it.
-pub fn come(course: &mut Course, given: Given) -> Result<Next, NoMemory>
+pub fn come(alloc: Global, course: &mut Course, given: Given) -> Result<Next, NoMemory>
     ensures moves { Leads course.old (comes given) course.new result }
     ensures held { course.new.held ≡ course.old.held }
 {
     match given {
-        Given::Value(value) => give(course, value),
-        Given::Raised(error) => Ok(Next::Wanted(Want::Go(Flow::Left(Leave::Raised(error))))),
+        Given::Value(value) => give(alloc, course, value),
+        Given::Raised(error) => Ok(Next::Left(Leave::Raised(error))),
         Given::Waits(operand, frame) => {
             course.work.push(frame)?;
-            reach(course, operand)
+            reach(alloc, course, operand)
         }
     }
 }

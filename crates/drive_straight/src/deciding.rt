@@ -6,15 +6,17 @@ ghost use Rattle.drive_straight.specs.Remains.{Leads, goes_on};
 
 use crate::course::Course;
 use crate::next::Next;
-use base_owners::Shared;
+use base_owners::{Boxed, Shared};
 use base_types::{NoMemory, Seq};
 use meaning_state::Flow;
-use py_frames::{Frame, Item, Want, is_listed};
+use py_frames::{Frame, is_listed};
 use py_syntax::{Branch, Expr, Stmt};
 use py_value::{Value, truth};
+use std::alloc::Global;
 
 /// The test of a loop has a value: its block comes, or its end.
 pub fn decide(
+    alloc: Global,
     course: &mut Course,
     test: Shared<Expr>,
     body: Shared<Seq<Stmt>>,
@@ -26,18 +28,19 @@ pub fn decide(
 {
     if is_listed(&value) {
         let frame = Frame::Decide { test, body, turns };
-        return Ok(Next::Frame(frame, Flow::Went(value)));
+        return Ok(Next::Frame(Boxed::new(alloc, (frame, Flow::Went(value)))?));
     }
     if !truth(&value) {
-        return Ok(Next::Wanted(Want::Go(Flow::Went(Value::Nothing))));
+        return Ok(Next::Went(Value::Nothing));
     }
     let stmts = body.share()?;
     course.work.push(Frame::Loop { test, body, turns })?;
-    Ok(Next::Wanted(Want::Then(Item::Block { stmts, at: 0 })))
+    Ok(Next::Block(stmts))
 }
 
 /// The test of a branch has a value: its block comes. Where it does not hold the branch is passed as any other.
 pub fn pick(
+    alloc: Global,
     course: &mut Course,
     branches: Shared<Seq<Branch>>,
     at: usize,
@@ -54,7 +57,7 @@ pub fn pick(
             at,
             otherwise,
         };
-        return Ok(Next::Frame(frame, Flow::Went(value)));
+        return Ok(Next::Frame(Boxed::new(alloc, (frame, Flow::Went(value)))?));
     }
     match branches.get().get(at) {
         None => {
@@ -63,11 +66,8 @@ pub fn pick(
                 at,
                 otherwise,
             };
-            Ok(Next::Frame(frame, Flow::Went(value)))
+            Ok(Next::Frame(Boxed::new(alloc, (frame, Flow::Went(value)))?))
         }
-        Some(branch) => Ok(Next::Wanted(Want::Then(Item::Block {
-            stmts: branch.body.share()?,
-            at: 0,
-        }))),
+        Some(branch) => Ok(Next::Block(branch.body.share()?)),
     }
 }

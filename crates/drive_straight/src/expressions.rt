@@ -10,7 +10,7 @@ use crate::gathering::gather;
 use crate::names::ask;
 use crate::next::Next;
 use crate::paying::afford;
-use base_owners::Shared;
+use base_owners::{Boxed, Shared};
 use base_types::{NoMemory, Seq};
 use py_frames::Item;
 use py_syntax::Expr;
@@ -47,7 +47,7 @@ fn begin(alloc: Global, course: &mut Course, expr: Shared<Expr>) -> Result<Next,
     if is_operated(expr.get()) {
         return gather(alloc, course, expr, Seq::new(alloc));
     }
-    ask(course, expr)
+    ask(alloc, course, expr)
 }
 
 /// An expression, at once if it can be.
@@ -59,9 +59,9 @@ pub fn evaluate(alloc: Global, course: &mut Course, expr: Shared<Expr>) -> Resul
         None => begin(alloc, course, expr),
         Some(Priced { given, units }) => {
             if !afford(&mut course.purse, units) {
-                return Ok(Next::Piece(Item::Eval(expr)));
+                return Ok(Next::Piece(Boxed::new(alloc, Item::Eval(expr))?));
             }
-            come(course, given)
+            come(alloc, course, given)
         }
     }
 }

@@ -12,7 +12,7 @@ use crate::course::Course;
 use crate::names::reach;
 use crate::next::Next;
 use crate::paying::afford;
-use base_owners::Shared;
+use base_owners::{Boxed, Shared};
 use base_types::{NoMemory, Seq};
 use py_frames::{Form, Frame, Item};
 use py_syntax::Expr;
@@ -50,12 +50,12 @@ fn call(course: &mut Course, expr: Shared<Expr>, values: Seq<Value>) -> Result<N
     ensures held { course.new.held ≡ course.old.held }
 {
     if values.is_empty() {
-        return Ok(Next::Piece(Item::Apply { expr, values }));
+        return Ok(Next::Apply { expr, values });
     }
     let mut arguments = values;
     let callee = arguments.remove(0);
     course.work.push(Frame::Sized)?;
-    Ok(Next::Piece(Item::Call { callee, arguments }))
+    Ok(Next::Call { callee, arguments })
 }
 
 fn is_call(expr: &Expr) -> bool
@@ -68,19 +68,24 @@ fn is_call(expr: &Expr) -> bool
 }
 
 /// All operands have values: the unit of the expression is paid, and it is applied to them.
-fn apply(course: &mut Course, expr: Shared<Expr>, values: Seq<Value>) -> Result<Next, NoMemory>
+fn apply(
+    alloc: Global,
+    course: &mut Course,
+    expr: Shared<Expr>,
+    values: Seq<Value>,
+) -> Result<Next, NoMemory>
     requires all { slice_get (operands_at (out-Expr expr)) (length values) ≡ None }
     ensures moves { Leads course.old (begins (items.Operands (Expression expr) values)) course.new result }
     ensures held { course.new.held ≡ course.old.held }
 {
     if !afford(&mut course.purse, 1) {
         let form = Form::Expression(expr);
-        return Ok(Next::Piece(Item::Operands { form, done: values }));
+        return Ok(Next::Piece(Boxed::new(alloc, Item::Operands { form, done: values })?));
     }
     if is_call(expr.get()) {
         return call(course, expr, values);
     }
-    Ok(Next::Piece(Item::Apply { expr, values }))
+    Ok(Next::Apply { expr, values })
 }
 
 /// The operands of an expression that have no values yet, for as long as they have some at once, and then the
@@ -101,16 +106,19 @@ pub fn gather(
                 let operand = operand.share()?;
                 let form = Form::Expression(expr);
                 course.work.push(Frame::Operands { form, done: values })?;
-                return reach(course, operand);
+                return reach(alloc, course, operand);
             }
             Some(bought) => {
                 if !afford(&mut course.purse, bought.units) {
                     let form = Form::Expression(expr);
-                    return Ok(Next::Piece(Item::Operands { form, done: values }));
+                    return Ok(Next::Piece(Boxed::new(
+                        alloc,
+                        Item::Operands { form, done: values },
+                    )?));
                 }
                 values.push(bought.value)?;
             }
         }
     }
-    apply(course, expr, values)
+    apply(alloc, course, expr, values)
 }

@@ -18,7 +18,8 @@ mod resuming;
 
 pub use blocks::block;
 pub use course::Course;
+pub use deciding::decide;
 pub use expressions::evaluate;
 pub use loops::turn;
 pub use next::Next;
-pub use resuming::{resume_block, resume_decide, resume_loop, resume_operands, resume_sized};
+pub use resuming::{is_in_place, resume_block, resume_loop, resume_operand, resume_sized};

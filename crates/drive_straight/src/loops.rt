@@ -8,10 +8,9 @@ use crate::course::Course;
 use crate::expressions::evaluate;
 use crate::next::Next;
 use crate::paying::afford;
-use base_owners::Shared;
+use base_owners::{Boxed, Shared};
 use base_types::{NoMemory, Seq};
-use meaning_state::Flow;
-use py_frames::{Frame, Item, Want, is_listed};
+use py_frames::{Frame, Item, is_listed};
 use py_syntax::{Expr, Stmt};
 use py_value::{Value, truth};
 use std::alloc::Global;
@@ -29,7 +28,7 @@ fn begin_test(
     ensures held { course.new.held ≡ course.old.held }
 {
     if !afford(&mut course.purse, 1) {
-        return Ok(Next::Piece(Item::Turn { test, body, turns }));
+        return Ok(Next::Piece(Boxed::new(alloc, Item::Turn { test, body, turns })?));
     }
     let expr = test.share()?;
     let turns = turns - 1;
@@ -49,19 +48,19 @@ pub fn turn(
     ensures held { course.new.held ≡ course.old.held }
 {
     if turns == 0 {
-        return Ok(Next::Piece(Item::Turn { test, body, turns }));
+        return Ok(Next::Piece(Boxed::new(alloc, Item::Turn { test, body, turns })?));
     }
     match value_in_statement(alloc, course, &test)? {
         None => begin_test(alloc, course, test, body, turns),
         Some((value, units)) => {
             if is_listed(&value) {
-                return Ok(Next::Piece(Item::Turn { test, body, turns }));
+                return Ok(Next::Piece(Boxed::new(alloc, Item::Turn { test, body, turns })?));
             }
             if !afford(&mut course.purse, units) {
-                return Ok(Next::Piece(Item::Turn { test, body, turns }));
+                return Ok(Next::Piece(Boxed::new(alloc, Item::Turn { test, body, turns })?));
             }
             if !truth(&value) {
-                return Ok(Next::Wanted(Want::Go(Flow::Went(Value::Nothing))));
+                return Ok(Next::Went(Value::Nothing));
             }
             let stmts = body.share()?;
             let turns = turns - 1;

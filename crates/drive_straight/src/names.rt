@@ -6,38 +6,39 @@ ghost use Rattle.drive_straight.specs.Remains.{Leads, begins};
 use crate::course::Course;
 use crate::next::Next;
 use crate::paying::afford;
-use base_owners::Shared;
+use base_owners::{Boxed, Shared};
 use base_types::{Exact, NoMemory};
-use py_frames::{Frame, Item, Want};
+use py_frames::{Frame, Item};
 use py_syntax::Expr;
-use step_names::{is_local_name, read_global};
+use std::alloc::Global;
+use step_names::is_local_name;
 
 /// An expression that has no value at once. A name that is not local is read of the module, and its unit is paid.
-pub fn ask(course: &mut Course, expr: Shared<Expr>) -> Result<Next, NoMemory>
+pub fn ask(alloc: Global, course: &mut Course, expr: Shared<Expr>) -> Result<Next, NoMemory>
     ensures moves { Leads course.old (begins (items.Eval expr)) course.new result }
     ensures held { course.new.held ≡ course.old.held }
 {
     let name = match expr.get() {
         Expr::Name(name) => name.copy()?,
-        _ => return Ok(Next::Piece(Item::Eval(expr))),
+        _ => return Ok(Next::Piece(Boxed::new(alloc, Item::Eval(expr))?)),
     };
     if is_local_name(&course.thread, &name) {
-        return Ok(Next::Piece(Item::Eval(expr)));
+        return Ok(Next::Piece(Boxed::new(alloc, Item::Eval(expr))?));
     }
     if !afford(&mut course.purse, 1) {
-        return Ok(Next::Piece(Item::Eval(expr)));
+        return Ok(Next::Piece(Boxed::new(alloc, Item::Eval(expr))?));
     }
     course.work.push(Frame::Sized)?;
-    Ok(Next::Wanted(read_global(&course.thread, name)?))
+    Ok(Next::ReadGlobal(name))
 }
 
 /// An operand that has no value at once: a name is asked for now, and any other expression begins next.
-pub fn reach(course: &mut Course, operand: Shared<Expr>) -> Result<Next, NoMemory>
+pub fn reach(alloc: Global, course: &mut Course, operand: Shared<Expr>) -> Result<Next, NoMemory>
     ensures moves { Leads course.old (begins (items.Eval operand)) course.new result }
     ensures held { course.new.held ≡ course.old.held }
 {
     match operand.get() {
-        Expr::Name(_) => ask(course, operand),
-        _ => Ok(Next::Wanted(Want::Then(Item::Eval(operand)))),
+        Expr::Name(_) => ask(alloc, course, operand),
+        _ => Ok(Next::Evaluate(operand)),
     }
 }

@@ -1,14 +1,48 @@
 //! What comes next.
-use meaning_state::Flow;
-use py_frames::{Frame, Item, Want};
+use base_owners::{Boxed, Shared};
+use base_types::{Seq, Text};
+use meaning_state::{Flow, Leave};
+use py_frames::{Frame, Item};
+use py_syntax::{Branch, Expr, Stmt};
+use py_value::Value;
 
-/// What comes next.
+/// What comes next. It is small, since it is moved at each return: what is rare is on the heap.
 #[derive(Drop)]
 pub enum Next {
-    /// What is wanted.
-    Wanted(Want),
-    /// A piece of work, which is to be begun as any other.
-    Piece(Item),
-    /// A frame and the way on that comes to it, as to any other.
-    Frame(Frame, Flow),
+    /// This value comes to the work that waits.
+    Went(Value),
+    /// This leave comes to the work that waits.
+    Left(Leave),
+    /// An expression begins.
+    Evaluate(Shared<Expr>),
+    /// A block begins with its first statement.
+    Block(Shared<Seq<Stmt>>),
+    /// A variable of the module is read.
+    ReadGlobal(Text),
+    /// A name is bound to a value.
+    Store(Text, Value),
+    /// A call, piece by piece.
+    Call {
+        callee: Value,
+        arguments: Seq<Value>,
+    },
+    /// An operator on the values of its operands, once its unit is paid, piece by piece.
+    Apply {
+        expr: Shared<Expr>,
+        values: Seq<Value>,
+    },
+    /// The branches of an `if`, piece by piece.
+    Branches {
+        branches: Shared<Seq<Branch>>,
+        otherwise: Shared<Seq<Stmt>>,
+    },
+    /// A statement of a block, once its unit is paid, piece by piece.
+    Begun {
+        stmts: Shared<Seq<Stmt>>,
+        at: usize,
+    },
+    /// Any other piece of work, piece by piece.
+    Piece(Boxed<Item>),
+    /// A frame and the way on that comes to it, piece by piece.
+    Frame(Boxed<(Frame, Flow)>),
 }

@@ -9,15 +9,14 @@ ghost use Rattle.step_straight.specs.Comes.{Resumes};
 use crate::blocks::block;
 use crate::coming::{come, give, resume_statement};
 use crate::course::Course;
-use crate::deciding::decide;
 use crate::gathering::gather;
 use crate::loops::turn;
 use crate::next::Next;
 use crate::paying::afford;
-use base_owners::Shared;
+use base_owners::{Boxed, Shared};
 use base_types::{NoMemory, Seq};
 use meaning_state::Flow;
-use py_frames::{Form, Frame, Want};
+use py_frames::{Form, Frame};
 use py_syntax::{Expr, Stmt};
 use py_value::{Value, size};
 use std::alloc::Global;
@@ -29,18 +28,13 @@ pub fn resume_block(
     course: &mut Course,
     stmts: Shared<Seq<Stmt>>,
     at: usize,
-    flow: Flow,
+    value: Value,
 ) -> Result<Next, NoMemory>
-    ensures moves { Leads course.old (goes_on (frames.Block stmts at) flow) course.new result }
+    ensures moves { Leads course.old (goes_on (frames.Block stmts at) (Went value)) course.new result }
     ensures held { course.new.held ≡ course.old.held }
 {
-    match flow {
-        Flow::Went(value) => {
-            drop(value);
-            block(alloc, course, stmts, at)
-        }
-        Flow::Left(leave) => Ok(Next::Wanted(Want::Go(Flow::Left(leave)))),
-    }
+    drop(value);
+    block(alloc, course, stmts, at)
 }
 
 /// The block of a loop came to its end: the next turn follows.
@@ -50,21 +44,13 @@ pub fn resume_loop(
     test: Shared<Expr>,
     body: Shared<Seq<Stmt>>,
     turns: u64,
-    flow: Flow,
+    value: Value,
 ) -> Result<Next, NoMemory>
-    ensures moves { Leads course.old (goes_on (frames.Loop test body turns) flow) course.new result }
+    ensures moves { Leads course.old (goes_on (frames.Loop test body turns) (Went value)) course.new result }
     ensures held { course.new.held ≡ course.old.held }
 {
-    match flow {
-        Flow::Went(value) => {
-            drop(value);
-            turn(alloc, course, test, body, turns)
-        }
-        Flow::Left(leave) => {
-            let frame = Frame::Loop { test, body, turns };
-            Ok(Next::Frame(frame, Flow::Left(leave)))
-        }
-    }
+    drop(value);
+    turn(alloc, course, test, body, turns)
 }
 
 /// What an operator on two operands comes to, where the value of one is here and the others were gathered before. None
@@ -110,15 +96,18 @@ fn resume_expression(
         Some(Priced { given, units }) => {
             if !afford(&mut course.purse, units) {
                 let form = Form::Expression(expr);
-                return Ok(Next::Frame(Frame::Operands { form, done }, Flow::Went(value)));
+                return Ok(Next::Frame(Boxed::new(
+                    alloc,
+                    (Frame::Operands { form, done }, Flow::Went(value)),
+                )?));
             }
-            come(course, given)
+            come(alloc, course, given)
         }
     }
 }
 
 /// The value of an operand came.
-fn resume_operand(
+pub fn resume_operand(
     alloc: Global,
     course: &mut Course,
     form: Form,
@@ -130,25 +119,11 @@ fn resume_operand(
 {
     match form {
         Form::Expression(expr) => resume_expression(alloc, course, expr, done, value),
-        Form::Statement(stmts, at) => resume_statement(course, stmts, at, done, value),
-        form => Ok(Next::Frame(Frame::Operands { form, done }, Flow::Went(value))),
-    }
-}
-
-/// The value of an operand came.
-pub fn resume_operands(
-    alloc: Global,
-    course: &mut Course,
-    form: Form,
-    done: Seq<Value>,
-    flow: Flow,
-) -> Result<Next, NoMemory>
-    ensures moves { Leads course.old (goes_on (frames.Operands form done) flow) course.new result }
-    ensures held { course.new.held ≡ course.old.held }
-{
-    match flow {
-        Flow::Left(leave) => Ok(Next::Wanted(Want::Go(Flow::Left(leave)))),
-        Flow::Went(value) => resume_operand(alloc, course, form, done, value),
+        Form::Statement(stmts, at) => resume_statement(alloc, course, stmts, at, done, value),
+        form => Ok(Next::Frame(Boxed::new(
+            alloc,
+            (Frame::Operands { form, done }, Flow::Went(value)),
+        )?)),
     }
 }
 
@@ -158,44 +133,34 @@ fn give_operand(alloc: Global, course: &mut Course, value: Value) -> Result<Next
     ensures held { course.new.held ≡ course.old.held }
 {
     match course.work.pop() {
-        None => Ok(Next::Wanted(Want::Go(Flow::Went(value)))),
+        None => Ok(Next::Went(value)),
         Some(Frame::Operands { form, done }) => resume_operand(alloc, course, form, done, value),
         Some(frame) => {
             course.work.push(frame)?;
-            give(course, value)
+            give(alloc, course, value)
         }
     }
 }
 
 /// The size of a value is paid.
-pub fn resume_sized(alloc: Global, course: &mut Course, flow: Flow) -> Result<Next, NoMemory>
-    ensures moves { Leads course.old (goes_on frames.Sized flow) course.new result }
+pub fn resume_sized(alloc: Global, course: &mut Course, value: Value) -> Result<Next, NoMemory>
+    ensures moves { Leads course.old (goes_on frames.Sized (Went value)) course.new result }
     ensures held { course.new.held ≡ course.old.held }
 {
-    match flow {
-        Flow::Went(value) => {
-            if !afford(&mut course.purse, size(&value)) {
-                return Ok(Next::Frame(Frame::Sized, Flow::Went(value)));
-            }
-            give_operand(alloc, course, value)
-        }
-        Flow::Left(leave) => Ok(Next::Wanted(Want::Go(Flow::Left(leave)))),
+    if !afford(&mut course.purse, size(&value)) {
+        return Ok(Next::Frame(Boxed::new(alloc, (Frame::Sized, Flow::Went(value)))?));
     }
+    give_operand(alloc, course, value)
 }
 
-/// The test of a loop came.
-pub fn resume_decide(
-    course: &mut Course,
-    test: Shared<Expr>,
-    body: Shared<Seq<Stmt>>,
-    turns: u64,
-    flow: Flow,
-) -> Result<Next, NoMemory>
-    ensures moves { Leads course.old (goes_on (frames.Decide test body turns) flow) course.new result }
-    ensures held { course.new.held ≡ course.old.held }
-{
-    match flow {
-        Flow::Went(value) => decide(course, test, body, turns, value),
-        Flow::Left(leave) => Ok(Next::Wanted(Want::Go(Flow::Left(leave)))),
+/// Whether what follows is done in place where a value comes to the frame. Else the frame goes on piece by piece.
+pub fn is_in_place(frame: &Frame) -> bool {
+    match frame {
+        Frame::Sized
+        | Frame::Block { .. }
+        | Frame::Loop { .. }
+        | Frame::Operands { .. }
+        | Frame::Decide { .. } => true,
+        _ => false,
     }
 }

@@ -1,5 +1,5 @@
 -- Turns that see neither a port nor a tree, one after another.
-use Rattle.std.proofs.Common.{◌≡◌, ℕ, List, ◌∷◌, Option, Result, IfOk, refl, subst, sym}
+use Rattle.std.proofs.Common.{◌≡◌, ℕ, List, ◌∷◌, Option, Result, Ok, IfOk, refl, subst, sym}
 use Rattle.std.proofs.lemmas.Result.{IfOk-weaker}
 use Rattle.base_types.specs.declared.no_memory.NoMemory.{NoMemory}
 use Rattle.tree_files.specs.Files.{Files}
@@ -18,8 +18,7 @@ use Rattle.py_frames.specs.declared.want.Want.TheVariants as want
 use Rattle.py_frames.specs.declared.work.Frame.{Frame}
 use Rattle.py_frames.specs.declared.work.Item.{Item}
 use Rattle.drive_account.specs.At.{At}
-use Rattle.drive_straight.specs.Remains.{Due, LeadsTo, Moves, begins, due, goes_on}
-use Rattle.drive_straight.specs.declared.next.Next.{Next}
+use Rattle.drive_straight.specs.Remains.{Due, Moves, begins, goes_on}
 use Rattle.py_run.specs.Turns.{Stepped, Wants, remains}
 use Rattle.drive_straight.specs.declared.course.Course.{Course}
 use Rattle.py_run.specs.declared.course.Turn.{Turn}
@@ -50,11 +49,6 @@ pub leads_by : (purse : Purse) (run : Run) (c mid after : Course) (w : Want) (wa
 leads_by purse run c mid after w was r r' moves due is wants =
     rw is (IfOk-weaker r' _ _ (λ w' on. λ files whole fuel mine a. on files whole fuel mine (due files whole fuel mine (moves files whole fuel mine a))) wants)
 
--- what comes next is wanted
-pub next_wanted : (old mid new : Course) (was : Due) (next : Next) (r : Result Want NoMemory) → LeadsTo old was mid next → Wants mid (due next) new r → Wants old was new r
-next_wanted old mid new was next r leads wants =
-    IfOk-weaker r _ _ (λ w on. λ files whole fuel mine a. on files whole fuel mine (leads files whole fuel mine a)) wants
-
 -- a way on comes to a frame that was taken off
 pub comes_on : (c : Course) (flow : Flow) (frame : Frame) (frames : List Frame) → ((d : ℕ) (s : State) → rest sources c.work d flow s ≡ frame_does sources d frame (rest sources frames) flow s)
     → (files : Option Files) (whole : Run) (fuel : ℕ) (mine : List (Event × Reply)) → At files whole fuel mine c.purse (remains c (want.Go flow))
@@ -72,6 +66,16 @@ leads_replied purse run c c' paid on reply thread r r' moves pays is same does =
     let next : Run = reply_does sources c.thread.left on (rest sources c.work) c.thread.state reply in
     over_course purse run r c' after is (leads purse run c after (want.Replied on reply) next r r' moves same (λ files whole fuel mine a. pays files whole fuel mine next a)
     (IfOk-weaker r' (DoesIn sources thread (replies on reply c.thread sources)) (λ w. remains after w ≡ next) (λ w d. d.does (rest sources c.work)) does))
+
+-- the same, where it leads to what is wanted
+pub replied_on : (old after : Course) (paid : Purse) (on : OnReply) (reply : Reply) (thread : Thread) (r : Result Want NoMemory) (w : Want)
+    → ((files : Option Files) (whole : Run) (fuel : ℕ) (mine : List (Event × Reply)) (next : Run) → At files whole fuel mine old.purse (after_reply reply next) → At files whole fuel mine paid next)
+    → after ≡ record { purse = paid; held = old.held; thread = thread; work = old.work } → r ≡ Ok w
+    → IfOk r (DoesIn sources thread (replies on reply old.thread sources)) → Moves old.purse (remains old (want.Replied on reply)) after w
+replied_on old after paid on reply thread r w pays is came does =
+    let run : Run = remains old (want.Replied on reply) in
+    subst (λ (r : Result Want NoMemory). Leads old.purse run after r) came
+    (leads_replied old.purse run old after paid on reply thread r r (λ files whole fuel mine a. a) pays is refl does)
 
 -- a frame that was put first waits for the item
 pub begins_pushed : (c : Course) (frames : List Frame) (item : Item) (frame : Frame) → frames ≡ frame ∷ c.work

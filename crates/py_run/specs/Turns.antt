@@ -1,5 +1,5 @@
 -- What a turn of the driver does.
-use Rattle.std.specs.Prelude.{◌≡◌, ℕ, List, Option, Result, IfOk}
+use Rattle.std.specs.Prelude.{◌≡◌, ℕ, List, Option, Some, None, Result, IfOk}
 use Rattle.base_types.specs.declared.no_memory.NoMemory.{NoMemory}
 use Rattle.tree_files.specs.Files.{Files}
 use Rattle.tree_files.specs.Count.{Rose}
@@ -16,6 +16,8 @@ use Rattle.meaning_script.specs.Meaning.{outcome_of}
 use Rattle.step_calls.specs.Sources.{sources}
 use Rattle.py_frames.specs.Does.{rest, fed}
 use Rattle.py_frames.specs.declared.want.Want.{Want}
+use Rattle.py_frames.specs.declared.want.Want.TheVariants as want
+use Rattle.py_frames.specs.declared.replies.OnReply.{OnReply}
 use Rattle.py_frames.specs.declared.procedures.Procedure.{Procedure}
 use Rattle.find_load.specs.declared.words.In.{In}
 use Rattle.drive_account.specs.Ending.{Holds}
@@ -70,6 +72,11 @@ IsFileStamp stamps.Absent = ⊥
 -- a turn that makes an event
 abbrev pub Made : List (Event × Reply) → List (Event × Reply) → Purse → Course → Run → Turn → Type 0
 Made mine mine' purse after run t = (files : Option Files) (faults : ℕ) → Turned files faults faults mine mine' purse after run t
+
+-- where an event leads to which this reply came, or none since its unit was not there
+abbrev pub made : OnReply → Option Reply → Turn
+made on (Some reply) = turn.On (want.Replied on reply)
+made on None = turn.Out
 
 -- a turn may be done: it is the script's turn, what is held is known, and its events show all that it asks for
 pub record Stood {S : Type 0} (v : View S) (held : Held) (run : Run) : Type 0 where

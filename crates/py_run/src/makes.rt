@@ -1,44 +1,69 @@
 //! Turns that make an event.
-ghost use Rattle.std.specs.Prelude.{◌≡◌, ◌≤◌, ℕ, List, Err, IfOk, OnOk, OnErr, IsErrOf, Option};
+ghost use Rattle.std.specs.Prelude.{◌≤◌, IfOk, OnOk, OnErr, IsErrOf, Option};
 ghost use Rattle.tree_files.specs.Files.{Files};
 ghost use Rattle.meaning_runs.specs.Lists.{lists_in};
 ghost use Rattle.py_frames.specs.declared.want.Want.TheVariants as wants;
 ghost use Rattle.drive_port.specs.View.{View, Stays};
 ghost use Rattle.drive_account.specs.Ending.{Holds};
 ghost use Rattle.drive_search.specs.Asking.{Parted, Refused};
-ghost use Rattle.py_run.specs.Turns.{Stood, Made, remains};
+ghost use Rattle.py_run.specs.Turns.{Stood, Made, made, remains};
 
 use crate::course::Turn;
+use crate::working::follow;
 use drive_account::change_of;
 use drive_port::{Halt, Port};
 use drive_straight::Course;
 use machine_events::{Event, Reply};
 use py_frames::{Item, OnReply, Want};
+use std::alloc::Global;
 
-/// Lets go what an event that is not made was for.
-///
-/// It stands apart, since a call clears a place for each part of what its function may let go.
-fn let_go(event: Event, on: OnReply) {
-    drop(event);
-    drop(on);
-}
-
-/// Lets go the reply to an event that was made, and what it was for. It stands apart for the same reason.
-fn let_reply_go(on: OnReply, reply: Reply) {
-    drop(on);
-    drop(reply);
-}
-
-/// An event was not made.
-fn unmade(on: OnReply, halt: Halt) -> Result<Turn, Halt>
-    ensures { result ≡ Err halt }
+/// An event is made, for a unit, and its reply comes. None where the unit is not there.
+fn make<P: Port>(
+    port: &mut P,
+    course: &mut Course,
+    event: Event,
+    on: &OnReply,
+) -> Result<Option<Reply>, Halt>
+    requires stood { Stood (P.view port.old) course.old.held (remains course.old (wants.Call event on.now)) }
+    ensures stays { Stays (P.view port.old) (P.view port.new) }
+    ensures turned { IfOk result (λ reply. Made (P.view port.old).mine (P.view port.new).mine course.old.purse
+        course.new (remains course.old (wants.Call event on.now)) (made on.now reply)) }
+    ensures grows { OnOk result (lists_in (P.view port.old).mine ≤ lists_in (P.view port.new).mine) }
+    ensures holds { OnOk result (Holds (P.view port.new) course.new.held) }
+    ensures part { OnErr result ((files : Option Files) → Parted files (P.view port.old).mine
+        (P.view port.new).mine course.old.purse (remains course.old (wants.Call event on.now))) }
+    ensures refused { IsErrOf result Halt.Refused → (files : Option Files)
+        → Refused (P.view port.new) files (P.view port.old).mine course.old.purse
+        (remains course.old (wants.Call event on.now)) }
 {
-    drop(on);
-    Err(halt)
+    let _on = on;
+    let change = match change_of(&event) {
+        Ok(change) => change,
+        Err(_) => {
+            drop(event);
+            return Err(Halt::NoMemory);
+        }
+    };
+    if !course.purse.pay(false, 1) {
+        drop(event);
+        return Ok(None);
+    }
+    course.purse.read = None;
+    match port.call(event) {
+        Ok(reply) => match course.held.change(change, &reply) {
+            Ok(()) => Ok(Some(reply)),
+            Err(_) => {
+                drop(reply);
+                Err(Halt::NoMemory)
+            }
+        },
+        Err(halt) => Err(halt),
+    }
 }
 
-/// An event is made, for a unit.
+/// An event is made, for a unit, and then all is done that can be in place.
 pub fn call<P: Port>(
+    alloc: Global,
     port: &mut P,
     course: &mut Course,
     event: Event,
@@ -56,27 +81,19 @@ pub fn call<P: Port>(
         → Refused (P.view port.new) files (P.view port.old).mine course.old.purse
         (remains course.old (wants.Call event on)) }
 {
-    let change = match change_of(&event) {
-        Ok(change) => change,
-        Err(_) => {
-            let_go(event, on);
-            return Err(Halt::NoMemory);
+    let made = match make(port, course, event, &on) {
+        Ok(made) => made,
+        Err(halt) => {
+            drop(on);
+            return Err(halt);
         }
     };
-    if !course.purse.pay(false, 1) {
-        let_go(event, on);
-        return Ok(Turn::Out);
-    }
-    course.purse.read = None;
-    match port.call(event) {
-        Ok(reply) => match course.held.change(change, &reply) {
-            Ok(()) => Ok(Turn::On(Want::Replied(on, reply))),
-            Err(_) => {
-                let_reply_go(on, reply);
-                Err(Halt::NoMemory)
-            }
-        },
-        Err(halt) => unmade(on, halt),
+    match made {
+        Some(reply) => follow(alloc, course, on, reply),
+        None => {
+            drop(on);
+            Ok(Turn::Out)
+        }
     }
 }
 

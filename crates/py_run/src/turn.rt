@@ -38,7 +38,7 @@ pub fn give<P: Port, T: Tree>(
         (P.view port.new).mine) }
 {
     match want {
-        Want::Call(event, on) => call(port, course, event, on),
+        Want::Call(event, on) => call(alloc, port, course, event, on),
         Want::Wait(item) => wait(port, course, item),
         Want::Find {
             name,

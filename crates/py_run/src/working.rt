@@ -1,6 +1,8 @@
 //! Turns that see neither a port nor a tree, one after another.
 ghost use Rattle.std.specs.Prelude.{◌≡◌, IfOk, IsErrOf};
 ghost use Rattle.drive_straight.specs.Remains.{begins, due, goes_on};
+ghost use Rattle.drive_straight.specs.declared.course.Course.{Course};
+ghost use Rattle.py_frames.specs.declared.want.Want.TheVariants as wants;
 ghost use Rattle.py_run.specs.Turns.{Stepped, Wants, remains};
 
 use crate::course::Turn;
@@ -9,24 +11,91 @@ use base_types::NoMemory;
 use drive_account::pay_reply;
 use drive_port::Halt;
 use drive_straight::{
-    Course, Next, block, evaluate, resume_block, resume_decide, resume_loop, resume_operands,
+    Course, Next, block, decide, evaluate, is_in_place, resume_block, resume_loop, resume_operand,
     resume_sized, turn,
 };
+use machine_events::Reply;
 use meaning_state::Flow;
-use py_frames::{Frame, Item, Want};
+use py_frames::{Frame, Item, OnReply, Want};
 use std::alloc::Global;
 use step_calls::come_back;
 use step_dispatch::{begin, go_on, replied};
+use step_names::{read_global, store};
 
-/// What comes next is wanted, or begins, or goes on, as any other.
-fn next_want(alloc: Global, course: &mut Course, next: Next) -> Result<Want, NoMemory>
+/// What comes next, piece by piece.
+fn next_piece(alloc: Global, course: &mut Course, next: Next) -> Result<Want, NoMemory>
     ensures moves { Wants course.old (due next) course.new result }
     ensures held { course.new.held ≡ course.old.held }
 {
     match next {
-        Next::Wanted(want) => Ok(want),
-        Next::Piece(item) => begin(alloc, item, &mut course.thread),
-        Next::Frame(frame, flow) => go_on(alloc, frame, flow, &mut course.thread),
+        Next::Went(value) => Ok(Want::Go(Flow::Went(value))),
+        Next::Left(leave) => Ok(Want::Go(Flow::Left(leave))),
+        Next::Evaluate(expr) => Ok(Want::Then(Item::Eval(expr))),
+        Next::Block(stmts) => Ok(Want::Then(Item::Block { stmts, at: 0 })),
+        Next::ReadGlobal(name) => read_global(&course.thread, name),
+        Next::Store(name, value) => store(&mut course.thread, name, value),
+        Next::Call { callee, arguments } => {
+            begin(alloc, Item::Call { callee, arguments }, &mut course.thread)
+        }
+        Next::Apply { expr, values } => {
+            begin(alloc, Item::Apply { expr, values }, &mut course.thread)
+        }
+        Next::Branches {
+            branches,
+            otherwise,
+        } => {
+            let item = Item::Branches {
+                branches,
+                at: 0,
+                otherwise,
+            };
+            begin(alloc, item, &mut course.thread)
+        }
+        Next::Begun { stmts, at } => begin(alloc, Item::Begun { stmts, at }, &mut course.thread),
+        Next::Piece(item) => begin(alloc, item.into_inner(), &mut course.thread),
+        Next::Frame(waiting) => {
+            let (frame, flow) = waiting.into_inner();
+            go_on(alloc, frame, flow, &mut course.thread)
+        }
+    }
+}
+
+/// What comes next, for as long as it is done in place, and what is wanted then.
+fn straight(alloc: Global, course: &mut Course, first: Next) -> Result<Want, NoMemory>
+    ensures moves { Wants course.old (due first) course.new result }
+    ensures held { course.new.held ≡ course.old.held }
+{
+    let mut next = first;
+    let mut turns: u64 = 0;
+    'turns: loop {
+        if turns == u64::MAX {
+            return next_piece(alloc, course, next);
+        }
+        turns += 1;
+        let after = match next {
+            Next::Went(value) => match course.work.pop() {
+                None => return Ok(Want::Go(Flow::Went(value))),
+                Some(Frame::Sized) => resume_sized(alloc, course, value),
+                Some(Frame::Block { stmts, at }) => resume_block(alloc, course, stmts, at, value),
+                Some(Frame::Loop { test, body, turns }) => {
+                    resume_loop(alloc, course, test, body, turns, value)
+                }
+                Some(Frame::Operands { form, done }) => {
+                    resume_operand(alloc, course, form, done, value)
+                }
+                Some(Frame::Decide { test, body, turns }) => {
+                    decide(alloc, course, test, body, turns, value)
+                }
+                Some(frame) => return leave(alloc, course, frame, Flow::Went(value)),
+            },
+            Next::Evaluate(expr) => evaluate(alloc, course, expr),
+            Next::Block(stmts) => block(alloc, course, stmts, 0),
+            other => return next_piece(alloc, course, other),
+        };
+        match after {
+            Ok(after) => next = after,
+            Err(no_memory) => return Err(no_memory),
+        }
     }
 }
 
@@ -37,50 +106,76 @@ fn start(alloc: Global, course: &mut Course, item: Item) -> Result<Want, NoMemor
 {
     match item {
         Item::Give(flow) => Ok(Want::Go(flow)),
-        Item::Eval(expr) => {
-            let next = evaluate(alloc, course, expr)?;
-            next_want(alloc, course, next)
-        }
+        Item::Eval(expr) => straight(alloc, course, Next::Evaluate(expr)),
         Item::Block { stmts, at } => {
             let next = block(alloc, course, stmts, at)?;
-            next_want(alloc, course, next)
+            straight(alloc, course, next)
         }
         Item::Turn { test, body, turns } => {
             let next = turn(alloc, course, test, body, turns)?;
-            next_want(alloc, course, next)
+            straight(alloc, course, next)
         }
         item => begin(alloc, item, &mut course.thread),
     }
 }
 
-/// A way on comes to a frame: what follows is done at once, as far as it can be, and else as any other.
-fn resume(alloc: Global, course: &mut Course, frame: Frame, flow: Flow) -> Result<Want, NoMemory>
+/// A way on comes to a frame, which goes on piece by piece; the way out of a body is gone at once.
+fn leave(alloc: Global, course: &mut Course, frame: Frame, flow: Flow) -> Result<Want, NoMemory>
     ensures moves { Wants course.old (goes_on frame flow) course.new result }
     ensures held { course.new.held ≡ course.old.held }
 {
     match frame {
-        Frame::Sized => {
-            let next = resume_sized(alloc, course, flow)?;
-            next_want(alloc, course, next)
-        }
-        Frame::Block { stmts, at } => {
-            let next = resume_block(alloc, course, stmts, at, flow)?;
-            next_want(alloc, course, next)
-        }
-        Frame::Loop { test, body, turns } => {
-            let next = resume_loop(alloc, course, test, body, turns, flow)?;
-            next_want(alloc, course, next)
-        }
-        Frame::Operands { form, done } => {
-            let next = resume_operands(alloc, course, form, done, flow)?;
-            next_want(alloc, course, next)
-        }
-        Frame::Decide { test, body, turns } => {
-            let next = resume_decide(course, test, body, turns, flow)?;
-            next_want(alloc, course, next)
-        }
         Frame::Back { scope, left } => Ok(come_back(&mut course.thread, scope, left, flow)),
         frame => go_on(alloc, frame, flow, &mut course.thread),
+    }
+}
+
+/// A way on comes to a frame: what follows is done at once, as far as it can be, and else as any other.
+fn pass(alloc: Global, course: &mut Course, frame: Frame, flow: Flow) -> Result<Want, NoMemory>
+    ensures moves { Wants course.old (goes_on frame flow) course.new result }
+    ensures held { course.new.held ≡ course.old.held }
+{
+    match flow {
+        Flow::Went(value) => {
+            if !is_in_place(&frame) {
+                return leave(alloc, course, frame, Flow::Went(value));
+            }
+            course.work.push(frame)?;
+            straight(alloc, course, Next::Went(value))
+        }
+        Flow::Left(left) => leave(alloc, course, frame, Flow::Left(left)),
+    }
+}
+
+/// A way on comes to the work that waits.
+fn passing(flow: Flow) -> Next
+    ensures { (c : Course) → due result c ≡ remains c (wants.Go flow) }
+{
+    match flow {
+        Flow::Went(value) => Next::Went(value),
+        Flow::Left(leave) => Next::Left(leave),
+    }
+}
+
+/// The reply to an event comes to what waits for it, once its cost is paid, and then all is done that can be in place.
+pub fn follow(alloc: Global, course: &mut Course, on: OnReply, reply: Reply) -> Result<Turn, Halt>
+    ensures turned { IfOk result (Stepped course.old.purse course.new (remains course.old (wants.Replied on reply))) }
+    ensures held { course.new.held ≡ course.old.held }
+    ensures refused { IsErrOf result Halt.Refused → ⊥ }
+{
+    if !pay_reply(&mut course.purse, &reply) {
+        return Ok(Turn::Out);
+    }
+    let want = match replied(alloc, on, reply, &mut course.thread) {
+        Ok(want) => want,
+        Err(_) => return Err(Halt::NoMemory),
+    };
+    match want {
+        Want::Go(flow) => match straight(alloc, course, passing(flow)) {
+            Ok(next) => Ok(Turn::On(next)),
+            Err(_) => Err(Halt::NoMemory),
+        },
+        other => Ok(Turn::On(other)),
     }
 }
 
@@ -103,7 +198,7 @@ pub fn work_on(alloc: Global, course: &mut Course, first: Want) -> Result<Turn, 
         let next = match want {
             Want::Go(flow) => match next_frame(&mut course.work, &flow) {
                 None => return Ok(Turn::Came(flow)),
-                Some(frame) => resume(alloc, course, frame, flow),
+                Some(frame) => pass(alloc, course, frame, flow),
             },
             Want::Then(item) => start(alloc, course, item),
             Want::Both(item, frame) => match course.work.push(frame) {

@@ -3,6 +3,7 @@ use Rattle.meaning_script.specs.Operators.{operands_at}
 use Rattle.py_syntax.specs.declared.expr.Expr.{out-Expr}
 use Rattle.py_frames.specs.declared.want.Want.TheVariants as want
 use Rattle.py_frames.specs.declared.work.Form.TheVariants.{Expression}
+use Rattle.py_frames.specs.declared.work.Item.{Item}
 use Rattle.py_frames.specs.declared.work.Item.TheVariants as it
 use Rattle.drive_account.specs.At.{At}
 use Rattle.drive_account.specs.declared.purse.Purse.{Purse}
@@ -25,8 +26,10 @@ returns-in-None-clause-moves c =
 
 pub returns-then-not-afford-clause-moves : goal.returns-then-not-afford-clause-moves
 returns-then-not-afford-clause-moves c = λ files whole fuel mine a.
-    subst (λ (p : Purse). At files whole fuel mine p (remains c.operands.course (want.Then (it.Operands (Expression c.args.expr) c.operands.values)))) (sym (c.if-not-afford.ensures.unpaid refl))
-    (c.operands.invariant.moves files whole fuel mine a)
+    let here : Course = c.operands.course in
+    subst (λ (item : Item). At files whole fuel mine c.afford.new.purse (remains here (want.Then item))) (sym c.in_ok-new-in-Some-2.ensures)
+    (subst (λ (p : Purse). At files whole fuel mine p (remains here (want.Then (it.Operands (Expression c.args.expr) c.operands.values)))) (sym (c.if-not-afford.ensures.unpaid refl))
+    (c.operands.invariant.moves files whole fuel mine a))
 
 pub operands-smaller : goal.operands-smaller
 operands-smaller c =

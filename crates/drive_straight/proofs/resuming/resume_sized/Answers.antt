@@ -1,4 +1,5 @@
 use Rattle.std.proofs.Common.{refl, rules}
+use Rattle.meaning_state.specs.declared.flow.Flow.TheVariants.{Went}
 use Rattle.py_frames.specs.declared.work.Frame.TheVariants as frame
 use Rattle.drive_straight.specs.Remains.{gives, goes_on}
 use Rattle.drive_straight.specs.declared.course.Course.{Course}
@@ -6,9 +7,9 @@ use Rattle.drive_straight.proofs.AtOnce.{paid_size}
 use Rattle.drive_straight.proofs.Operands.{leads_behind}
 use Rattle.drive_straight.proofs.resuming.resume_sized.Goals as goal
 
-pub returns-else-not-afford-clause-moves : goal.returns-else-not-afford-clause-moves
-returns-else-not-afford-clause-moves c =
+pub returns-clause-moves : goal.returns-clause-moves
+returns-clause-moves c =
     let old = c.args.course.now in
     let paid : Course = record { purse = c.afford.new.purse; held = old.held; thread = old.thread; work = old.work } in
-    leads_behind old paid c.give_operand.new.course (goes_on frame.Sized c.args.flow) (gives c.in-Went.value) c.give_operand.result
-    (paid_size old c.args.flow c.in-Went.value c.size.result c.afford.new.purse c.in-Went.is (search rules) (c.if-not-afford.ensures.paid refl)) c.give_operand.ensures.moves
+    leads_behind old paid c.give_operand.new.course (goes_on frame.Sized (Went c.args.value)) (gives c.args.value) c.give_operand.result
+    (paid_size old (Went c.args.value) c.args.value c.size.result c.afford.new.purse refl (search rules) (c.if-not-afford.ensures.paid refl)) c.give_operand.ensures.moves

@@ -1,32 +1,27 @@
-use Rattle.std.proofs.Common.{◌≡◌, Err, refl, ap}
-use Rattle.machine_shown.specs.Shown.{shown}
-use Rattle.drive_account.proofs.Giving.{lists_grow}
-use Rattle.drive_port.specs.declared.port.Halt.TheVariants.{Refused}
-use Rattle.py_run.proofs.Holding.{knows_made}
-use Rattle.drive_search.proofs.Making.{at_made, refused_here}
-use Rattle.py_run.proofs.Making.{in_made}
+use Rattle.std.proofs.Common.{None, Some}
+use Rattle.std.proofs.lemmas.Result.{IfOk-weaker}
+use Rattle.py_frames.specs.declared.want.Want.TheVariants as want
+use Rattle.py_run.specs.Turns.{remains}
+use Rattle.py_run.proofs.Making.{made_known, made_on, made_stands}
 use Rattle.py_run.proofs.makes.call.Goals as goal
 
-pub call-requires-clause-knows : goal.call-requires-clause-knows
-call-requires-clause-knows g c = knows_made (shown (g.P.Port.view c.args.port.now).number (g.P.Port.view c.args.port.now).mine) c.args.event c.requires.stood.safe.0 c.requires.stood.safe.1.0
+pub returns-in-Some-clause-turned : goal.returns-in-Some-clause-turned
+returns-in-Some-clause-turned g c =
+    let mine = (g.P.Port.view c.args.port.now).mine in
+    let mine' = (g.P.Port.view c.make.new.port).mine in
+    let run = remains c.args.course.now (want.Call c.args.event c.args.on) in
+    IfOk-weaker c.follow.result _ _ (λ t led. made_on mine mine' c.args.course.now.purse c.make.new.course c.follow.new.course run c.args.on c.in-Some.reply t
+    (made_known mine mine' c.args.course.now.purse c.make.new.course run c.args.on c.in-Ok.made (Some c.in-Some.reply) c.in-Some.is c.in-Ok.ensures.turned) led) c.follow.ensures.turned
 
-pub returns-then-not-pay-clause-turned : goal.returns-then-not-pay-clause-turned
-returns-then-not-pay-clause-turned g c = λ files faults. record { moves = λ whole fuel a. c.if-not-pay.ensures.moves files whole fuel _ _ a; counts = refl }
+pub returns-in-Some-clause-part : goal.returns-in-Some-clause-part
+returns-in-Some-clause-part g c =
+    let mine = (g.P.Port.view c.args.port.now).mine in
+    let mine' = (g.P.Port.view c.make.new.port).mine in
+    let run = remains c.args.course.now (want.Call c.args.event c.args.on) in
+    made_stands c.follow.result mine mine' c.args.course.now.purse c.make.new.course run c.args.on c.in-Some.reply
+    (made_known mine mine' c.args.course.now.purse c.make.new.course run c.args.on c.in-Ok.made (Some c.in-Some.reply) c.in-Some.is c.in-Ok.ensures.turned)
 
-pub returns-in-Ok-change-clause-turned : goal.returns-in-Ok-change-clause-turned
-returns-in-Ok-change-clause-turned g c = λ files faults. record {
-  moves = λ whole fuel a. at_made (g.P.Port.view c.args.port.now).mine _ c.pay.new.self c.args.event c.in-Ok-call.reply _ c.in-Ok-call.ensures.ok.mine (c.if-not-pay.ensures.moves files whole fuel _ _ a);
-  counts = refl;
-}
-
-pub returns-in-Err-change-clause-part : goal.returns-in-Err-change-clause-part
-returns-in-Err-change-clause-part g c = λ files whole fuel a.
-    in_made (g.P.Port.view c.args.port.now).mine _ c.pay.new.self c.args.event c.in-Ok-call.reply _ c.in-Ok-call.ensures.ok.mine (c.if-not-pay.ensures.moves files whole fuel _ _ a)
-
-pub returns-in-Err-call-clause-refused : goal.returns-in-Err-call-clause-refused
-returns-in-Err-call-clause-refused g c = λ is files whole fuel a.
-    let same : c.in-Err-call.halt ≡ Refused = cc in
-    refused_here (g.P.Port.view c.call.new.self) files whole fuel (g.P.Port.view c.args.port.now).mine c.pay.new.self c.args.event _ (c.in-Err-call.ensures.refused (ap Err same)) c.in-Err-call.ensures.err (c.if-not-pay.ensures.moves files whole fuel _ _ a)
-
-pub returns-in-Ok-change-clause-grows : goal.returns-in-Ok-change-clause-grows
-returns-in-Ok-change-clause-grows g c = lists_grow (g.P.Port.view c.args.port.now).mine (g.P.Port.view c.call.new.self).mine c.args.event c.in-Ok-call.reply c.in-Ok-call.ensures.ok.mine
+pub returns-in-None-clause-turned : goal.returns-in-None-clause-turned
+returns-in-None-clause-turned g c =
+    made_known (g.P.Port.view c.args.port.now).mine (g.P.Port.view c.make.new.port).mine c.args.course.now.purse c.make.new.course (remains c.args.course.now (want.Call c.args.event c.args.on)) c.args.on
+    c.in-Ok.made None c.in-None.is c.in-Ok.ensures.turned

@@ -50,7 +50,7 @@ turns-preserved c =
       | in-Go+in-Some w ↦
           let mid : Course = record { purse = course.purse; held = course.held; thread = course.thread; work = w.next_frame.new.work } in
           leads_by purse run course mid c.match-want.course (wants.Go w.in-Go.flow) (goes_on w.in-Some.frame w.in-Go.flow) _ _ (wanted purse run course _ _ w.in-Go.is came)
-          (comes_on course w.in-Go.flow w.in-Some.frame w.next_frame.new.work w.in-Some.ensures) w.next-is (rw w.course-is w.resume.ensures.moves)
+          (comes_on course w.in-Go.flow w.in-Some.frame w.next_frame.new.work w.in-Some.ensures) w.next-is (rw w.course-is w.pass.ensures.moves)
       | in-Then w ↦
           leads_by purse run course course c.match-want.course (wants.Then w.in-Then.item) (begins w.in-Then.item) _ _ (wanted purse run course _ _ w.in-Then.is came) (λ files whole fuel mine a. a) w.next-is (rw w.course-is w.start-next.ensures.moves)
       | in-Both+in-Ok w ↦
@@ -67,7 +67,7 @@ turns-preserved c =
           (wanted purse run course _ _ w.in-Replied.is came) w.if-not-pay_reply.ensures w.course-is w.next-is w.replied-next.ensures
     ] in
     let kept : c.match-want.course.held ≡ course.held = elim c.match-want.branch [
-      | in-Go+in-Some w ↦ ap (λ (c : Course). c.held) w.course-is ∙ w.resume.ensures.held
+      | in-Go+in-Some w ↦ ap (λ (c : Course). c.held) w.course-is ∙ w.pass.ensures.held
       | in-Then w ↦ ap (λ (c : Course). c.held) w.course-is ∙ w.start-next.ensures.held
       | in-Both+in-Ok w ↦ ap (λ (c : Course). c.held) w.course-is ∙ w.start.ensures.held
       | in-Both+in-Err w ↦ ap (λ (c : Course). c.held) w.course-is
