@@ -2,3 +2,9 @@ pub mod Spelling
 pub mod Bundle
 pub mod Reading
 pub mod Files
+pub mod Expand
+pub mod Inside
+pub mod Indexes
+pub mod Places
+pub mod Things
+pub mod Seen

@@ -9,7 +9,7 @@ use Rattle.machine_shown.specs.Knowing.{IsShown}
 use Rattle.meaning_runs.specs.Lists.{lists_in}
 use Rattle.meaning_runs.specs.Runs.{gives, keeps, Makes}
 use Rattle.meaning_runs.proofs.Stand.{may_give, gives_more, held_more, runs_more}
-use Rattle.drive_port.specs.View.{View, Stays, Gains}
+use Rattle.drive_account.specs.View.{View, Stays, Gains}
 use Rattle.drive_account.specs.Holds.{holding_of, held_in}
 use Rattle.drive_account.specs.declared.held.Held.{Held}
 use Rattle.drive_account.specs.declared.held.Hold.{Hold}

@@ -11,7 +11,7 @@ use Rattle.machine_events.specs.declared.event.Outcome.TheVariants as o
 use Rattle.machine_shown.specs.Shown.{shown, shown_first, Running}
 use Rattle.meaning_runs.specs.Runs.{Run, Over, How, Makes, Reaches, spend, GivesUp}
 use Rattle.meaning_runs.specs.Follows.{Ends}
-use Rattle.drive_port.specs.View.{View}
+use Rattle.drive_account.specs.View.{View}
 use Rattle.drive_account.specs.Holds.{held_in}
 use Rattle.drive_account.specs.declared.held.Held.{Held}
 use Rattle.drive_account.specs.declared.end.Ending.{Ending}

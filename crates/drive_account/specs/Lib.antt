@@ -2,3 +2,9 @@ pub mod Holds
 pub mod Changes
 pub mod Ending
 pub mod At
+pub mod View
+pub mod Replay
+pub mod Following
+pub mod Stages
+pub mod Asking
+pub mod Searching

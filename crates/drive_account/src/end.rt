@@ -7,14 +7,13 @@ ghost use Rattle.machine_shown.specs.Shown.{shown};
 ghost use Rattle.machine_shown.specs.Knowing.{IsShown};
 ghost use Rattle.meaning_runs.specs.Lists.{lists_in};
 ghost use Rattle.meaning_runs.specs.Runs.{gives};
-ghost use Rattle.drive_port.specs.View.{View, Stays};
+ghost use Rattle.drive_account.specs.View.{View, Stays};
 ghost use Rattle.drive_account.specs.Holds.{holding_of, held_in};
 ghost use Rattle.meaning_script.specs.Meaning as meant;
 ghost use Rattle.drive_account.specs.Ending.{outcome, IsRead, Idle, Gave, GaveAll, RefusedGiving, RefusedLast};
 
-use crate::{Held, Hold};
+use crate::{Halt, Held, Hold, Port};
 use base_types::{Exact, NoMemory};
-use drive_port::{Halt, Port};
 use machine_events::{Event, Outcome};
 use meaning_state::{Flow, Leave};
 use py_value::Raised;

@@ -96,7 +96,7 @@ impl Held {
     }
 
     /// The innermost that is this one is held no more.
-    #[tactic(auto, using(crate::proofs::Places::past, crate::proofs::Places::here))]
+    #[tactic(auto, using(crate::proofs::HeldPlaces::past, crate::proofs::HeldPlaces::here))]
     pub fn give(&mut self, hold: &Hold)
         ensures { held_in self.new ≡ without (holding_of hold.now) (held_in self.old) }
     {
@@ -111,7 +111,7 @@ impl Held {
     }
 
     /// The innermost that is this one becomes another.
-    #[tactic(auto, using(crate::proofs::Places::past_other, crate::proofs::Places::becomes))]
+    #[tactic(auto, using(crate::proofs::HeldPlaces::past_other, crate::proofs::HeldPlaces::becomes))]
     pub fn turn(&mut self, hold: &Hold, into: Hold)
         ensures { held_in self.new ≡ becoming (holding_of hold.now) (holding_of into) (held_in self.old) }
     {

@@ -18,7 +18,7 @@ use py_frames::{Form, Frame, Item};
 use py_syntax::{Expr, Stmt};
 use py_value::Value;
 use std::alloc::Global;
-use step_names::{is_local_name, set_local};
+use step_simple::{is_local_name, set_local};
 use step_straight::{Given, Priced, at_once};
 
 /// The value of an expression, and the units of the statement that has it: its own and those of the expression. None

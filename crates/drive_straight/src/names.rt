@@ -11,7 +11,7 @@ use base_types::{Exact, NoMemory};
 use py_frames::{Frame, Item};
 use py_syntax::Expr;
 use std::alloc::Global;
-use step_names::is_local_name;
+use step_simple::is_local_name;
 
 /// An expression that has no value at once. A name that is not local is read of the module, and its unit is paid.
 pub fn ask(alloc: Global, course: &mut Course, expr: Shared<Expr>) -> Result<Next, NoMemory>

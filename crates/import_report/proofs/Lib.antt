@@ -3,3 +3,4 @@ pub mod Things
 pub mod Piles
 pub mod Steps
 pub mod Once
+pub mod Finding

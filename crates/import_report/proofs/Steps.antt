@@ -11,8 +11,8 @@ use Rattle.tree_walk.specs.Below.{all_within}
 use Rattle.tree_walk.proofs.Splitting.{all_within-absent}
 use Rattle.tree_walk.proofs.Walking.{absent_node, next_item, no_item}
 use Rattle.report_questions.specs.declared.question.Question.{Question}
-use Rattle.report_lines.specs.Lines.{question_line, file_lines, too_deep}
-use Rattle.report_lines.specs.declared.line.Line.{Line}
+use Rattle.import_report.specs.Lines.{question_line, file_lines, too_deep}
+use Rattle.import_report.specs.declared.line.Line.{Line}
 use Rattle.import_report.specs.Sources.{source_of, source_questions}
 use Rattle.import_report.specs.declared.sources.Source.{Source}
 use Rattle.import_report.specs.Reports.{source_lines, lines_of, entered, report_lines, report_folders}

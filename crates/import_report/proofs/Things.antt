@@ -10,8 +10,8 @@ use Rattle.tree_files.specs.declared.tree.Node.TheVariants.{File, Dir}
 use Rattle.tree_walk.specs.Below.{named, all_within, most_parts}
 use Rattle.tree_walk.proofs.Splitting.{nothing, within_longer, all_within-split, all_within-file, all_within-silent}
 use Rattle.tree_walk.proofs.Walking.{dir_node, file_node}
-use Rattle.report_lines.specs.Lines.{too_deep}
-use Rattle.report_lines.specs.declared.line.Line.{Line}
+use Rattle.import_report.specs.Lines.{too_deep}
+use Rattle.import_report.specs.declared.line.Line.{Line}
 use Rattle.import_report.specs.Sources.{source_of}
 use Rattle.import_report.specs.Reports.{source_lines, deep_lines, lines_of, entered}
 

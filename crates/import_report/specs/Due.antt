@@ -4,8 +4,8 @@ use Rattle.base_types.specs.Path.{Path}
 use Rattle.tree_files.specs.Files.{Files}
 use Rattle.tree_files.specs.declared.tree.Node.{Node}
 use Rattle.tree_walk.specs.Below.{all_within}
-use Rattle.report_lines.specs.Lines.{file_lines}
-use Rattle.report_lines.specs.declared.line.Line.{Line}
+use Rattle.import_report.specs.Lines.{file_lines}
+use Rattle.import_report.specs.declared.line.Line.{Line}
 use Rattle.import_report.specs.Reports.{lines_of, entered}
 use Rattle.import_report.specs.declared.pending.Asked.{Asked}
 use Rattle.import_report.specs.declared.pending.Pending.{Pending}

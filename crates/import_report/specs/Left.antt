@@ -2,7 +2,7 @@
 use Rattle.std.specs.Prelude.{List}
 use Rattle.base_types.specs.Path.{Path}
 use Rattle.tree_files.specs.Files.{Files}
-use Rattle.report_lines.specs.declared.line.Line.{Line}
+use Rattle.import_report.specs.declared.line.Line.{Line}
 use Rattle.import_report.specs.Due.{due_lines, due_folders}
 use Rattle.import_report.specs.declared.walk.Walk.{Walk}
 

@@ -6,8 +6,8 @@ use Rattle.tree_files.specs.Files.{Files}
 use Rattle.tree_files.specs.declared.tree.Node.{Node}
 use Rattle.tree_files.specs.declared.tree.Node.TheVariants.{File, Dir}
 use Rattle.tree_walk.specs.Below.{all_within, most_parts}
-use Rattle.report_lines.specs.Lines.{file_lines, too_deep}
-use Rattle.report_lines.specs.declared.line.Line.{Line}
+use Rattle.import_report.specs.Lines.{file_lines, too_deep}
+use Rattle.import_report.specs.declared.line.Line.{Line}
 use Rattle.import_report.specs.Sources.{source_of, source_questions}
 use Rattle.import_report.specs.declared.sources.Source.{Source}
 

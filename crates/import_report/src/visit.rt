@@ -11,8 +11,8 @@ ghost use Rattle.import_report.specs.declared.pending.Pending.TheVariants as par
 
 use crate::pending::{Asked, Folder, Pending, Pile, Place};
 use crate::sources::{Source, ask_source, source_of};
+use crate::{Line, question_line, too_deep};
 use base_types::{NoMemory, Texts, TreePath};
-use report_lines::{Line, question_line, too_deep};
 use tree_files::{Stamp, Tree, TreeFault};
 use tree_walk::child_of;
 

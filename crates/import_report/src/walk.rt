@@ -7,10 +7,10 @@ ghost use Rattle.import_report.specs.Due.{due_lines, due_folders, Lists};
 ghost use Rattle.import_report.specs.Reports.{report_lines, report_folders};
 ghost use Rattle.import_report.specs.Left.{left, unlisted};
 
+use crate::Line;
 use crate::pending::{Pending, Pile, Place};
 use crate::visit::take;
 use base_types::{Exact, NoMemory, Seq, Texts, TreePath};
-use report_lines::Line;
 use tree_files::{Tree, TreeFault};
 
 /// A walk over the import statements of all sources below a folder, which tells one line at a time. It keeps the names of

@@ -5,13 +5,13 @@ use Rattle.std.specs.List.{list_any}
 use Rattle.std.specs.Option.{option_and_then}
 use Rattle.std.specs.Char.{is_ascii_digit}
 use Rattle.std.proofs.lemmas.Bool.{cases_Bool, eqb-true, or_parts}
-use Rattle.words_options.specs.Words.{Word, is_dashed, is_refused, options, no_settings}
-use Rattle.words_options.specs.Taken.{keys_of, allows, only, taken}
-use Rattle.words_options.specs.declared.command.Command.{Command}
-use Rattle.words_options.specs.declared.command.Command.TheVariants as command
-use Rattle.words_options.specs.declared.found.Settings.{Settings}
-use Rattle.words_options.specs.declared.found.Front.{Front}
-use Rattle.words_options.proofs.Agree.{dashed_taken, plain_taken}
+use Rattle.import_words.specs.OptionWords.{Word, is_dashed, is_refused, options, no_settings}
+use Rattle.import_words.specs.Taken.{keys_of, allows, only, taken}
+use Rattle.import_words.specs.declared.clap_command.Command.{Command}
+use Rattle.import_words.specs.declared.clap_command.Command.TheVariants as command
+use Rattle.import_words.specs.declared.found.Settings.{Settings}
+use Rattle.import_words.specs.declared.found.Front.{Front}
+use Rattle.import_words.proofs.Agree.{dashed_taken, plain_taken}
 use Rattle.import_words.specs.Plans.{behind_options, run_plan, check_plan, module_plan, report_plan, gen_of, gen_with, number_of, digits_of, only_word, plan_of, plan_by, command_of}
 use Rattle.import_words.specs.declared.plan.Plan.{Plan}
 

@@ -5,10 +5,10 @@ use Rattle.std.specs.Option.{option_map, option_or, option_and_then}
 use Rattle.std.specs.Char.{is_ascii_digit}
 use Rattle.std.specs.Str.Parse.{digits_value}
 use Rattle.spec_core.specs.Identifiers.{is_dotted}
-use Rattle.words_options.specs.Words.{Word, same_text, is_refused, is_dashed, options, no_settings}
-use Rattle.words_options.specs.declared.command.Command.{Command}
-use Rattle.words_options.specs.declared.command.Command.TheVariants as command
-use Rattle.words_options.specs.declared.found.Settings.{Settings}
+use Rattle.import_words.specs.OptionWords.{Word, same_text, is_refused, is_dashed, options, no_settings}
+use Rattle.import_words.specs.declared.clap_command.Command.{Command}
+use Rattle.import_words.specs.declared.clap_command.Command.TheVariants as command
+use Rattle.import_words.specs.declared.found.Settings.{Settings}
 use Rattle.import_words.specs.declared.plan.Plan.{Plan}
 use Rattle.import_words.specs.declared.plan.Plan.TheVariants as plan
 use Rattle.import_words.specs.declared.plan.RunPlan.{RunPlan}

@@ -1,9 +1,9 @@
 -- The usage line for refused words, by the first of them.
 use Rattle.std.specs.Prelude.{List, [], ◌∷◌, codes, Option, Some, None}
-use Rattle.words_options.specs.Words.{Word}
+use Rattle.import_words.specs.OptionWords.{Word}
 use Rattle.import_words.specs.Plans.{command_of}
-use Rattle.words_options.specs.declared.command.Command.{Command}
-use Rattle.words_options.specs.declared.command.Command.TheVariants as command
+use Rattle.import_words.specs.declared.clap_command.Command.{Command}
+use Rattle.import_words.specs.declared.clap_command.Command.TheVariants as command
 
 -- `check` and `convert` share a line, and so do `run`, `gen`, and a first word that names no command or is missing
 abbrev pub usage_by : Option Command → Word

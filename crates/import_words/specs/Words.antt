@@ -1,2 +1,2 @@
 -- Words of a command line, each as its bytes.
-pub use Rattle.words_options.specs.Words.{Word}
+pub use Rattle.import_words.specs.OptionWords.{Word}

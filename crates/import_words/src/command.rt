@@ -4,7 +4,7 @@ ghost use Rattle.std.specs.String.{string_bytes};
 ghost use Rattle.import_words.specs.Plans.{command_of};
 ghost use Rattle.import_words.specs.Usage.{usage_by, usage_of};
 
-use words_options::Command;
+use crate::Command;
 
 /// The command that a word names.
 pub(crate) fn command_of(word: &str) -> Option<Command>

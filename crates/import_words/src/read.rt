@@ -2,7 +2,7 @@
 ghost use Rattle.std.specs.Prelude.{◌≡◌, IfOk, false, map};
 ghost use Rattle.std.specs.List.{list_any};
 ghost use Rattle.std.specs.String.{string_bytes};
-ghost use Rattle.words_options.specs.Words.{is_refused};
+ghost use Rattle.import_words.specs.OptionWords.{is_refused};
 ghost use Rattle.import_words.specs.Plans.{plan_of, plan_by, gen_of, run_plan, check_plan, module_plan, report_plan, has_path_alone, only_word, Plans, behind_options};
 
 use crate::command::command_of;
@@ -10,9 +10,9 @@ use crate::number::{digits_of, number_of};
 use crate::path::path_of;
 use crate::plan::{Plan, WordsError};
 use crate::run::{are_names, are_scripts, is_dashed, run_of, run_with};
+use crate::{Command, Settings, take_apart};
 use base_types::{Exact, NoMemory, Text, Texts};
 use std::alloc::Global;
-use words_options::{Command, Settings, take_apart};
 
 fn is_refused(word: &str) -> bool
     ensures { result ≡ is_refused word.now }

@@ -2,16 +2,16 @@
 ghost use Rattle.std.specs.Prelude.{◌≡◌, IfOk, not};
 ghost use Rattle.std.specs.List.{list_all};
 ghost use Rattle.spec_core.specs.Identifiers.{is_dotted};
-ghost use Rattle.words_options.specs.Words.{is_dashed};
+ghost use Rattle.import_words.specs.OptionWords.{is_dashed};
 ghost use Rattle.import_words.specs.Plans.{run_with, run_of, are_scripts};
 
+use crate::Settings;
 use crate::number::fuel_of;
 use crate::path::{folder_of, path_of};
 use crate::plan::RunPlan;
 use base_types::{Exact, NoMemory, Text, Texts};
 use spec_core::Dotted;
 use std::alloc::Global;
-use words_options::Settings;
 
 pub(crate) fn is_dashed(word: &str) -> bool
     ensures { result ≡ is_dashed word.now }

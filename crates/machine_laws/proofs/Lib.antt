@@ -20,3 +20,6 @@ pub mod OneLoad
 pub mod Fitting
 pub mod Deadlocks
 pub mod Always
+mod Tables
+mod Rising
+mod Falling

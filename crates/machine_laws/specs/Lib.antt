@@ -2,3 +2,4 @@ pub mod Bones
 pub mod Sound
 pub mod Answered
 pub mod Begun
+pub mod Counts

@@ -16,7 +16,7 @@ use Rattle.machine_events.specs.declared.event.Entry.{Entry}
 use Rattle.machine_events.specs.declared.event.Pair.{Pair}
 use Rattle.machine_events.specs.declared.event.Follow.{Follow}
 use Rattle.machine_shown.specs.Own.{own}
-use Rattle.drive_follow.specs.Following.{Answers}
+use Rattle.drive_account.specs.Following.{Answers}
 use Rattle.program_run.specs.Alone.{Means}
 use Rattle.program_rounds.specs.Opened.{files_after}
 use Rattle.program_rounds.proofs.Begun.{next_round}

@@ -13,8 +13,8 @@ use Rattle.program_run.specs.Statuses.{refusal, tree_fault, sink_fault}
 use Rattle.program_run.specs.declared.open.Unopened.{Unopened}
 use Rattle.program_run.specs.declared.open.Unopened.TheVariants as unopened
 use Rattle.program_rounds.specs.Opened.{HasRounds, IsRefusedIn, StopsIn, WantsRounds}
-use Rattle.program_convert.specs.Opening.{Names, NoTrace}
-use Rattle.tree_reading.specs.declared.open.Read.TheVariants as read
+use Rattle.program_commands.specs.Opening.{Names, NoTrace}
+use Rattle.tree_walk.specs.declared.open.Read.TheVariants as read
 use Rattle.program_check.specs.Judge.{Judge}
 use Rattle.program_check.specs.Opened.{Opens, IsUnopened, StopsFor}
 use Rattle.program_check.specs.Checking.{Checks, ChecksText, Unmade, Lacks}

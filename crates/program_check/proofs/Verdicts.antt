@@ -12,7 +12,7 @@ use Rattle.machine_spec.specs.declared.state.State.{State}
 use Rattle.machine_spec.specs.Legal.{IsLegal}
 use Rattle.machine_shown.specs.Own.{own}
 use Rattle.meaning_runs.specs.Runs.{Run}
-use Rattle.drive_follow.specs.Following.{Answers, IsPart}
+use Rattle.drive_account.specs.Following.{Answers, IsPart}
 use Rattle.import_words.specs.declared.plan.RunPlan.{RunPlan}
 use Rattle.words_rounds.specs.declared.rounds.Round.{Round}
 use Rattle.program_run.specs.Alone.{Means}

@@ -9,9 +9,9 @@ use Rattle.program_run.specs.Sinks.{Moment, Leaves, status_by}
 use Rattle.program_run.specs.Statuses.{refusal, tree_fault, sink_fault, want_of_memory}
 use Rattle.program_run.specs.declared.open.Unopened.{Unopened}
 use Rattle.program_run.specs.declared.open.Unopened.TheVariants as stops
-use Rattle.program_convert.specs.Opening.{Names, unopened_line}
-use Rattle.tree_reading.specs.declared.open.Read.{Read}
-use Rattle.tree_reading.specs.declared.open.Read.TheVariants as read
+use Rattle.program_commands.specs.Opening.{Names, unopened_line}
+use Rattle.tree_walk.specs.declared.open.Read.{Read}
+use Rattle.tree_walk.specs.declared.open.Read.TheVariants as read
 use Rattle.trace_check.specs.declared.answers.Verdict.{Verdict}
 use Rattle.program_check.specs.Judge.{Judge}
 use Rattle.program_check.specs.Opened.{Opens, IsUnopened}

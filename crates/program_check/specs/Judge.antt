@@ -8,7 +8,7 @@ use Rattle.machine_events.specs.declared.event.Entry.{Entry}
 use Rattle.machine_events.specs.declared.event.Follow.{Follow}
 use Rattle.machine_spec.specs.Legal.{IsLegal}
 use Rattle.machine_shown.specs.Own.{own}
-use Rattle.drive_follow.specs.Following.{Answers, IsWhole}
+use Rattle.drive_account.specs.Following.{Answers, IsWhole}
 use Rattle.import_words.specs.declared.plan.RunPlan.{RunPlan}
 use Rattle.program_run.specs.Alone.{Means}
 use Rattle.program_rounds.specs.Rounds.{trees_of, told_in, opening_in}

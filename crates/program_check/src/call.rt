@@ -15,7 +15,7 @@ use crate::text::{Said, judge};
 use base_types::{Seq, Text};
 use import_words::{Plan, RunPlan};
 use machine_desk::Flow;
-use program_convert::open_trace;
+use program_commands::open_trace;
 use program_run::{
     REFUSAL, Report, SINK_FAULT, TREE_FAULT, Unopened, WANT_OF_MEMORY, joined, say_line, tell,
     without_run,

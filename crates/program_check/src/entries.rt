@@ -5,7 +5,7 @@ ghost use Rattle.tree_files.specs.Files.{Files};
 ghost use Rattle.tree_overlay.specs.Kinds.{IsBelowRoot};
 ghost use Rattle.tree_overlay.specs.Told.{edited_told};
 ghost use Rattle.trace_check.specs.Threads.{list_of, pairs_of};
-ghost use Rattle.drive_follow.specs.Following.{Answers};
+ghost use Rattle.drive_account.specs.Following.{Answers};
 ghost use Rattle.program_rounds.specs.Rounds.{opening_in, told_in};
 ghost use Rattle.program_check.specs.Judge.{AreFollows, JudgesEntries};
 ghost use Rattle.program_check.specs.Opened.{Fit};
@@ -20,7 +20,7 @@ use program_rounds::{Ground, ground_for};
 use std::alloc::Global;
 use trace_check::{Verdict, counts_of, own_lists, replay_shares, threads_of, verdict_in};
 use tree_files::{Edit, Grove, TreeFault};
-use tree_rounds::{absorb_fork, add_edits, edited_fork};
+use tree_overlay::{absorb_fork, add_edits, edited_fork};
 
 /// A judged trace has fewer entries, so that the line behind the last one has a number of 32 bits.
 const MOST_ENTRIES: usize = 4_294_967_294;

@@ -2,8 +2,8 @@
 ghost use Rattle.std.specs.Prelude.{◌≡◌, ◌≤◌, IfOk, IsErrOf, Some};
 ghost use Rattle.tree_files.specs.Count.{Rose};
 ghost use Rattle.tree_files.specs.Files.{Files};
-ghost use Rattle.drive_port.specs.Replay.{pairs_of};
-ghost use Rattle.drive_follow.specs.Following.{Answers};
+ghost use Rattle.drive_account.specs.Replay.{pairs_of};
+ghost use Rattle.drive_account.specs.Following.{Answers};
 ghost use Rattle.program_run.specs.Alone.{Means};
 
 use machine_events::{Follow, Pair};

@@ -1,4 +1,9 @@
 pub mod Ends
 pub mod Quieting
 pub mod Never
-pub mod Texts
+pub mod TextParts
+pub mod Names
+pub mod Flat
+pub mod Lengths
+pub mod Naming
+pub mod Standing

@@ -15,8 +15,8 @@ use Rattle.program_run.specs.Sinks.{At, Moment, Gets, status_by}
 use Rattle.program_run.specs.Statuses.{sink_fault, want_of_memory}
 use Rattle.program_run.specs.declared.report.Left.{Left}
 use Rattle.program_run.specs.Together.{AllAct, whole as acts_whole, part as acts_part}
-use Rattle.program_workload.specs.Generator.{made_files, script_name, file_of, script_files}
-use Rattle.program_workload.specs.Scripts.{text_at, script_texts}
+use Rattle.program_gen.specs.Generator.{made_files, script_name, file_of, script_files}
+use Rattle.program_gen.specs.Scripts.{text_at, script_texts}
 use Rattle.program_gen.specs.MadeRuns.{workload_of, made_plan, made_summary, MadeRun, MadeGives, Quiet, QuietGives, sinks, status_after, Summed}
 
 no_rise : Rose 0 0 → ⊥

@@ -14,8 +14,8 @@ use Rattle.program_run.specs.Runs.{Finished, finished, RunOver}
 use Rattle.program_run.specs.Sinks.{At, Moment, Gets, Leaves, status_by}
 use Rattle.program_run.specs.Statuses.{sink_fault, want_of_memory}
 use Rattle.program_run.specs.declared.report.Left.{Left}
-use Rattle.program_workload.specs.Generator.{made_files, script_files}
-use Rattle.program_workload.specs.Scripts.{script_texts}
+use Rattle.program_gen.specs.Generator.{made_files, script_files}
+use Rattle.program_gen.specs.Scripts.{script_texts}
 use Rattle.program_gen.specs.Summary.{summary}
 
 -- the budget of each made script

@@ -5,12 +5,12 @@ ghost use Rattle.program_run.specs.Sinks.{at};
 ghost use Rattle.program_run.specs.Statuses.{tree_fault, want_of_memory};
 ghost use Rattle.program_gen.specs.MadeRuns.{QuietGives, MadeGives, sinks, Summed, workload_of};
 
+use crate::MadeTree;
 use crate::no_out::NoOut;
 use crate::ready::{Ready, make_ready};
 use crate::summing::sum_up;
 use drive_round::Gate;
 use program_run::{Left, Scripts, WANT_OF_MEMORY, run_scripts};
-use program_workload::MadeTree;
 use std::alloc::Global;
 use std::sync::Wait;
 use std::thread::Threads;

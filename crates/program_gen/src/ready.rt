@@ -1,14 +1,14 @@
 //! What a made workload runs on.
 ghost use Rattle.std.specs.Prelude.{◌≡◌, ◌≤◌, IfOk, Some, length};
-ghost use Rattle.program_workload.specs.Generator.{made_files, script_files};
-ghost use Rattle.program_workload.specs.Scripts.{script_texts};
+ghost use Rattle.program_gen.specs.Generator.{made_files, script_files};
+ghost use Rattle.program_gen.specs.Scripts.{script_texts};
 ghost use Rattle.program_gen.specs.MadeRuns.{made_plan};
 ghost use Rattle.program_gen.specs.Wanting.{IsWanting};
 
+use crate::{MadeScripts, MadeTree, made_scripts_stand, make_scripts};
 use base_types::{NoMemory, Seq, Text, Texts};
 use import_words::RunPlan;
 use program_run::{Unopened, open_all};
-use program_workload::{MadeScripts, MadeTree, made_scripts_stand, make_scripts};
 use std::alloc::Global;
 use tree_files::Tree;
 

@@ -6,7 +6,7 @@ use Rattle.std.proofs.lemmas.List.Sums.{sum_by-cons}
 use Rattle.base_types.specs.declared.no_memory.NoMemory.{NoMemory}
 use Rattle.tree_files.specs.declared.edit.Edit.{Edit}
 use Rattle.tree_overlay.specs.Kinds.{IsBelowRoot}
-use Rattle.tree_rounds.specs.Rounds as trees
+use Rattle.tree_overlay.specs.Rounds as trees
 use Rattle.words_rounds.specs.declared.rounds.Round.{Round}
 use Rattle.machine_laws.specs.Begun.{HaveScripts}
 use Rattle.machine_book.specs.Bound.{CanOpen}

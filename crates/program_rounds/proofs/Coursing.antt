@@ -14,7 +14,7 @@ use Rattle.tree_files.specs.declared.edit.Edit.{Edit}
 use Rattle.tree_overlay.specs.Kinds.{IsBelowRoot, is_below_root}
 use Rattle.tree_overlay.specs.Told.{edited_told}
 use Rattle.tree_overlay.proofs.Overlaid.{told_append}
-use Rattle.tree_rounds.specs.Rounds.{Absorbed, total}
+use Rattle.tree_overlay.specs.Rounds.{Absorbed, total}
 use Rattle.words_rounds.specs.declared.rounds.Round.{Round}
 use Rattle.machine_events.specs.declared.event.Event.{Event}
 use Rattle.machine_events.specs.declared.event.Reply.{Reply}

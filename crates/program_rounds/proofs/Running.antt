@@ -9,8 +9,8 @@ use Rattle.tree_files.specs.Count.{Rose, raised}
 use Rattle.tree_files.specs.Edits.{edited}
 use Rattle.tree_files.specs.declared.edit.Edit.{Edit}
 use Rattle.tree_overlay.specs.Told.{edited_told}
-use Rattle.tree_rounds.specs.Rounds as trees
-use Rattle.tree_rounds.proofs.Rounds.{told_by}
+use Rattle.tree_overlay.specs.Rounds as trees
+use Rattle.tree_overlay.proofs.Rounds.{told_by}
 use Rattle.machine_events.specs.declared.event.Entry.{Entry}
 use Rattle.machine_spec.specs.declared.state.State.{State}
 use Rattle.machine_spec.specs.Legal.{IsLegal}

@@ -5,7 +5,7 @@ use Rattle.tree_files.specs.Files.{Files}
 use Rattle.tree_files.specs.declared.edit.Edit.{Edit}
 use Rattle.tree_overlay.specs.Kinds.{IsBelowRoot}
 use Rattle.tree_overlay.specs.Told.{edited_told}
-use Rattle.tree_rounds.specs.Rounds.{Absorbed, total}
+use Rattle.tree_overlay.specs.Rounds.{Absorbed, total}
 use Rattle.words_rounds.specs.declared.rounds.Round.{Round}
 use Rattle.machine_events.specs.declared.event.Entry.{Entry}
 use Rattle.machine_spec.specs.declared.state.State.{State}

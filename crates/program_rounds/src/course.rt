@@ -24,8 +24,7 @@ use std::alloc::Global;
 use std::sync::Wait;
 use std::thread::Threads;
 use tree_files::{Edit, Grove, Tree};
-use tree_overlay::Overlay;
-use tree_rounds::{absorb_forks, add_edits, edited_fork};
+use tree_overlay::{Overlay, absorb_forks, add_edits, edited_fork};
 
 /// How far rounds have come: their book, all edits so far, and how each script ended. Where memory was
 /// wanted there are no results, and no round begins any more.

@@ -19,7 +19,7 @@ use machine_events::Entry;
 use program_run::{Came, Left, Out, Scripts, finish_run, of_run, unbegun};
 use std::alloc::Global;
 use tree_files::{Grove, Sink, Tree};
-use tree_rounds::{absorb_forks, edited_forks};
+use tree_overlay::{absorb_forks, edited_forks};
 
 /// What rounds leave: their history, their outlet, and how each script ended.
 #[derive(Drop)]

@@ -4,11 +4,11 @@ use Rattle.std.specs.Prelude.{is_some, if◌then◌else◌}
 use Rattle.std.specs.List.{list_any}
 use Rattle.std.specs.Option.{option_map, option_and_then}
 use Rattle.std.proofs.lemmas.Bool.{leb-true, and_parts}
-use Rattle.words_options.specs.Words.{Word, is_refused, options, no_settings}
-use Rattle.words_options.specs.declared.found.Settings.{Settings}
-use Rattle.words_options.specs.declared.found.Front.{Front}
-use Rattle.words_options.specs.declared.command.Command.{Command}
-use Rattle.words_options.specs.declared.command.Command.TheVariants as command
+use Rattle.import_words.specs.OptionWords.{Word, is_refused, options, no_settings}
+use Rattle.import_words.specs.declared.found.Settings.{Settings}
+use Rattle.import_words.specs.declared.found.Front.{Front}
+use Rattle.import_words.specs.declared.clap_command.Command.{Command}
+use Rattle.import_words.specs.declared.clap_command.Command.TheVariants as command
 use Rattle.import_words.specs.Plans.{plan_of, plan_by, command_of, run_plan, check_plan, module_plan, report_plan, gen_of, gen_with, number_of, digits_of, only_word, run_of, run_with, are_scripts, path_of, fuel_of, folder_of}
 use Rattle.import_words.specs.declared.plan.Plan.{Plan}
 use Rattle.import_words.specs.declared.plan.Plan.TheVariants as plans

@@ -19,7 +19,7 @@ use Rattle.py_syntax.specs.declared.lexeme.Lexeme.{Lexeme}
 use Rattle.py_syntax.specs.declared.lexeme.Lexeme.TheVariants as token
 use Rattle.py_syntax.specs.declared.stmt.Script.{Script}
 use Rattle.py_syntax.specs.Grammar.{Spells}
-use Rattle.source_lexemes.specs.Words.{lexeme_at, lexemes_of}
+use Rattle.py_parser.specs.Words.{lexeme_at, lexemes_of}
 use Rattle.py_parser.specs.declared.error.ParseError.{ParseError}
 use Rattle.py_parser.specs.declared.error.ParseError.TheVariants as error
 use Rattle.py_parser.specs.Kinds.{what_of, by_what, refusal_of, without_tokens}

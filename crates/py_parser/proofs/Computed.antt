@@ -7,7 +7,7 @@ use Rattle.py_lexer.specs.Source.{Answer as Lexed, Tokens}
 use Rattle.py_lexer.specs.SourceReading.{source}
 use Rattle.py_lexer.specs.declared.word.Token.{Token}
 use Rattle.py_lexer.proofs.Sources.{gives}
-use Rattle.source_lexemes.specs.Words.{lexemes_of}
+use Rattle.py_parser.specs.Words.{lexemes_of}
 use Rattle.py_syntax.specs.declared.lexeme.Lexeme.{Lexeme}
 use Rattle.py_syntax.specs.declared.stmt.Script.{Script}
 use Rattle.py_syntax.specs.Grammar.{Spells}

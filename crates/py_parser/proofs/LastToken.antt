@@ -11,7 +11,7 @@ use Rattle.py_lexer.specs.Tokens as lines
 use Rattle.py_lexer.specs.Tokens.{Lines}
 use Rattle.py_parser.specs.Parses.{Ends}
 use Rattle.py_syntax.specs.declared.lexeme.Lexeme.TheVariants as token
-use Rattle.source_lexemes.specs.Words.{lexeme_at, lexemes_of}
+use Rattle.py_parser.specs.Words.{lexeme_at, lexemes_of}
 
 abbrev end_at : ℕ → Token
 end_at line = record { kind = End; line = line }

@@ -12,7 +12,7 @@ use Rattle.py_syntax.specs.declared.stmt.Script.{Script}
 use Rattle.py_syntax.specs.Grammar.{Spells}
 use Rattle.source_spec_statements.specs.Reading.{script}
 use Rattle.source_spec_statements.proofs.Whole.{script_reader}
-use Rattle.source_lexemes.specs.Words.{lexemes_of}
+use Rattle.py_parser.specs.Words.{lexemes_of}
 use Rattle.py_parser.specs.declared.error.ParseError.{ParseError}
 use Rattle.py_parser.specs.declared.error.ParseError.TheVariants as error
 use Rattle.py_parser.specs.Kinds.{refusal_of}

@@ -6,7 +6,7 @@ use Rattle.source_combinators.specs.Reading.{Read}
 use Rattle.py_lexer.specs.Source.{Answer as Lexed}
 use Rattle.py_lexer.specs.SourceReading.{source}
 use Rattle.py_lexer.specs.declared.word.Token.{Token}
-use Rattle.source_lexemes.specs.Words.{lexemes_of}
+use Rattle.py_parser.specs.Words.{lexemes_of}
 use Rattle.py_syntax.specs.declared.lexeme.Lexeme.{Lexeme}
 use Rattle.py_syntax.specs.declared.stmt.Script.{Script}
 use Rattle.source_spec_statements.specs.Reading.{script}

@@ -6,7 +6,7 @@ use Rattle.py_lexer.specs.declared.error.LexError.{LexError}
 use Rattle.py_lexer.specs.declared.word.Tok.TheVariants.{End}
 use Rattle.py_lexer.specs.declared.word.Token.{Token}
 use Rattle.py_lexer.specs.Source.{Tokens}
-use Rattle.source_lexemes.specs.Words.{lexemes_of}
+use Rattle.py_parser.specs.Words.{lexemes_of}
 use Rattle.py_syntax.specs.declared.stmt.Script.{Script}
 use Rattle.py_syntax.specs.Grammar.{Spells}
 use Rattle.py_parser.specs.declared.error.ParseError.{ParseError}

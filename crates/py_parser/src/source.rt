@@ -2,7 +2,7 @@
 
 ghost use Rattle.std.specs.Prelude.{◌≡◌, ◌-◌, ◌≤◌, ◌<◌, length, take, slice_get, IfOk, Some};
 ghost use Rattle.py_lexer.specs.declared.word.Token.{Token};
-ghost use Rattle.source_lexemes.specs.Words.{lexemes_of};
+ghost use Rattle.py_parser.specs.Words.{lexemes_of};
 ghost use Rattle.py_parser.specs.Kinds as kinds;
 ghost use Rattle.py_parser.specs.Places as places;
 ghost use Rattle.py_parser.specs.Parses.{Answer, Reads, Parses, Ends, Told};
@@ -10,12 +10,12 @@ ghost use Rattle.py_parser.specs.Parsed.{parsed};
 
 use crate::error::ParseError;
 use crate::kinds::refusal_of;
+use crate::lexemes;
 use crate::place::inside_finally;
 use base_types::{NoMemory, Seq};
 use py_lexer::{LexError, Token, tokens};
 use py_syntax::{Lexeme, Script};
 use source_combinators::{Fault, ReadError};
-use source_lexemes::lexemes;
 use source_parse_statements::script;
 use std::alloc::Global;
 

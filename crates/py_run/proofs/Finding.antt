@@ -6,10 +6,10 @@ use Rattle.machine_events.specs.declared.event.Reply.{Reply}
 use Rattle.meaning_runs.specs.Runs.{Run, StandsIn}
 use Rattle.meaning_runs.proofs.Stand.{in_some}
 use Rattle.path_finder.specs.declared.words.Found.{Found}
-use Rattle.drive_search.specs.Searching.{AfterSought, CountsSought}
+use Rattle.drive_account.specs.Searching.{AfterSought, CountsSought}
 use Rattle.drive_account.specs.declared.purse.Purse.{Purse}
-use Rattle.drive_search.specs.declared.search.Sought.{Sought}
-use Rattle.drive_search.specs.declared.search.Sought.TheVariants as sought
+use Rattle.drive_account.specs.declared.search.Sought.{Sought}
+use Rattle.drive_account.specs.declared.search.Sought.TheVariants as sought
 
 pub after_at : (files : Option Files) (whole : Run) (fuel : ℕ) (mine : List (Event × Reply)) (purse : Purse) (k : Option Found → Run) (it it' : Sought) → it ≡ it' → AfterSought files whole fuel mine purse k it
     → AfterSought files whole fuel mine purse k it'

@@ -15,11 +15,11 @@ use Rattle.meaning_runs.specs.Runs.{Run, Over, Ended, Makes, Stands, Safe}
 use Rattle.meaning_runs.proofs.Stand.{safe_stands}
 use Rattle.meaning_state.specs.declared.flow.Flow.{Flow}
 use Rattle.meaning_script.specs.Meaning.{outcome_of}
-use Rattle.drive_port.specs.Replay.{pairs_of, Met, IsOther}
+use Rattle.drive_account.specs.Replay.{pairs_of, Met, IsOther}
 use Rattle.drive_account.specs.At.{IsShort}
-use Rattle.drive_follow.specs.Following.{budget_by, part_of, Answers}
-use Rattle.drive_follow.specs.Stages.{IsAt, IsGiving}
-use Rattle.drive_follow.proofs.Standing.{at_over, at_giving, answers_at_event}
+use Rattle.drive_account.specs.Following.{budget_by, part_of, Answers}
+use Rattle.drive_account.specs.Stages.{IsAt, IsGiving}
+use Rattle.drive_account.proofs.Standing.{at_over, at_giving, answers_at_event}
 
 -- where the work is done, the End may be made
 pub end_shown : {files : Option Files} (number t : ℕ) {whole : Run} {budget left : ℕ} {mine : List (Event × Reply)} (fuel : ℕ) (flow : Flow) → number ≡ t → Safe (shown_first t) whole

@@ -6,14 +6,14 @@ use Rattle.machine_events.specs.declared.event.Event.TheVariants as e
 use Rattle.machine_events.specs.declared.event.Reply.{Reply}
 use Rattle.meaning_runs.specs.Runs.{Run, Makes, StandsIn}
 use Rattle.meaning_runs.proofs.Stand.{in_some}
-use Rattle.drive_port.specs.View.{View, Stays, Gains}
+use Rattle.drive_account.specs.View.{View, Stays, Gains}
 use Rattle.drive_account.specs.declared.held.Held.{Held}
 use Rattle.drive_account.specs.Ending.{Holds}
 use Rattle.drive_account.specs.At.{At}
 use Rattle.drive_account.specs.declared.purse.Purse.{Purse}
-use Rattle.drive_search.proofs.Holding.{holds_made}
-use Rattle.drive_search.proofs.Making.{at_made}
-use Rattle.drive_search.specs.Asking.{Parted}
+use Rattle.drive_account.proofs.Holding.{holds_made}
+use Rattle.drive_account.proofs.Making.{at_made}
+use Rattle.drive_account.specs.Asking.{Parted}
 use Rattle.drive_straight.specs.declared.course.Course.{Course}
 use Rattle.py_frames.specs.declared.replies.OnReply.{OnReply}
 use Rattle.py_frames.specs.declared.want.Want.TheVariants as want

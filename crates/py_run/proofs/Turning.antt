@@ -7,12 +7,12 @@ use Rattle.machine_events.specs.declared.event.Reply.{Reply}
 use Rattle.machine_shown.specs.Shown.{shown_first}
 use Rattle.meaning_runs.specs.Runs.{Run, Safe, StandsIn}
 use Rattle.meaning_runs.proofs.Stand.{stands_start, safe_stands, in_some}
-use Rattle.drive_port.specs.View.{View, Stays}
-use Rattle.drive_port.specs.declared.port.Halt.{Halt}
+use Rattle.drive_account.specs.View.{View, Stays}
+use Rattle.drive_account.specs.declared.port.Halt.{Halt}
 use Rattle.py_frames.specs.declared.want.Want.{Want}
 use Rattle.drive_account.specs.Ending.{Holds}
 use Rattle.drive_account.specs.At.{At}
-use Rattle.drive_search.specs.Asking.{Refused, RefusedAt, Parted}
+use Rattle.drive_account.specs.Asking.{Refused, RefusedAt, Parted}
 use Rattle.py_run.specs.Turns.{After, Counts, Turned, Stepped, Stood, remains}
 use Rattle.py_run.specs.Overs.{Begun, Fresh}
 use Rattle.py_run.specs.Starts.{StartsAs}

@@ -20,10 +20,10 @@ use Rattle.meaning_state.specs.declared.flow.Leave.TheVariants.{Raised, Return, 
 use Rattle.meaning_state.specs.declared.flow.Flow.{Flow}
 use Rattle.meaning_state.specs.declared.flow.Flow.TheVariants.{Went, Left}
 use Rattle.meaning_script.specs.Meaning.{outcome_of}
-use Rattle.drive_port.specs.View.{View, Stays}
+use Rattle.drive_account.specs.View.{View, Stays}
 use Rattle.drive_account.specs.At.{IsShort}
 use Rattle.drive_account.specs.declared.held.Held.{Held}
-use Rattle.drive_search.specs.Asking.{AllKept}
+use Rattle.drive_account.specs.Asking.{AllKept}
 use Rattle.py_run.specs.Turns.{ended}
 use Rattle.py_run.specs.Overs.{Begun}
 use Rattle.drive_account.specs.Ending.{IsMeant, Broken, in_run, at_read, Gave, GaveAll, Idle, Holds}

@@ -5,7 +5,7 @@ use Rattle.tree_files.specs.Count.{Rose}
 use Rattle.machine_events.specs.declared.event.Event.{Event}
 use Rattle.machine_events.specs.declared.event.Reply.{Reply}
 use Rattle.meaning_runs.specs.Runs.{Run, Stands, IsUnread}
-use Rattle.drive_port.specs.View.{View}
+use Rattle.drive_account.specs.View.{View}
 use Rattle.drive_account.specs.At.{IsShort}
 use Rattle.py_run.specs.Turns.{ended}
 pub use Rattle.drive_straight.specs.Remains.{Fresh}

@@ -9,7 +9,7 @@ use Rattle.machine_events.specs.declared.event.Event.{Event}
 use Rattle.machine_events.specs.declared.event.Reply.{Reply}
 use Rattle.machine_shown.specs.Shown.{shown}
 use Rattle.meaning_runs.specs.Runs.{Run, Over, Ended, IsUnread, Safe}
-use Rattle.drive_port.specs.View.{View}
+use Rattle.drive_account.specs.View.{View}
 use Rattle.drive_account.specs.declared.held.Held.{Held}
 use Rattle.meaning_state.specs.declared.flow.Flow.{Flow}
 use Rattle.meaning_script.specs.Meaning.{outcome_of}

@@ -2,16 +2,15 @@
 ghost use Rattle.std.specs.Prelude.{◌≡◌, ◌≤◌, IfOk, IsErrOf, Some};
 ghost use Rattle.tree_files.specs.Count.{Rose};
 ghost use Rattle.tree_files.specs.Files.{Files};
-ghost use Rattle.drive_port.specs.Replay.{pairs_of};
-ghost use Rattle.drive_follow.specs.Following.{Answers};
+ghost use Rattle.drive_account.specs.Replay.{pairs_of};
+ghost use Rattle.drive_account.specs.Following.{Answers};
 ghost use Rattle.meaning_script.specs.Meaning.{meaning};
 ghost use Rattle.step_calls.specs.Sources.{sources};
 
 use crate::drive::{Over, run};
 use crate::script::copy_of;
 use crate::start::Start;
-use drive_follow::{budget_by, ends_came, ends_out, refused};
-use drive_port::{Halt, ReplayPort};
+use drive_account::{Halt, ReplayPort, budget_by, ends_came, ends_out, refused};
 use drive_straight::Course;
 use machine_events::{Follow, Pair};
 use std::alloc::Global;

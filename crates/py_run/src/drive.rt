@@ -2,16 +2,16 @@
 ghost use Rattle.std.specs.Prelude.{IfOk, OnOk, OnErr, IsErrOf};
 ghost use Rattle.machine_shown.specs.Shown.{shown_first};
 ghost use Rattle.meaning_runs.specs.Runs.{Safe, StandsIn};
-ghost use Rattle.drive_port.specs.View.{View, Stays};
+ghost use Rattle.drive_account.specs.View.{View, Stays};
 ghost use Rattle.drive_account.specs.Ending.{Holds};
-ghost use Rattle.drive_search.specs.Asking.{RefusedAt, Asked, AllKept};
+ghost use Rattle.drive_account.specs.Asking.{RefusedAt, Asked, AllKept};
 ghost use Rattle.py_run.specs.Overs.{Begun, Fresh, Overs, IsUnfailed};
 ghost use Rattle.py_run.specs.Starts.{started};
 
 use crate::course::Turn;
 use crate::start::{Start, first_want};
 use crate::turn::give;
-use drive_port::{Halt, Port};
+use drive_account::{Halt, Port};
 use drive_straight::Course;
 use meaning_state::Flow;
 use std::alloc::Global;

@@ -7,13 +7,13 @@ ghost use Rattle.meaning_runs.specs.Runs.{Run, Pays, Looks, TextOf};
 ghost use Rattle.find_load.specs.declared.words.In.TheVariants as given;
 ghost use Rattle.meaning_script.specs.Imports.{opens};
 ghost use Rattle.py_frames.specs.declared.want.Want.TheVariants as wants;
-ghost use Rattle.drive_search.specs.Asking.{Asked};
+ghost use Rattle.drive_account.specs.Asking.{Asked};
 ghost use Rattle.py_run.specs.Turns.{Looked, IsFileStamp, remains, feeds};
 
 use crate::course::Turn;
 use crate::steps::feed;
 use base_types::TreePath;
-use drive_port::Halt;
+use drive_account::Halt;
 use drive_straight::Course;
 use find_load::In;
 use path_finder::{LoadFault, load_text};

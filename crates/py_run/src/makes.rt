@@ -3,15 +3,14 @@ ghost use Rattle.std.specs.Prelude.{◌≤◌, IfOk, OnOk, OnErr, IsErrOf, Optio
 ghost use Rattle.tree_files.specs.Files.{Files};
 ghost use Rattle.meaning_runs.specs.Lists.{lists_in};
 ghost use Rattle.py_frames.specs.declared.want.Want.TheVariants as wants;
-ghost use Rattle.drive_port.specs.View.{View, Stays};
+ghost use Rattle.drive_account.specs.View.{View, Stays};
 ghost use Rattle.drive_account.specs.Ending.{Holds};
-ghost use Rattle.drive_search.specs.Asking.{Parted, Refused};
+ghost use Rattle.drive_account.specs.Asking.{Parted, Refused};
 ghost use Rattle.py_run.specs.Turns.{Stood, Made, made, remains};
 
 use crate::course::Turn;
 use crate::working::follow;
-use drive_account::change_of;
-use drive_port::{Halt, Port};
+use drive_account::{Halt, Port, change_of};
 use drive_straight::Course;
 use machine_events::{Event, Reply};
 use py_frames::{Item, OnReply, Want};

@@ -1,9 +1,9 @@
 //! A desk as a port.
 ghost use Rattle.std.specs.Prelude.{◌≡◌};
 ghost use Rattle.machine_desk.specs.Sight.{Sight, IsReady, Continues};
-ghost use Rattle.drive_port.specs.View.{View};
+ghost use Rattle.drive_account.specs.View.{View};
 
-use drive_port::{Halt, Port};
+use drive_account::{Halt, Port};
 use machine_desk::Desk;
 use machine_events::{Event, Reply};
 

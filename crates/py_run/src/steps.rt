@@ -7,7 +7,7 @@ ghost use Rattle.py_frames.specs.Does.{rest, frame_does};
 ghost use Rattle.py_run.specs.Turns.{Stepped, feeds};
 
 use crate::course::Turn;
-use drive_port::Halt;
+use drive_account::Halt;
 use drive_straight::Course;
 use find_load::In;
 use meaning_state::Flow;

@@ -1,8 +1,8 @@
 //! One turn: what is wanted is given.
 ghost use Rattle.std.specs.Prelude.{IfOk, OnOk, OnErr, IsErrOf};
-ghost use Rattle.drive_port.specs.View.{View, Stays};
+ghost use Rattle.drive_account.specs.View.{View, Stays};
 ghost use Rattle.drive_account.specs.Ending.{Holds};
-ghost use Rattle.drive_search.specs.Asking.{Parted, Refused, Asked, AllKept};
+ghost use Rattle.drive_account.specs.Asking.{Parted, Refused, Asked, AllKept};
 ghost use Rattle.py_run.specs.Turns.{Stood, Turned, remains};
 
 use crate::course::Turn;
@@ -10,7 +10,7 @@ use crate::find::find;
 use crate::looks::file;
 use crate::makes::{call, wait};
 use crate::working::work_on;
-use drive_port::{Halt, Port};
+use drive_account::{Halt, Port};
 use drive_straight::Course;
 use py_frames::Want;
 use std::alloc::Global;

@@ -8,8 +8,7 @@ ghost use Rattle.py_run.specs.Turns.{Stepped, Wants, remains};
 use crate::course::Turn;
 use crate::steps::next_frame;
 use base_types::NoMemory;
-use drive_account::pay_reply;
-use drive_port::Halt;
+use drive_account::{Halt, pay_reply};
 use drive_straight::{
     Course, Next, block, decide, evaluate, is_in_place, resume_block, resume_loop, resume_operand,
     resume_sized, turn,
@@ -20,7 +19,7 @@ use py_frames::{Frame, Item, OnReply, Want};
 use std::alloc::Global;
 use step_calls::come_back;
 use step_dispatch::{begin, go_on, replied};
-use step_names::{read_global, store};
+use step_simple::{read_global, store};
 
 /// What comes next, piece by piece.
 fn next_piece(alloc: Global, course: &mut Course, next: Next) -> Result<Want, NoMemory>

@@ -5,18 +5,18 @@ use Rattle.std.specs.Prelude.{nat_le, is_some, if◌then◌else◌}
 use Rattle.std.specs.List.{list_all, list_any}
 use Rattle.std.specs.Option.{option_map, option_and_then}
 use Rattle.std.proofs.lemmas.Bool.{leb-true, and_parts}
-use Rattle.words_options.specs.Words.{Word, is_refused, options, no_settings}
-use Rattle.words_options.specs.declared.found.Settings.{Settings}
-use Rattle.words_options.specs.declared.found.Front.{Front}
-use Rattle.words_options.specs.declared.command.Command.{Command}
-use Rattle.words_options.specs.declared.command.Command.TheVariants as command
+use Rattle.import_words.specs.OptionWords.{Word, is_refused, options, no_settings}
+use Rattle.import_words.specs.declared.found.Settings.{Settings}
+use Rattle.import_words.specs.declared.found.Front.{Front}
+use Rattle.import_words.specs.declared.clap_command.Command.{Command}
+use Rattle.import_words.specs.declared.clap_command.Command.TheVariants as command
 use Rattle.import_words.specs.Plans.{plan_of, plan_by, command_of, run_plan, check_plan, module_plan, report_plan, gen_of, gen_with, number_of, within, digits_of, only_word, run_of, run_with, path_of, fuel_of, folder_of, are_scripts}
 use Rattle.import_words.specs.declared.plan.Plan.{Plan}
 use Rattle.import_words.specs.declared.plan.Plan.TheVariants as plans
 use Rattle.program_run.specs.Scripts.{AreFew}
 use Rattle.import_words.specs.declared.plan.RunPlan.{RunPlan}
 use Rattle.spec_core.specs.Identifiers.{is_dotted}
-use Rattle.program_module.specs.Modules.{AreNames}
+use Rattle.program_commands.specs.Modules.{AreNames}
 use Rattle.program_run.specs.Answers.{run_if}
 use Rattle.program_rounds.specs.Answers.{rounds_plan}
 use Rattle.pyimport.specs.Answers.{ReadsItself}

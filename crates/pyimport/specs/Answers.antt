@@ -12,15 +12,15 @@ use Rattle.program_run.specs.Sinks.{Moment}
 use Rattle.program_run.specs.Statuses.{want_of_memory}
 use Rattle.program_run.specs.Answers.{left_of}
 use Rattle.program_run.specs.Runs.{Gives}
-use Rattle.program_module.specs.Modules.{of_names, no_texts}
+use Rattle.program_commands.specs.Modules.{of_names, no_texts}
 use Rattle.program_run.specs.declared.report.Report.{Report}
 use Rattle.program_rounds.specs.Answers as call
 use Rattle.program_gen.specs.MadeRuns.{MadeGives, sinks, workload_of}
-use Rattle.program_convert.specs.Converting.{Converts}
-use Rattle.program_bundle.specs.Bundling.{Bundles}
-use Rattle.program_bundled.specs.Bundled.{expanded, GivesInBundles}
+use Rattle.program_commands.specs.Converting.{Converts}
+use Rattle.program_commands.specs.Bundling.{Bundles}
+use Rattle.pyimport.specs.Bundled.{expanded, GivesInBundles}
 use Rattle.program_check.specs.Checking.{Checks}
-use Rattle.program_report.specs.Reporting.{Reports}
+use Rattle.program_commands.specs.Reporting.{Reports}
 use Rattle.pyimport.specs.declared.task.Numbers.{Numbers}
 use Rattle.pyimport.specs.declared.task.Stored.{Stored}
 use Rattle.pyimport.specs.declared.task.Reported.{Reported}

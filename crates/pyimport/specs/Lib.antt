@@ -1,3 +1,4 @@
 pub mod Tasks
 pub mod Answers
 pub mod Status
+pub mod Bundled

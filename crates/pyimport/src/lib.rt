@@ -1,6 +1,10 @@
-//! The program: its scripts as programs of the language, and its words, folder, streams and exit status.
+//! The program: its scripts as programs of the language, over folders or over trees whose bundles stand as folders, and
+//! its words, folder, streams and exit status.
 #![tactic(auto)]
 
+mod bundled;
+mod bundled_fork;
+mod bundled_modules;
 mod entry;
 mod judged;
 mod laws;

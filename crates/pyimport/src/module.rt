@@ -7,7 +7,7 @@ use base_types::NoMemory;
 use drive_account::Ending;
 use drive_round::Program;
 use machine_desk::Desk;
-use program_module::Named;
+use program_commands::Named;
 use py_run::run_module_main;
 use spec_core::Dotted;
 use std::alloc::Global;

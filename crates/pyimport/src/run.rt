@@ -11,6 +11,8 @@ ghost use Rattle.meaning_script.specs.Meaning.{meaning};
 ghost use Rattle.step_calls.specs.Sources.{sources};
 ghost use Rattle.pyimport.specs.Answers.{Answers, ReadsItself, ReadsNoFolder};
 
+use crate::bundled::call_bundled;
+use crate::bundled_modules::run_modules_bundled;
 use crate::judged::judge;
 use crate::made::run_made;
 use crate::module::Module;
@@ -19,11 +21,7 @@ use crate::task::{Reported, Task, task_of};
 use base_types::Seq;
 use drive_round::Gate;
 use import_words::{Round, RunPlan};
-use program_bundle::bundle;
-use program_bundled::{call_bundled, run_modules_bundled};
-use program_convert::convert;
-use program_module::run_modules;
-use program_report::report_imports;
+use program_commands::{bundle, convert, report_imports, run_modules};
 use program_rounds::{call, run_rounds as run_in_rounds, run_rounds_alone};
 use program_run::{
     Report, WANT_OF_MEMORY, plan_for, run_alone, run_together, with_plan, without_run,

@@ -16,8 +16,8 @@ use Rattle.py_parser.specs.Parsed.{parsed, parsed_by}
 use Rattle.py_parser.proofs.Computed.{parses_only}
 use Rattle.py_syntax.specs.Grammar.{Spells}
 use Rattle.py_syntax.specs.declared.stmt.Script.{Script}
-use Rattle.source_lexemes.specs.Words.{lexemes_of}
-use Rattle.source_imports.specs.Sources.{imports_of}
+use Rattle.py_parser.specs.Words.{lexemes_of}
+use Rattle.report_questions.specs.SourceImports.{imports_of}
 use Rattle.report_questions.specs.Faults.{fault_of}
 use Rattle.report_questions.specs.Questions.{questions_of}
 use Rattle.report_questions.specs.Sources.{questions_by, questions, Faulted}

@@ -1,1 +1,3 @@
 pub mod Faulty
+pub mod Parts
+pub mod Pairs

@@ -9,7 +9,7 @@ use Rattle.spec_core.specs.Names.{parent_of}
 use Rattle.spec_core.specs.Packages.{package_of}
 use Rattle.spec_core.specs.declared.spec.SpecKind.{SpecKind}
 use Rattle.spec_core.specs.declared.spec.SpecKind.TheVariants as kinds
-use Rattle.source_imports.specs.Statements.{dotted_name}
+use Rattle.report_questions.specs.Statements.{dotted_name}
 
 -- the file that makes its folder a package (Language Reference 5.2.1)
 abbrev pub is_first_file : List ℕ → Bool

@@ -3,9 +3,9 @@ use Rattle.std.specs.Prelude.{ℕ, ◌==◌, if◌then◌else◌, List, [], ◌�
 use Rattle.spec_core.specs.Relative.{resolved}
 use Rattle.spec_core.specs.declared.relative.RelativeError.{RelativeError}
 use Rattle.spec_core.specs.declared.relative.RelativeError.TheVariants as refusal
-use Rattle.source_imports.specs.declared.collect.Asked.{Asked}
-use Rattle.source_imports.specs.declared.collect.Asked.TheVariants as asked
-use Rattle.source_imports.specs.declared.source.Import.{Import}
+use Rattle.report_questions.specs.declared.collect.Asked.{Asked}
+use Rattle.report_questions.specs.declared.collect.Asked.TheVariants as asked
+use Rattle.report_questions.specs.declared.source.Import.{Import}
 use Rattle.report_questions.specs.Modules.{name_or_none, package_of_file}
 use Rattle.report_questions.specs.declared.question.Query.{Query}
 use Rattle.report_questions.specs.declared.question.Query.TheVariants as query

@@ -7,7 +7,7 @@ use Rattle.py_parser.specs.declared.error.ParseError.{ParseError}
 use Rattle.py_parser.specs.declared.error.ParseError.TheVariants as error
 use Rattle.py_parser.specs.Parses.{Answer as Parsed}
 use Rattle.py_parser.specs.Parsed.{parsed}
-use Rattle.source_imports.specs.Sources.{imports_of}
+use Rattle.report_questions.specs.SourceImports.{imports_of}
 use Rattle.report_questions.specs.Faults.{fault_of}
 use Rattle.report_questions.specs.Questions.{questions_of}
 use Rattle.report_questions.specs.declared.question.Question.{Question}

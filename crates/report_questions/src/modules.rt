@@ -2,8 +2,8 @@
 ghost use Rattle.std.specs.Prelude.{◌≡◌, ◌++◌, ◌∷◌, [], IfOk};
 ghost use Rattle.report_questions.specs.Modules as spec;
 
+use crate::dotted_name;
 use base_types::{Exact, NoMemory, Text, Texts};
-use source_imports::dotted_name;
 use spec_core::{Dotted, Spec, SpecKind, package_of};
 
 /// The name of the file that makes a folder a package.

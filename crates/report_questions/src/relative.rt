@@ -3,9 +3,9 @@ ghost use Rattle.std.specs.Prelude.{◌≡◌, ◌≤◌, ◌++◌, ◌∷◌, [
 ghost use Rattle.report_questions.specs.Questions as spec;
 ghost use Rattle.spec_core.specs.Relative.{resolved, Resolves};
 
+use crate::Asked;
 use crate::question::Query;
 use base_types::{Exact, NoMemory, Seq, Text, Texts};
-use source_imports::Asked;
 use spec_core::{Dotted, RelativeError, resolve};
 
 /// A relative name as it is written.

@@ -3,8 +3,8 @@ ghost use Rattle.std.specs.Prelude.{◌≡◌, ◌++◌, ◌∷◌, ◌<◌, [],
 ghost use Rattle.base_types.specs.declared.limits.TheConstants.{LONGEST_SOURCE};
 ghost use Rattle.py_lexer.specs.Source.{Tokens};
 ghost use Rattle.py_syntax.specs.Grammar.{Spells};
-ghost use Rattle.source_lexemes.specs.Words.{lexemes_of};
-ghost use Rattle.source_imports.specs.Sources.{imports_of};
+ghost use Rattle.py_parser.specs.Words.{lexemes_of};
+ghost use Rattle.report_questions.specs.SourceImports.{imports_of};
 ghost use Rattle.report_questions.specs.Questions as list;
 ghost use Rattle.report_questions.specs.Sources as spec;
 ghost use Rattle.report_questions.specs.Faults.{fault_of};
@@ -13,13 +13,12 @@ ghost use Rattle.report_questions.specs.Sources.{Faulted};
 use crate::faults::fault_of;
 use crate::question::{Query, Question};
 use crate::relative::queries_of;
+use crate::{Import, imports_of};
 use base_types::{NoMemory, Seq, Text};
 use py_lexer::{LexError, Token, tokens};
-use py_parser::{MAX_LEVELS, ParseError, parse};
+use py_parser::{MAX_LEVELS, ParseError, lexemes, parse};
 use py_syntax::Script;
 use source_combinators::ReadError;
-use source_imports::{Import, imports_of};
-use source_lexemes::lexemes;
 use source_parse_statements::script;
 use std::alloc::Global;
 

@@ -4,7 +4,7 @@
 use base_spelling::write_source;
 use base_types::{Text, TreePath};
 use path_finder::load_text;
-use program_workload::{Made, generate};
+use program_gen::{Made, generate};
 use rows_words::{Row, RowError};
 use std::alloc::Global;
 use tree_files::{MemTree, Stamp, Tree};

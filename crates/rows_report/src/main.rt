@@ -2,8 +2,7 @@
 #![tactic(auto)]
 
 use base_types::{Exact, Seq, Text, Texts, TreePath};
-use import_report::Walk;
-use report_lines::{Line, question_line};
+use import_report::{Line, Walk, question_line};
 use report_questions::{Question, package_of_file, questions};
 use rows_words::{Answered, Row, RowError, Table, answer_rows};
 use std::alloc::Global;

@@ -33,7 +33,7 @@ use Rattle.py_syntax.specs.Statements as stmts
 use Rattle.py_syntax.specs.Statements.{IsParameters, IsGlobal, IsGlobalLines, Body, IsStmt, IsStmts, IsBlock, IsBranch, IsElifs, IsElse, IsFinally, IsHandler, IsHandlers, IsBody}
 use Rattle.py_syntax.specs.Grammar as grammar
 use Rattle.py_syntax.specs.Grammar.{Spells}
-use Rattle.source_spec_print.specs.Lines.{Held}
+use Rattle.source_print.specs.Lines.{Held}
 use Rattle.source_laws.specs.Mentions.{Mention, Named, Dotted, Mentions, in_order, each_named, optional_name, expr_at, in_expr, in_optional, in_alias, in_aliases, in_imported, in_source, stmt_at, branch_at, function_at, handler_at, in_stmt, in_branch, in_function, in_handler, in_stmts, mentions}
 
 -- ---- layers

@@ -2,12 +2,12 @@
 use Rattle.std.proofs.Common.{ℕ, List, Ok, Err}
 use Rattle.py_lexer.specs.declared.word.Token.{Token}
 use Rattle.py_lexer.specs.Source.{Tokens}
-use Rattle.source_lexemes.specs.Words.{lexemes_of}
+use Rattle.py_parser.specs.Words.{lexemes_of}
 use Rattle.py_syntax.specs.declared.stmt.Script.{Script}
 use Rattle.py_syntax.specs.Grammar.{Spells}
 use Rattle.py_parser.specs.Parses as parses
 use Rattle.py_parser.specs.Parses.{Answer, Reads, Parses}
-use Rattle.source_spec_text.specs.Laws.{IsSource}
+use Rattle.source_print.specs.TextLaws.{IsSource}
 
 pub source_parses : (src : List ℕ) (s : Script) → IsSource src s → Parses src (Ok s)
 source_parses src s from = parses.with_tokens from.lexed (parses.spelled from.spelled)

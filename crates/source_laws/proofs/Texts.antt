@@ -13,7 +13,7 @@ use Rattle.unicode_normalization.proofs.FormsLemmas.{normalize_idem}
 use Rattle.spec_core.specs.Identifiers.{starts_identifier, continues_identifier, is_identifier, is_keyword, is_name, is_dotted}
 use Rattle.spec_core.specs.Names.{NoDot}
 use Rattle.spec_core.proofs.Dots.{dotted-none, dotted-both}
-use Rattle.source_spec_text.proofs.Names.{IsName}
+use Rattle.source_print.proofs.NameTexts.{IsName}
 use Rattle.source_laws.specs.Laws.{behind_dots}
 
 -- ---- normal forms

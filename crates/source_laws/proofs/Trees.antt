@@ -4,14 +4,14 @@ use Rattle.std.specs.List.{AllByRecursion}
 use Rattle.std.specs.Str.{IsUtf8}
 use Rattle.std.specs.Prelude.{IsTrue}
 use Rattle.spec_core.specs.Identifiers.{is_dotted}
-use Rattle.source_lexemes.specs.Words.{lexemes_of}
+use Rattle.py_parser.specs.Words.{lexemes_of}
 use Rattle.py_syntax.specs.declared.lexeme.Lexeme.{Lexeme}
 use Rattle.py_syntax.specs.declared.lexeme.Lexeme.TheVariants as token
 use Rattle.py_syntax.specs.declared.stmt.Script.{Script}
 use Rattle.py_syntax.specs.Grammar.{Spells}
-use Rattle.source_spec_print.specs.Lines.{Held}
-use Rattle.source_spec_text.specs.Laws.{IsSource}
-use Rattle.source_spec_text.proofs.Sources.{Writable, tokens_writable}
+use Rattle.source_print.specs.Lines.{Held}
+use Rattle.source_print.specs.TextLaws.{IsSource}
+use Rattle.source_print.proofs.Sources.{Writable, tokens_writable}
 use Rattle.py_parser.specs.Parses as parses
 use Rattle.py_parser.specs.Parses.{Answer, Parses}
 use Rattle.py_parser.specs.Parsed.{parsed}

@@ -2,7 +2,7 @@
 use Rattle.std.specs.Prelude.{◌↔◌, ℕ, List, Ok}
 use Rattle.py_syntax.specs.declared.stmt.Script.{Script}
 use Rattle.py_parser.specs.Parses.{Parses}
-use Rattle.source_spec_text.specs.Laws.{IsSource}
+use Rattle.source_print.specs.TextLaws.{IsSource}
 
 -- the sources of a script are what parses to it
 abbrev pub SourcesParse : Type 0

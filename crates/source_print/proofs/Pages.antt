@@ -2,8 +2,8 @@
 use Rattle.std.proofs.Common.{◌≡◌, ◌∙◌, refl, sym, ap, ℕ, suc, ◌+◌, true, false, List, [], ◌∷◌, ◌++◌, append_assoc, append-nil, fold, arith}
 use Rattle.py_syntax.specs.declared.lexeme.Lexeme.{Lexeme}
 use Rattle.py_syntax.specs.declared.lexeme.Lexeme.TheVariants as token
-use Rattle.source_spec_text.specs.Spelling.{spelled}
-use Rattle.source_spec_text.specs.Text.{lead, rendered}
+use Rattle.source_print.specs.Spelling.{spelled}
+use Rattle.source_print.specs.Text.{lead, rendered}
 use Rattle.source_print.specs.declared.page.Page.{Page}
 use Rattle.source_print.specs.Page.{written}
 

@@ -5,7 +5,7 @@ use Rattle.py_syntax.specs.declared.lexeme.Lexeme.{Lexeme}
 use Rattle.py_syntax.specs.declared.lexeme.Lexeme.TheVariants as token
 use Rattle.py_syntax.specs.declared.expr.Expr.{Expr, out-Expr, map-Expr, size-Expr, fold_out-Expr}
 use Rattle.py_syntax.specs.declared.expr.Expr.TheOpen.{Expr-F}
-use Rattle.source_spec_print.specs.Expressions.{Printed, enclosed, operand, printed_at, print_of, expr_tokens}
+use Rattle.source_print.specs.Expressions.{Printed, enclosed, operand, printed_at, print_of, expr_tokens}
 use Rattle.source_print.specs.Parts.{left_at, left, own_at, own, parenthesis, closing, behind, NoDeeper}
 
 -- ---- an expression is its left side, and what stands behind it

@@ -1,6 +1,6 @@
 -- Pieces that are put one after the other.
 use Rattle.std.proofs.Common.{◌≡◌, ◌∙◌, sym, ap, refl, ℕ, zero, suc, ◌+◌, List, ◌++◌, append_assoc, codes, arith}
-use Rattle.source_spec_text.specs.Text.{indentation}
+use Rattle.source_print.specs.Text.{indentation}
 
 pub six : (out a b c d e f : List ℕ) → (((((out ++ a) ++ b) ++ c) ++ d) ++ e) ++ f ≡ out ++ (a ++ (b ++ (c ++ (d ++ (e ++ f)))))
 six out a b c d e f = simp append_assoc

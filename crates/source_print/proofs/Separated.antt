@@ -4,8 +4,8 @@ use Rattle.std.proofs.lemmas.Grind.{flat_map-append}
 use Rattle.std.proofs.lemmas.List.{take_more, map_push, length-map, length-take}
 use Rattle.py_syntax.specs.declared.lexeme.Lexeme.{Lexeme}
 use Rattle.py_syntax.specs.declared.lexeme.Lexeme.TheVariants as token
-use Rattle.source_spec_print.specs.Expressions.{separated}
-use Rattle.source_spec_print.specs.Statements.{dots}
+use Rattle.source_print.specs.Expressions.{separated}
+use Rattle.source_print.specs.Statements.{dots}
 use Rattle.source_print.specs.Between.{before}
 
 -- ---- separators

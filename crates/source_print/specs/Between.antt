@@ -2,7 +2,7 @@
 use Rattle.std.specs.Prelude.{ℕ, zero, suc, ◌==◌, if◌then◌else◌, List, [], ◌∷◌, ◌++◌}
 use Rattle.py_syntax.specs.declared.lexeme.Lexeme.{Lexeme}
 use Rattle.py_syntax.specs.declared.lexeme.Lexeme.TheVariants as token
-use Rattle.source_spec_print.specs.Statements.{names_with}
+use Rattle.source_print.specs.Statements.{names_with}
 
 -- what stands before the n-th item, from 0
 abbrev pub before : Lexeme → ℕ → List Lexeme

@@ -1,3 +1,11 @@
 pub mod Between
 pub mod Parts
 pub mod Page
+pub mod Expressions
+pub mod Statements
+pub mod LexemeLaws
+pub mod Lines
+pub mod LaidLaws
+pub mod Spelling
+pub mod Text
+pub mod TextLaws

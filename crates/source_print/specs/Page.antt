@@ -2,8 +2,8 @@
 use Rattle.std.specs.Prelude.{◌+◌, ◌-◌, true, false, ◌++◌, codes}
 use Rattle.py_syntax.specs.declared.lexeme.Lexeme.{Lexeme}
 use Rattle.py_syntax.specs.declared.lexeme.Lexeme.TheVariants as token
-use Rattle.source_spec_text.specs.Spelling.{spelled}
-use Rattle.source_spec_text.specs.Text.{lead}
+use Rattle.source_print.specs.Spelling.{spelled}
+use Rattle.source_print.specs.Text.{lead}
 use Rattle.source_print.specs.declared.page.Page.{Page}
 
 -- a lexeme that has a spelling: what stands before it comes first, and the line goes on behind it

@@ -4,7 +4,7 @@ use Rattle.py_syntax.specs.declared.lexeme.Lexeme.{Lexeme}
 use Rattle.py_syntax.specs.declared.lexeme.Lexeme.TheVariants as token
 use Rattle.py_syntax.specs.declared.expr.Expr.{Expr, out-Expr, size-Expr}
 use Rattle.py_syntax.specs.declared.expr.Expr.TheOpen.{Expr-F}
-use Rattle.source_spec_print.specs.Expressions.{Printed, enclosed, operand, comparator, op_strength, op_sign, items, tuple_items, print_of, expr_tokens}
+use Rattle.source_print.specs.Expressions.{Printed, enclosed, operand, comparator, op_strength, op_sign, items, tuple_items, print_of, expr_tokens}
 
 -- the left side of a form, and how strongly that has to bind
 abbrev pub left_at : Expr-F Expr → Option (Expr × ℕ)

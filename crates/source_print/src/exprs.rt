@@ -2,7 +2,7 @@
 ghost use Rattle.std.specs.Prelude.{◌≡◌, ◌++◌, ◌∷◌, [], map, Some, None, ◌<◌, OnOk, IfOk, IfSome, MatchOption};
 ghost use Rattle.py_syntax.specs.declared.lexeme.Lexeme.TheVariants as token;
 ghost use Rattle.py_syntax.specs.declared.expr.Expr.{size-Expr};
-ghost use Rattle.source_spec_print.specs.Expressions as print;
+ghost use Rattle.source_print.specs.Expressions as print;
 ghost use Rattle.source_print.specs.Between as between;
 ghost use Rattle.source_print.specs.Parts as part;
 

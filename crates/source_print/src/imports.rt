@@ -1,7 +1,7 @@
 //! What `import` and `from` name.
 ghost use Rattle.std.specs.Prelude.{◌≡◌, ◌++◌, ◌∷◌, OnOk};
 ghost use Rattle.py_syntax.specs.declared.lexeme.Lexeme.TheVariants as token;
-ghost use Rattle.source_spec_print.specs.Statements as print;
+ghost use Rattle.source_print.specs.Statements as print;
 
 use crate::names::{put, put_comma, put_dotted, put_name};
 use base_types::{NoMemory, Seq, Text, Texts};

@@ -1,6 +1,6 @@
 //! Scripts.
 ghost use Rattle.std.specs.Prelude.{◌≡◌, IfOk};
-ghost use Rattle.source_spec_print.specs.Statements.{printed};
+ghost use Rattle.source_print.specs.Statements.{printed};
 
 use crate::names::put;
 use crate::stmts::put_stmts;

@@ -2,7 +2,7 @@
 ghost use Rattle.std.specs.Prelude.{◌≡◌, ◌++◌, ◌∷◌, [], OnOk};
 ghost use Rattle.py_syntax.specs.declared.lexeme.Lexeme.TheVariants as token;
 ghost use Rattle.source_print.specs.Between as between;
-ghost use Rattle.source_spec_print.specs.Statements as print_of;
+ghost use Rattle.source_print.specs.Statements as print_of;
 
 use base_types::{Exact, NoMemory, Seq, Text, Texts};
 use py_syntax::Lexeme;

@@ -1,7 +1,7 @@
 //! Signs of operators.
 ghost use Rattle.std.specs.Prelude.{◌≡◌, ◌++◌, ◌∷◌, [], ◌≤◌, OnOk};
-ghost use Rattle.source_spec_print.specs.Expressions as print;
-ghost use Rattle.source_spec_print.specs.Statements as print_of;
+ghost use Rattle.source_print.specs.Expressions as print;
+ghost use Rattle.source_print.specs.Statements as print_of;
 
 use crate::names::put;
 use base_types::{NoMemory, Seq};

@@ -1,9 +1,9 @@
 //! A text that is written lexeme by lexeme.
 ghost use Rattle.std.specs.Prelude.{◌≡◌, ◌++◌, IfOk, fold};
 ghost use Rattle.py_syntax.specs.declared.lexeme.Lexeme.TheVariants as token;
-ghost use Rattle.source_spec_print.specs.Lines.{Held};
-ghost use Rattle.source_spec_text.specs.Laws.{Utf8};
-ghost use Rattle.source_spec_text.specs.Text as texts;
+ghost use Rattle.source_print.specs.Lines.{Held};
+ghost use Rattle.source_print.specs.TextLaws.{Utf8};
+ghost use Rattle.source_print.specs.Text as texts;
 ghost use Rattle.source_print.specs.Page as pages;
 
 use crate::spelling::put_spelled;

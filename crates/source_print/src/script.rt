@@ -1,10 +1,10 @@
 //! Scripts.
 ghost use Rattle.std.specs.Prelude.{◌≡◌, IfOk};
 ghost use Rattle.std.specs.Str.{IsUtf8};
-ghost use Rattle.source_spec_print.specs.Lines.{Held};
-ghost use Rattle.source_spec_text.specs.Laws.{Utf8, PrintsBack};
-ghost use Rattle.source_spec_text.specs.Text.{text_of};
-ghost use Rattle.source_spec_print.specs.Statements.{printed};
+ghost use Rattle.source_print.specs.Lines.{Held};
+ghost use Rattle.source_print.specs.TextLaws.{Utf8, PrintsBack};
+ghost use Rattle.source_print.specs.Text.{text_of};
+ghost use Rattle.source_print.specs.Statements.{printed};
 
 use crate::page::text_of;
 use crate::script_lexemes;

@@ -3,8 +3,8 @@ ghost use Rattle.std.specs.Prelude.{◌≡◌, ◌++◌, IfOk};
 ghost use Rattle.std.specs.Fmt.{signed_decimal};
 ghost use Rattle.std.specs.Str.{IsUtf8};
 ghost use Rattle.base_spelling.specs.Spelling.{quoted};
-ghost use Rattle.source_spec_text.specs.Laws.{Utf8};
-ghost use Rattle.source_spec_text.specs.Spelling as spelling;
+ghost use Rattle.source_print.specs.TextLaws.{Utf8};
+ghost use Rattle.source_print.specs.Spelling as spelling;
 
 use base_spelling::{put, write_quoted};
 use base_types::{NoMemory, Text};

@@ -1,8 +1,8 @@
 //! Statements and blocks.
 ghost use Rattle.std.specs.Prelude.{◌≡◌, ◌++◌, ◌∷◌, [], map, OnOk};
 ghost use Rattle.py_syntax.specs.declared.lexeme.Lexeme.TheVariants as token;
-ghost use Rattle.source_spec_print.specs.Expressions.{expr_tokens};
-ghost use Rattle.source_spec_print.specs.Statements as print;
+ghost use Rattle.source_print.specs.Expressions.{expr_tokens};
+ghost use Rattle.source_print.specs.Statements as print;
 ghost use Rattle.source_print.specs.Between as between;
 
 use crate::exprs::put_expr;

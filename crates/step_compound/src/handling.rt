@@ -10,7 +10,7 @@ use machine_events::{Event, Reply};
 use meaning_state::{Flow, Thread};
 use py_frames::{OnReply, Want};
 use py_value::Raised;
-use step_names::{is_local_name, unset_local};
+use step_simple::{is_local_name, unset_local};
 
 /// An error is handled.
 pub fn begin_handling(thread: &mut Thread, error: Raised) -> Result<(), NoMemory>

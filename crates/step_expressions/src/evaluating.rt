@@ -15,7 +15,7 @@ use py_frames::{Form, Frame, Item, Want, fail, given};
 use py_syntax::Expr;
 use py_value::{Applied, Value};
 use std::alloc::Global;
-use step_names::read_name;
+use step_simple::read_name;
 use value_operators::limited;
 
 /// An atom's unit is paid, and then its value is looked for.

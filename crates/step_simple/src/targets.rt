@@ -8,13 +8,13 @@ ghost use Rattle.py_frames.specs.Acts.{acts};
 ghost use Rattle.step_simple.specs.Known.{assigns, assigns_item, assigns_member, deletes_known, removes, removes_member, sets_known};
 ghost use Rattle.py_frames.specs.Does.{Does, pieces};
 
+use crate::{delete_member, delete_name, set_member};
 use base_types::{Exact, NoMemory, Seq, Text};
 use meaning_state::{Fault, Thread};
 use py_frames::{Item, Want, fail, is_cache, only, pair, triple};
 use py_syntax::Expr;
 use py_value::{Value, type_of};
 use std::alloc::Global;
-use step_names::{delete_member, delete_name, set_member};
 
 fn assign_name(
     alloc: Global,

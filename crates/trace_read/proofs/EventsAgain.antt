@@ -7,12 +7,12 @@ use Rattle.base_types.specs.Path.{joined}
 use Rattle.trace_fields.specs.Reading.{Fields}
 use Rattle.trace_fields.proofs.Closed.{Closed, ordinary_closed}
 use Rattle.trace_fields.proofs.Quoting.{quoted_closed}
-use Rattle.trace_laws.proofs.Held.{any_name_again, any_name_closed, variable_again, variable_closed}
-use Rattle.trace_laws.specs.Fitting.{name_fits, place_at_fits, error_fits, spec_kind_fits, tree_path_fits}
-use Rattle.trace_laws.proofs.Signed.{place_again, place_in_path_closed, load_again, load_closed}
-use Rattle.trace_laws.proofs.Modules.{text_read, error_read, error_closed, slot_read, slot_closed}
-use Rattle.trace_laws.proofs.Nested.{value_read, value_item}
-use Rattle.trace_laws.proofs.Lists.{texts_read, texts_closed, spec_read, spec_closed, state_read, state_closed}
+use Rattle.trace_read.proofs.Held.{any_name_again, any_name_closed, variable_again, variable_closed}
+use Rattle.trace_read.specs.FieldsFit.{name_fits, place_at_fits, error_fits, spec_kind_fits, tree_path_fits}
+use Rattle.trace_read.proofs.Signed.{place_again, place_in_path_closed, load_again, load_closed}
+use Rattle.trace_read.proofs.Modules.{text_read, error_read, error_closed, slot_read, slot_closed}
+use Rattle.trace_read.proofs.Nested.{value_read, value_item}
+use Rattle.trace_read.proofs.Lists.{texts_read, texts_closed, spec_read, spec_closed, state_read, state_closed}
 use Rattle.trace_read.proofs.FieldKinds.{small_read, small_closed, number_read, wide_closed, name_read, name_closed, source_read, source_field_closed, tree_path_read, raw_read, raw_closed, good_read, good_closed}
 use Rattle.machine_events.specs.declared.event.Event.{Event}
 use Rattle.machine_events.specs.declared.event.Event.TheVariants as e

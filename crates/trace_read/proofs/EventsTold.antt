@@ -14,11 +14,11 @@ use Rattle.trace_fields.specs.Reading.{Fields, ◌>>=◌}
 use Rattle.trace_fields.specs.Fields.{small_number_in, name_in, any_name_in, variable_in, lookup}
 use Rattle.trace_fields.specs.Values.{place_in_path_in, load_in, error_in, slot_in, value_in, texts_in, spec_kind_in, state_in, tree_path_in}
 use Rattle.trace_entries.specs.Taking.{number_at, source_at, any_name_at, variable_at, load_at, slot_at, value_at, texts_at, spec_kind_at, state_at, flag_in, raw_at, good_at}
-use Rattle.trace_laws.proofs.Held.{some_is, other_option, any_name_takes, variable_takes, lookup_takes}
-use Rattle.trace_laws.proofs.Signed.{place_takes, load_takes}
-use Rattle.trace_laws.proofs.Modules.{text_told, error_told, slot_told}
-use Rattle.trace_laws.proofs.Told.{value_told}
-use Rattle.trace_laws.proofs.Lists.{texts_told, spec_told, state_told}
+use Rattle.trace_read.proofs.Held.{some_is, other_option, any_name_takes, variable_takes, lookup_takes}
+use Rattle.trace_read.proofs.Signed.{place_takes, load_takes}
+use Rattle.trace_read.proofs.Modules.{text_told, error_told, slot_told}
+use Rattle.trace_read.proofs.Told.{value_told}
+use Rattle.trace_read.proofs.Lists.{texts_told, spec_told, state_told}
 use Rattle.trace_read.proofs.Taking.{step, bind_ok, ok_is}
 use Rattle.trace_read.proofs.FieldKinds.{small_told, number_told, name_told, source_told, tree_path_told, raw_told, good_told}
 use Rattle.machine_events.specs.declared.event.Event.{Event}

@@ -20,12 +20,12 @@ use Rattle.trace_fields.proofs.Closed.{Closed, ordinary_closed}
 use Rattle.trace_fields.specs.Values.{parts_of, tree_path_of, tree_path_in}
 use Rattle.trace_fields.proofs.Paths.{path_again}
 use Rattle.trace_entries.specs.Taking.{flag_in}
-use Rattle.trace_laws.proofs.Naming.{dotted_ordinary}
-use Rattle.trace_laws.proofs.Held.{some_is, chosen, small_number_takes, small_number_again, name_takes, name_again, lookup_takes}
-use Rattle.trace_laws.proofs.Sources.{source_closed}
+use Rattle.trace_read.proofs.Naming.{dotted_ordinary}
+use Rattle.trace_read.proofs.Held.{some_is, chosen, small_number_takes, small_number_again, name_takes, name_again, lookup_takes}
+use Rattle.trace_read.proofs.Sources.{source_closed}
 use Rattle.spec_core.specs.Identifiers.{is_dotted}
-use Rattle.trace_laws.specs.Fitting.{name_fits, tree_path_fits}
-use Rattle.trace_laws.proofs.Modules.{text_read, text_told, number_closed}
+use Rattle.trace_read.specs.FieldsFit.{name_fits, tree_path_fits}
+use Rattle.trace_read.proofs.Modules.{text_read, text_told, number_closed}
 use Rattle.trace_read.specs.Fitting.{small_fits, number_fits, are_bytes}
 
 -- ---- numbers and names

@@ -18,3 +18,15 @@ pub mod EventsStop
 pub mod RepliesStop
 pub mod Refusals
 pub mod LinesStop
+pub mod Bytes
+pub mod Naming
+pub mod Sources
+pub mod Decimals
+pub mod Held
+pub mod Between
+pub mod Listed
+pub mod Signed
+pub mod Modules
+pub mod Nested
+pub mod Told
+pub mod Lists

@@ -11,7 +11,7 @@ use Rattle.trace_text.specs.Fields.{entry_fields}
 use Rattle.trace_text.specs.Trace.{unsplit, line}
 use Rattle.trace_fields.specs.declared.refusal.Cause.{Cause}
 use Rattle.trace_entries.specs.Entries.{entry_in}
-use Rattle.trace_laws.proofs.Held.{some_is}
+use Rattle.trace_read.proofs.Held.{some_is}
 use Rattle.trace_read.specs.Reading.{format_of, format_in, Read, behind, with_entry, last, entries_in, with_format, opened, lines_in, pieces, trace_in}
 use Rattle.trace_read.specs.Fitting.{entry_fits, entry_bytes, entries_fit, entries_bytes}
 use Rattle.trace_read.specs.Text.{first_line_of, text_of, Spelled}

@@ -15,8 +15,8 @@ use Rattle.base_spelling.specs.Read.{text_in, source_in}
 use Rattle.base_spelling.proofs.Takes.{text_takes, source_takes}
 use Rattle.trace_fields.specs.Fields.{name_in}
 use Rattle.trace_fields.proofs.Closed.{is_ordinary}
-use Rattle.trace_laws.proofs.Naming.{dotted_ordinary}
-use Rattle.trace_laws.proofs.Held.{chosen, name_takes}
+use Rattle.trace_read.proofs.Naming.{dotted_ordinary}
+use Rattle.trace_read.proofs.Held.{chosen, name_takes}
 use Rattle.trace_entries.specs.EventWords.{any_event_word, event_word_in}
 use Rattle.trace_entries.specs.EventWords as events
 use Rattle.trace_entries.specs.ReplyWords.{any_reply_word, reply_word_in}

@@ -34,14 +34,14 @@ use Rattle.trace_fields.specs.declared.refusal.Cause.TheVariants as cause
 use Rattle.trace_fields.specs.Reading.{taken}
 use Rattle.trace_fields.specs.Fields.{small_number_in, name_in, any_name_in, variable_in}
 use Rattle.trace_fields.proofs.Closed.{is_ordinary}
-use Rattle.trace_laws.proofs.Naming.{dotted_ordinary, identifier_ordinary}
-use Rattle.trace_laws.proofs.Held.{name_takes, any_name_again, variable_again}
+use Rattle.trace_read.proofs.Naming.{dotted_ordinary, identifier_ordinary}
+use Rattle.trace_read.proofs.Held.{name_takes, any_name_again, variable_again}
 use Rattle.trace_fields.specs.Values.{place_in_path_in, load_in, module_in, error_in, slot_in, value_in, values_in, texts_in, spec_kind_in, state_in, tree_path_in}
-use Rattle.trace_laws.specs.Fitting.{value_fits_at, parts_fit, value_fits}
-use Rattle.trace_laws.proofs.Signed.{place_again, load_again}
-use Rattle.trace_laws.proofs.Modules.{text_read, module_read, error_read, slot_read}
-use Rattle.trace_laws.proofs.Nested.{value_read}
-use Rattle.trace_laws.proofs.Lists.{values_read, texts_read, spec_read, state_read}
+use Rattle.trace_read.specs.FieldsFit.{value_fits_at, parts_fit, value_fits}
+use Rattle.trace_read.proofs.Signed.{place_again, load_again}
+use Rattle.trace_read.proofs.Modules.{text_read, module_read, error_read, slot_read}
+use Rattle.trace_read.proofs.Nested.{value_read}
+use Rattle.trace_read.proofs.Lists.{values_read, texts_read, spec_read, state_read}
 use Rattle.trace_entries.specs.EventWords.{any_event_word}
 use Rattle.trace_entries.specs.ReplyWords.{any_reply_word}
 use Rattle.trace_entries.specs.Taking.{small_number_at, number_at, name_at, text_at, source_at, tree_path_at, any_name_at, variable_at, place_at, load_at, module_at, error_at, slot_at, value_at, values_at, texts_at, spec_kind_at, state_at, flag_in, raw_at, good_at, init_at, yes_at}

@@ -4,10 +4,10 @@ use Rattle.std.proofs.lemmas.Bool.{and_parts, cond-false}
 use Rattle.std.specs.List.{AllByRecursion}
 use Rattle.trace_fields.specs.Reading.{Fields}
 use Rattle.trace_fields.proofs.Closed.{Closed, ordinary_closed}
-use Rattle.trace_laws.specs.Fitting.{state_fits}
-use Rattle.trace_laws.proofs.Modules.{module_read, module_closed, slot_read, slot_closed}
-use Rattle.trace_laws.proofs.Nested.{value_read, value_item}
-use Rattle.trace_laws.proofs.Lists.{values_read, values_closed, texts_read, texts_closed, state_read, state_closed}
+use Rattle.trace_read.specs.FieldsFit.{state_fits}
+use Rattle.trace_read.proofs.Modules.{module_read, module_closed, slot_read, slot_closed}
+use Rattle.trace_read.proofs.Nested.{value_read, value_item}
+use Rattle.trace_read.proofs.Lists.{values_read, values_closed, texts_read, texts_closed, state_read, state_closed}
 use Rattle.trace_read.proofs.FieldKinds.{small_read, small_closed, number_read, wide_closed, name_read, name_closed, source_read, source_field_closed, init_read, init_closed, yes_read, yes_closed}
 use Rattle.machine_events.specs.declared.event.Reply.{Reply}
 use Rattle.machine_events.specs.declared.event.Reply.TheVariants as r

@@ -11,10 +11,10 @@ use Rattle.trace_fields.specs.Reading.{Fields, ◌>>=◌}
 use Rattle.trace_fields.specs.Fields.{small_number_in, name_in, lookup}
 use Rattle.trace_fields.specs.Values.{module_in, slot_in, value_in, values_in, texts_in, state_in}
 use Rattle.trace_entries.specs.Taking.{small_number_at, number_at, source_at, flag_in, yes_at}
-use Rattle.trace_laws.proofs.Held.{some_is, other_option, lookup_takes}
-use Rattle.trace_laws.proofs.Modules.{module_told, slot_told}
-use Rattle.trace_laws.proofs.Told.{value_told}
-use Rattle.trace_laws.proofs.Lists.{values_told, texts_told, state_told}
+use Rattle.trace_read.proofs.Held.{some_is, other_option, lookup_takes}
+use Rattle.trace_read.proofs.Modules.{module_told, slot_told}
+use Rattle.trace_read.proofs.Told.{value_told}
+use Rattle.trace_read.proofs.Lists.{values_told, texts_told, state_told}
 use Rattle.trace_read.proofs.Taking.{step, ok_is}
 use Rattle.trace_read.proofs.FieldKinds.{small_told, number_told, name_told, source_told, init_told, yes_told}
 use Rattle.machine_events.specs.declared.event.Reply.{Reply}

@@ -10,7 +10,7 @@ use Rattle.machine_events.specs.declared.event.Reply.TheVariants as r
 use Rattle.machine_events.specs.declared.event.Outcome.{Outcome}
 use Rattle.machine_events.specs.declared.event.Outcome.TheVariants as outcomes
 use Rattle.machine_events.specs.declared.event.Entry.{Entry}
-use Rattle.trace_laws.specs.Fitting.{name_fits, place_at_fits, load_fits, module_fits, error_fits, slot_fits, value_fits, values_fit, texts_fit, spec_kind_fits, state_fits, tree_path_fits}
+use Rattle.trace_read.specs.FieldsFit.{name_fits, place_at_fits, load_fits, module_fits, error_fits, slot_fits, value_fits, values_fit, texts_fit, spec_kind_fits, state_fits, tree_path_fits}
 
 -- threads, modules and loads have numbers below 2 ^ 32
 abbrev pub small_fits : ℕ → Bool

@@ -4,3 +4,4 @@ pub mod NameLemmas
 pub mod Overlaid
 pub mod TreeLemmas
 pub mod Within
+pub mod Rounds

@@ -4,3 +4,4 @@ pub mod Kinds
 pub mod Names
 pub mod Seen
 pub mod Told
+pub mod Rounds

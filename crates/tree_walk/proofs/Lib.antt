@@ -2,3 +2,4 @@ pub mod Splitting
 pub mod Walking
 mod Spelling
 mod Folders
+mod Naming

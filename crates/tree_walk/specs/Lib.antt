@@ -2,3 +2,4 @@ pub mod Below
 pub mod Names
 pub mod Due
 pub mod Packing
+pub mod Reading

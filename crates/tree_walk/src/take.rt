@@ -6,12 +6,12 @@ ghost use Rattle.tree_files.specs.Files.{IsTree, IsDirAt, IsFileAt};
 ghost use Rattle.tree_walk.specs.Below.{taken};
 ghost use Rattle.tree_walk.specs.Due.{TakesAt, TakesFolder};
 
+use crate::load_bytes;
 use crate::names::{behind, child_of};
 use crate::pile::{Folder, Walk};
 use base_types::{Exact, Seq, TreePath};
 use bundle_hook::Packed;
 use tree_files::{Stamp, Tree, TreeFault};
-use tree_reading::load_bytes;
 
 /// How many parts a folder may lie below the one whose files are taken.
 const MOST_PARTS: usize = 64;

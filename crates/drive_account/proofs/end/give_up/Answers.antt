@@ -1,4 +1,4 @@
-use Rattle.drive_port.proofs.Staying.{stays_trans}
+use Rattle.drive_account.proofs.Staying.{stays_trans}
 use Rattle.drive_account.proofs.Giving.{gives_shown, idle_given, gave_given, lists_then}
 use Rattle.drive_account.proofs.end.give_up.Goals as goal
 

@@ -1,6 +1,6 @@
 use Rattle.std.proofs.Common.{◌≤◌, length}
 use Rattle.meaning_runs.specs.Lists.{lists_in}
-use Rattle.drive_port.specs.View.{Stays}
+use Rattle.drive_account.specs.View.{Stays}
 use Rattle.drive_account.specs.Holds.{held_in}
 use Rattle.drive_account.specs.Ending.{Idle, Gave}
 use Rattle.drive_account.proofs.end.give_up.Given as goal

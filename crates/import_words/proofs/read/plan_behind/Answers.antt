@@ -2,7 +2,7 @@ use Rattle.std.proofs.Common.{◌∙◌, sym, ap, map}
 use Rattle.std.specs.List.{list_any}
 use Rattle.std.specs.String.{string_bytes}
 use Rattle.std.proofs.lemmas.Result.{IfOk-weaker}
-use Rattle.words_options.specs.Words.{is_refused}
+use Rattle.import_words.specs.OptionWords.{is_refused}
 use Rattle.import_words.specs.Plans.{command_of, plan_by, plan_of}
 use Rattle.import_words.proofs.Narrowed.{clear_plan, clear_rest}
 use Rattle.import_words.proofs.read.plan_behind.Goals as goal

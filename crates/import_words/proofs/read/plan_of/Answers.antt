@@ -1,7 +1,7 @@
 use Rattle.std.proofs.Common.{◌∙◌, sym, ap, map}
 use Rattle.std.specs.List.{list_any}
 use Rattle.std.specs.String.{string_bytes}
-use Rattle.words_options.specs.Words.{is_refused}
+use Rattle.import_words.specs.OptionWords.{is_refused}
 use Rattle.import_words.proofs.Narrowed.{refused_plan}
 use Rattle.import_words.proofs.read.plan_of.Goals as goal
 

@@ -2,7 +2,7 @@ use Rattle.std.proofs.Common.{◌≡◌, ◌≤◌, ◌<◌, ◌+◌, ◌++◌, 
 use Rattle.std.proofs.lemmas.List.{get_or_default}
 use Rattle.tree_files.specs.Files.{Files}
 use Rattle.tree_overlay.specs.Told.{edited_told}
-use Rattle.drive_follow.specs.Following.{Answers}
+use Rattle.drive_account.specs.Following.{Answers}
 use Rattle.machine_events.specs.declared.event.Follow.{Follow}
 use Rattle.machine_events.specs.declared.event.Pair.{Pair}
 use Rattle.program_check.proofs.Following.{round_none, round_more}

@@ -1,8 +1,8 @@
 use Rattle.std.proofs.Common.{◌∙◌, subst, arith, Some}
-use Rattle.program_workload.specs.Generator.{made_files, script_files}
+use Rattle.program_gen.specs.Generator.{made_files, script_files}
 use Rattle.program_run.specs.Scripts.{EachOpens, Stops}
-use Rattle.program_workload.specs.Scripts.{script_texts, HoldsScripts}
-use Rattle.program_gen.proofs.Texts.{given_texts, only_wanting}
+use Rattle.program_gen.specs.Scripts.{script_texts, HoldsScripts}
+use Rattle.program_gen.proofs.TextParts.{given_texts, only_wanting}
 use Rattle.program_gen.proofs.ready.made_texts.Goals as goal
 
 pub returns-in-Ok-clause-texts : goal.returns-in-Ok-clause-texts

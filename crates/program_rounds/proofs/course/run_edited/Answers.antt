@@ -1,7 +1,7 @@
 use Rattle.std.proofs.Common.{◌≡◌, ◌≤◌, ◌+◌, ◌∙◌, ℕ, subst}
 use Rattle.tree_files.specs.Count.{raised}
 use Rattle.tree_overlay.specs.Told.{edited_told}
-use Rattle.tree_rounds.specs.Rounds.{Absorbed, total}
+use Rattle.tree_overlay.specs.Rounds.{Absorbed, total}
 use Rattle.drive_round.specs.Ran.{counted}
 use Rattle.program_rounds.proofs.Coursing.{took_by}
 use Rattle.program_rounds.proofs.course.run_edited.Goals as goal

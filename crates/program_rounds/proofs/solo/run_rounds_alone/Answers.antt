@@ -4,7 +4,7 @@ use Rattle.std.proofs.lemmas.List.{length-map}
 use Rattle.tree_files.specs.Count.{raised}
 use Rattle.tree_files.specs.declared.edit.Edit.{Edit}
 use Rattle.tree_overlay.specs.Told.{edited_told}
-use Rattle.tree_rounds.specs.Rounds as trees
+use Rattle.tree_overlay.specs.Rounds as trees
 use Rattle.program_run.specs.Sinks.{Moment, at, moment}
 use Rattle.program_run.specs.Results.{Came, AllEnded, AreWhole}
 use Rattle.program_run.specs.Statuses.{want_of_memory}

@@ -1,11 +1,11 @@
 use Rattle.std.proofs.Common.{◌∙◌, ℕ, List, Err, IfOk, take, refl, ap, subst}
-use Rattle.drive_port.specs.declared.port.Halt.{Halt}
+use Rattle.drive_account.specs.declared.port.Halt.{Halt}
 use Rattle.meaning_runs.specs.Runs.{Run}
 use Rattle.meaning_script.specs.Meaning.{meaning}
 use Rattle.meaning_safety.proofs.Meaning.{meaning_safe}
 use Rattle.step_calls.specs.Sources.{sources}
-use Rattle.drive_port.specs.Replay.{pairs_of}
-use Rattle.drive_follow.specs.Following.{Answers}
+use Rattle.drive_account.specs.Replay.{pairs_of}
+use Rattle.drive_account.specs.Following.{Answers}
 use Rattle.py_run.specs.Overs.{Overs}
 use Rattle.py_run.specs.declared.drive.Over.{Over}
 use Rattle.py_run.proofs.Following.{end_shown, still_runs, follow_came, follow_out, follow_refused}

@@ -2,12 +2,12 @@ use Rattle.std.proofs.Common.{◌≡◌, ◌∙◌, ℕ, Err, refl, ap, subst}
 use Rattle.tree_files.specs.Count.{Rose}
 use Rattle.meaning_runs.specs.Runs.{Run}
 use Rattle.meaning_runs.proofs.Stand.{in_some}
-use Rattle.drive_port.specs.declared.port.Halt.TheVariants.{Refused}
-use Rattle.drive_port.proofs.Staying.{stays_refl, stays_trans}
+use Rattle.drive_account.specs.declared.port.Halt.TheVariants.{Refused}
+use Rattle.drive_account.proofs.Staying.{stays_refl, stays_trans}
 use Rattle.py_run.specs.Turns.{After, Counts}
 use Rattle.py_run.specs.Starts.{started}
 use Rattle.py_run.specs.declared.course.Turn.{Turn}
-use Rattle.drive_search.proofs.Asking.{asked_refl, asked_trans, kept_refl, kept_trans}
+use Rattle.drive_account.proofs.Asking.{asked_refl, asked_trans, kept_refl, kept_trans}
 use Rattle.py_run.proofs.Turning.{begins, stands_first, holds_first, stood, after_turn, parted, refused_at}
 use Rattle.py_run.proofs.drive.run.Goals as goal
 

@@ -1,8 +1,8 @@
 use Rattle.std.proofs.Common.{◌≡◌, ◌-◌, ◌^◌}
-use Rattle.drive_port.specs.View.{Stays}
+use Rattle.drive_account.specs.View.{Stays}
 use Rattle.drive_account.specs.Ending.{Holds}
 use Rattle.drive_account.specs.At.{At}
-use Rattle.drive_search.specs.Asking.{Asked, AllKept}
+use Rattle.drive_account.specs.Asking.{Asked, AllKept}
 use Rattle.py_run.specs.Turns.{remains}
 use Rattle.py_run.specs.Starts.{started}
 use Rattle.py_run.proofs.drive.run.Given as goal

@@ -2,7 +2,7 @@ use Rattle.std.proofs.Common.{◌≡◌, Option, Err, ap}
 use Rattle.meaning_runs.specs.Runs.{Run}
 use Rattle.path_finder.specs.declared.words.Found.{Found}
 use Rattle.find_load.specs.declared.words.In.TheVariants as given
-use Rattle.drive_port.specs.declared.port.Halt.TheVariants.{Refused}
+use Rattle.drive_account.specs.declared.port.Halt.TheVariants.{Refused}
 use Rattle.py_run.specs.Turns.{feeds}
 use Rattle.py_run.proofs.Finding.{in_sought}
 use Rattle.py_run.proofs.Results.{if_ok, if_err, if_ok_both}

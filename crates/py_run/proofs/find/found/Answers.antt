@@ -2,7 +2,7 @@ use Rattle.std.proofs.Common.{None, []}
 use Rattle.std.proofs.lemmas.Result.{IfOk-weaker}
 use Rattle.find_load.specs.declared.words.In.TheVariants as given
 use Rattle.py_run.specs.Turns.{feeds}
-use Rattle.drive_search.specs.declared.search.Sought.TheVariants as sought
+use Rattle.drive_account.specs.declared.search.Sought.TheVariants as sought
 use Rattle.py_run.proofs.Finding.{after_at, counts_at}
 use Rattle.py_run.proofs.Turning.{counts_same}
 use Rattle.py_run.proofs.find.found.Goals as goal

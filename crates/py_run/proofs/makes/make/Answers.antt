@@ -1,9 +1,9 @@
 use Rattle.std.proofs.Common.{◌≡◌, Err, refl, ap}
 use Rattle.machine_shown.specs.Shown.{shown}
 use Rattle.drive_account.proofs.Giving.{lists_grow}
-use Rattle.drive_port.specs.declared.port.Halt.TheVariants.{Refused}
+use Rattle.drive_account.specs.declared.port.Halt.TheVariants.{Refused}
 use Rattle.py_run.proofs.Holding.{knows_made}
-use Rattle.drive_search.proofs.Making.{at_made, refused_here}
+use Rattle.drive_account.proofs.Making.{at_made, refused_here}
 use Rattle.py_run.proofs.Making.{in_made}
 use Rattle.py_run.proofs.makes.make.Goals as goal
 

@@ -1,8 +1,8 @@
 use Rattle.std.proofs.Common.{◌≡◌, Err, refl, ap}
 use Rattle.machine_events.specs.declared.event.Event.TheVariants as e
 use Rattle.drive_account.proofs.Giving.{lists_grow}
-use Rattle.drive_port.specs.declared.port.Halt.TheVariants.{Refused}
-use Rattle.drive_search.proofs.Making.{at_made, in_at, refused_here}
+use Rattle.drive_account.specs.declared.port.Halt.TheVariants.{Refused}
+use Rattle.drive_account.proofs.Making.{at_made, in_at, refused_here}
 use Rattle.py_run.proofs.Making.{holds_woken}
 use Rattle.py_run.proofs.makes.wait.Goals as goal
 

@@ -2,7 +2,7 @@ use Rattle.std.proofs.Common.{refl}
 use Rattle.std.proofs.lemmas.Result.{IfOk-weaker}
 use Rattle.py_frames.specs.declared.want.Want.TheVariants as wants
 use Rattle.py_run.specs.Turns.{remains}
-use Rattle.drive_search.proofs.Results.{on_err_then}
+use Rattle.drive_account.proofs.Results.{on_err_then}
 use Rattle.py_run.proofs.Results.{if_ok, if_err}
 use Rattle.py_run.proofs.Turning.{turned_at, turned_here, at_want, parted_here}
 use Rattle.py_run.proofs.turn.give.Goals as goal

@@ -5,7 +5,7 @@ use Rattle.machine_events.specs.declared.event.Reply.TheVariants.{Done}
 use Rattle.machine_events.specs.declared.event.Outcome.TheVariants as o
 use Rattle.meaning_runs.specs.Runs.{Run}
 use Rattle.meaning_runs.proofs.Stand.{in_some}
-use Rattle.drive_port.proofs.Staying.{stays_trans}
+use Rattle.drive_account.proofs.Staying.{stays_trans}
 use Rattle.drive_account.specs.Ending.{GaveAll, Gave}
 use Rattle.drive_account.proofs.Giving.{lists_grow}
 use Rattle.drive_account.proofs.Meant.{follows_of, broken_in, is_read}
@@ -14,7 +14,7 @@ use Rattle.py_run.specs.Overs.{Overs, IsUnfailed}
 use Rattle.py_run.specs.Starts.{started}
 use Rattle.py_run.specs.declared.drive.Over.{Over}
 use Rattle.py_run.specs.declared.drive.Over.TheVariants as over
-use Rattle.drive_search.proofs.Results.{on_err_then}
+use Rattle.drive_account.proofs.Results.{on_err_then}
 use Rattle.py_run.proofs.Results.{if_ok}
 use Rattle.py_run.proofs.Whole.{meant_came, meant_out, meant_read, meant_over, broken_out, broken_read, no_end_in, no_end_out, no_end_read, lists_whole, came_shown, spent_idle, unread_idle, unread_left}
 use Rattle.py_run.proofs.whole_thread.run_on.Goals as goal

@@ -1,7 +1,7 @@
 use Rattle.std.proofs.Common.{Option, IfSome, subst}
 use Rattle.py_syntax.specs.Grammar.{Spells}
 use Rattle.py_syntax.specs.declared.stmt.Script.{Script}
-use Rattle.source_lexemes.specs.Words.{lexemes_of}
+use Rattle.py_parser.specs.Words.{lexemes_of}
 use Rattle.report_questions.proofs.Faulty.{asked_by_tokens}
 use Rattle.report_questions.proofs.sources.token_questions.Goals as goal
 

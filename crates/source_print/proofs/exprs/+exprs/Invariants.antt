@@ -1,6 +1,6 @@
 use Rattle.std.proofs.Common.{◌≡◌, ◌++◌, length, map, take}
 use Rattle.py_syntax.proofs.expr.Expr.TheLaws.{the_size}
-use Rattle.source_spec_print.specs.Expressions.{items, print_of, expr_tokens}
+use Rattle.source_print.specs.Expressions.{items, print_of, expr_tokens}
 use Rattle.source_print.specs.Parts.{behind, NoDeeper}
 use Rattle.source_print.proofs.exprs.+exprs.Given as goal
 

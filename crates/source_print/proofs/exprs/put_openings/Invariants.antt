@@ -1,6 +1,6 @@
 use Rattle.std.proofs.Common.{◌≡◌, ◌++◌, ◌≤◌, map}
 use Rattle.py_syntax.proofs.expr.Expr.TheLaws.{the_size}
-use Rattle.source_spec_print.specs.Expressions.{expr_tokens}
+use Rattle.source_print.specs.Expressions.{expr_tokens}
 use Rattle.source_print.specs.Parts.{behind, NoDeeper}
 use Rattle.source_print.proofs.exprs.put_openings.Given as goal
 

@@ -1,5 +1,5 @@
 use Rattle.std.proofs.Common.{◌≡◌, ◌++◌, take}
-use Rattle.source_spec_print.specs.Statements.{aliases}
+use Rattle.source_print.specs.Statements.{aliases}
 use Rattle.source_print.proofs.imports.put_aliases.Given as goal
 
 abbrev pub invariant-loop-n : goal.invariant-loop-n

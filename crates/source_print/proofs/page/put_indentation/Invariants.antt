@@ -1,5 +1,5 @@
 use Rattle.std.proofs.Common.{◌≡◌, ◌++◌}
-use Rattle.source_spec_text.specs.Text.{indentation}
+use Rattle.source_print.specs.Text.{indentation}
 use Rattle.source_print.proofs.page.put_indentation.Given as goal
 
 abbrev pub invariant-loop-level : goal.invariant-loop-level

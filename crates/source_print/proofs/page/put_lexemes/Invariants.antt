@@ -1,6 +1,6 @@
 use Rattle.std.proofs.Common.{◌≡◌, fold, take}
-use Rattle.source_spec_print.specs.Lines.{Held}
-use Rattle.source_spec_text.specs.Laws.{Utf8}
+use Rattle.source_print.specs.Lines.{Held}
+use Rattle.source_print.specs.TextLaws.{Utf8}
 use Rattle.source_print.specs.Page.{written}
 use Rattle.source_print.proofs.page.put_lexemes.Given as goal
 

@@ -1,5 +1,5 @@
 use Rattle.std.proofs.Common.{◌∙◌, ap, true, ◌++◌}
-use Rattle.source_spec_text.specs.Text.{rendered}
+use Rattle.source_print.specs.Text.{rendered}
 use Rattle.source_print.specs.declared.page.Page.{Page}
 use Rattle.source_print.proofs.Pages.{written_text}
 use Rattle.source_print.proofs.page.text_of.Goals as goal

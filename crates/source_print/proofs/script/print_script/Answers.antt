@@ -1,9 +1,9 @@
 use Rattle.std.proofs.Common.{◌∙◌, sym, subst}
 use Rattle.std.specs.Str.{IsUtf8}
-use Rattle.source_spec_print.specs.Statements.{printed}
-use Rattle.source_spec_text.specs.Laws.{PrintsBack}
-use Rattle.source_spec_text.specs.Text.{text_of}
-use Rattle.source_spec_text.proofs.Whole.{prints_back}
+use Rattle.source_print.specs.Statements.{printed}
+use Rattle.source_print.specs.TextLaws.{PrintsBack}
+use Rattle.source_print.specs.Text.{text_of}
+use Rattle.source_print.proofs.Whole.{prints_back}
 use Rattle.source_print.proofs.script.print_script.Goals as goal
 
 pub returns-clause-parses : goal.returns-clause-parses

@@ -1,7 +1,7 @@
 use Rattle.std.proofs.Common.{◌∙◌, sym, ap, ◌++◌, ◌∷◌, [], map}
 use Rattle.py_syntax.specs.declared.lexeme.Lexeme.TheVariants as token
-use Rattle.source_spec_print.specs.Statements.{clause, block, in_order, stmt_tokens, handler_tokens}
-use Rattle.source_print.proofs.Statements.{on_ok, not_both, if_put, try_put, clause_put}
+use Rattle.source_print.specs.Statements.{clause, block, in_order, stmt_tokens, handler_tokens}
+use Rattle.source_print.proofs.StatementLexemes.{on_ok, not_both, if_put, try_put, clause_put}
 use Rattle.source_print.proofs.stmts.+stmts.Goals as goal
 
 pub put_clause-returns : goal.put_clause-returns

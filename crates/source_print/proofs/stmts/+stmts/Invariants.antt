@@ -1,5 +1,5 @@
 use Rattle.std.proofs.Common.{◌≡◌, ◌++◌, map, take}
-use Rattle.source_spec_print.specs.Statements.{branches, in_order, branch_tokens, handler_tokens, stmts_tokens}
+use Rattle.source_print.specs.Statements.{branches, in_order, branch_tokens, handler_tokens, stmts_tokens}
 use Rattle.source_print.proofs.stmts.+stmts.Given as goal
 
 abbrev pub invariant-put_branches-loop-n : goal.invariant-put_branches-loop-n

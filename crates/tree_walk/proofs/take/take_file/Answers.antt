@@ -1,6 +1,6 @@
 use Rattle.std.proofs.Common.{subst, IfSome}
 use Rattle.tree_files.specs.Files.{node_at}
-use Rattle.tree_reading.specs.Reading.{IsLoaded, IsWithin}
+use Rattle.tree_walk.specs.Reading.{IsLoaded, IsWithin}
 use Rattle.tree_walk.proofs.Walking.{too_long_stops, file_taken}
 use Rattle.tree_walk.proofs.take.take_file.Goals as goal
 

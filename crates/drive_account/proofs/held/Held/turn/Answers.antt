@@ -3,7 +3,7 @@ use Rattle.machine_shown.specs.Holdings.{is_holding, becoming}
 use Rattle.drive_account.specs.Holds.{holding_of, holdings, held_in}
 use Rattle.std.proofs.lemmas.Option.{slice_get_read}
 use Rattle.drive_account.specs.declared.held.Held.{Held}
-use Rattle.drive_account.proofs.Places.{becomes}
+use Rattle.drive_account.proofs.HeldPlaces.{becomes}
 use Rattle.drive_account.proofs.held.Held.turn.Goals as goal
 
 pub returns-then-is_hold : goal.returns-then-is_hold

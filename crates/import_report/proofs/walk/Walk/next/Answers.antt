@@ -1,6 +1,6 @@
 use Rattle.std.proofs.Common.{◌≡◌, ◌∙◌, refl, sym, ap, subst, List, [], ◌∷◌, ◌++◌, Option, MatchOption, arith}
 use Rattle.base_types.specs.Path.{Path}
-use Rattle.report_lines.specs.declared.line.Line.{Line}
+use Rattle.import_report.specs.declared.line.Line.{Line}
 use Rattle.import_report.specs.Due.{part_lines, due_lines, due_folders, Tells, Lists}
 use Rattle.import_report.proofs.Steps.{gone_none, lists_then, lists_to, popped_lines, popped_folders}
 use Rattle.import_report.proofs.walk.Walk.next.Goals as goal

@@ -1,0 +1,304 @@
+//! A search that is a part of a script: what its steps want is given to them.
+ghost use Rattle.std.specs.Prelude.{◌≡◌, ℕ, List, IfOk, OnOk, OnErr, IsErrOf, Option, false, []};
+ghost use Rattle.std.specs.Option.{ForSome};
+ghost use Rattle.machine_events.specs.declared.event.Event.{Event};
+ghost use Rattle.machine_events.specs.declared.event.Reply.{Reply};
+ghost use Rattle.meaning_runs.specs.Costs.{after_reply};
+ghost use Rattle.meaning_runs.specs.Runs.{Run, Pays, Safe};
+ghost use Rattle.path_finder.specs.Looking.{Await, awaits, input_kind, means, Suits, ForListing, ForKeeping};
+ghost use Rattle.path_finder.specs.Steps.{Search, searches};
+ghost use Rattle.path_finder.specs.declared.look.Stage.TheVariants as stages;
+ghost use Rattle.path_finder.specs.declared.words.Found.{Found};
+ghost use Rattle.path_finder.specs.declared.words.LookIn.{LookIn};
+ghost use Rattle.path_finder.specs.declared.words.LookIn.TheVariants as given;
+ghost use Rattle.path_finder.specs.declared.words.LookWant.TheVariants as wanted;
+ghost use Rattle.meaning_script.specs.Searches.{searches_in, probe_of};
+ghost use Rattle.drive_account.specs.View.{View, Stays};
+ghost use Rattle.machine_shown.specs.Shown.{Shown, shown, Running};
+ghost use Rattle.tree_files.specs.Count.{Rose};
+ghost use Rattle.tree_files.specs.Files.{Files};
+ghost use Rattle.drive_account.specs.At.{At};
+ghost use Rattle.drive_account.specs.Searching.{AfterStep, CountsStep, Fits, SafeStep, IsSafe, MayGive, Given, Keeps, GiveParted, GiveRefused, Taken, Searched, SearchParted, SearchRefused};
+ghost use Rattle.drive_account.specs.Asking.{Asked, AllKept};
+
+use crate::{Halt, Port, Purse, pay_reply, texts_size};
+use base_types::{Listing, NoMemory, Text, TreePath};
+use machine_events::{Event, Reply};
+use path_finder::{Found, Look, LookIn, LookWant, Probe};
+use py_value::Items;
+use spec_core::Dotted;
+use tree_files::{Tree, TreeFault};
+
+/// How a search is over.
+#[derive(Drop)]
+pub enum Sought {
+    /// It came to its answer.
+    Found(Option<Found>),
+    /// A payment could not be made.
+    Out,
+    /// A call of the tree failed after a payment that left so much before it.
+    Unread(u64),
+}
+
+/// Where a step of a search leads.
+#[derive(Drop)]
+pub enum Step {
+    /// The search goes on with this.
+    On(LookIn),
+    Over(Sought),
+}
+
+/// A unit is paid for a call of the tree, or for an entry that is passed over.
+fn pay_unit(purse: &mut Purse, of_tree: bool) -> Step
+    ensures { (number : ℕ) (mine : List (Event × Reply)) → Given number mine mine purse.old purse.new
+        (wanted.Pay of_tree) result }
+{
+    if purse.pay(of_tree, 1) {
+        Step::On(LookIn::Paid)
+    } else {
+        Step::Over(Sought::Out)
+    }
+}
+
+/// What the reply about a listing tells.
+fn probe_of(reply: &Reply) -> Option<Probe>
+    ensures { result ≡ probe_of reply.now }
+{
+    match reply {
+        Reply::Listing(time, bare, file) => Some(Probe {
+            time: *time,
+            bare: *bare,
+            file: *file,
+        }),
+        _ => None,
+    }
+}
+
+/// The reply about a listing is paid for.
+fn listed(purse: &mut Purse, reply: Reply) -> Step
+    ensures moves { (files : Option Files) (go : LookIn → Search) (k : Option Found → Run) (whole : Run) (fuel : ℕ)
+        (mine : List (Event × Reply)) → At files whole fuel mine purse.old
+        (after_reply reply (searches_in (go (given.Listed (probe_of reply))) k))
+        → AfterStep files whole fuel mine purse.new go k result }
+    ensures fits { Fits ForListing result }
+    ensures counts { (faults : ℕ) → CountsStep faults faults result }
+    ensures safe { (s : Shown) (go : LookIn → Search) (k : Option Found → Run)
+        → Safe s (after_reply reply (searches_in (go (given.Listed (probe_of reply))) k)) → SafeStep s go k result }
+{
+    if !pay_reply(purse, &reply) {
+        drop(reply);
+        return Step::Over(Sought::Out);
+    }
+    let probe = probe_of(&reply);
+    drop(reply);
+    Step::On(LookIn::Listed(probe))
+}
+
+/// The kept listing of a directory is asked for, for a unit.
+fn ask<P: Port>(port: &mut P, purse: &mut Purse, dir: TreePath, part: Text) -> Result<Step, Halt>
+    requires ready { (P.view port.old).ready }
+    requires runs { (shown (P.view port.old).number (P.view port.old).mine).doing ≡ Running }
+    ensures stays { Stays (P.view port.old) (P.view port.new) }
+    ensures given { IfOk result (Given (P.view port.old).number (P.view port.old).mine
+        (P.view port.new).mine purse.old purse.new (wanted.DirGet dir part)) }
+    ensures holds { OnOk result (Keeps (P.view port.old) (P.view port.new)) }
+    ensures part { OnErr result (GiveParted (P.view port.old).mine (P.view port.new).mine purse.old
+        (wanted.DirGet dir part)) }
+    ensures refused { IsErrOf result Halt.Refused → GiveRefused (P.view port.new) (P.view port.old).mine purse.old
+        (wanted.DirGet dir part) }
+{
+    if !purse.pay(false, 1) {
+        drop(dir);
+        drop(part);
+        return Ok(Step::Over(Sought::Out));
+    }
+    purse.read = None;
+    match port.call(Event::DirGet { dir, part }) {
+        Ok(reply) => Ok(listed(purse, reply)),
+        Err(halt) => Err(halt),
+    }
+}
+
+/// The names of a listing are paid for, once it is kept.
+fn kept(purse: &mut Purse, units: u64) -> Step
+    ensures moves { (files : Option Files) (go : LookIn → Search) (k : Option Found → Run) (whole : Run) (fuel : ℕ)
+        (mine : List (Event × Reply)) → At files whole fuel mine purse.old
+        (Pays false units (searches_in (go given.Kept) k)) → AfterStep files whole fuel mine purse.new go k result }
+    ensures fits { Fits ForKeeping result }
+    ensures counts { (faults : ℕ) → CountsStep faults faults result }
+    ensures safe { (s : Shown) (go : LookIn → Search) (k : Option Found → Run)
+        → Safe s (Pays false units (searches_in (go given.Kept) k)) → SafeStep s go k result }
+{
+    if purse.pay(false, units) {
+        Step::On(LookIn::Kept)
+    } else {
+        Step::Over(Sought::Out)
+    }
+}
+
+/// A listing is kept. The event is free, and the names are paid for after it.
+fn keep<P: Port>(
+    port: &mut P,
+    purse: &mut Purse,
+    dir: TreePath,
+    listing: Listing,
+) -> Result<Step, Halt>
+    requires ready { (P.view port.old).ready }
+    requires runs { (shown (P.view port.old).number (P.view port.old).mine).doing ≡ Running }
+    ensures stays { Stays (P.view port.old) (P.view port.new) }
+    ensures given { IfOk result (Given (P.view port.old).number (P.view port.old).mine
+        (P.view port.new).mine purse.old purse.new (wanted.DirSet dir listing)) }
+    ensures holds { OnOk result (Keeps (P.view port.old) (P.view port.new)) }
+    ensures part { OnErr result (GiveParted (P.view port.old).mine (P.view port.new).mine purse.old
+        (wanted.DirSet dir listing)) }
+    ensures refused { IsErrOf result Halt.Refused → GiveRefused (P.view port.new) (P.view port.old).mine purse.old
+        (wanted.DirSet dir listing) }
+{
+    let units = texts_size(&listing.names);
+    purse.read = None;
+    match port.call(Event::DirSet { dir, listing }) {
+        Ok(reply) => {
+            drop(reply);
+            Ok(kept(purse, units))
+        }
+        Err(halt) => Err(halt),
+    }
+}
+
+/// Gives a search what it wants.
+fn give_want<P: Port>(port: &mut P, purse: &mut Purse, want: LookWant) -> Result<Step, Halt>
+    requires ready { (P.view port.old).ready }
+    requires may { MayGive (shown (P.view port.old).number (P.view port.old).mine) want }
+    ensures stays { Stays (P.view port.old) (P.view port.new) }
+    ensures given { IfOk result (Given (P.view port.old).number (P.view port.old).mine
+        (P.view port.new).mine purse.old purse.new want) }
+    ensures holds { OnOk result (Keeps (P.view port.old) (P.view port.new)) }
+    ensures part { OnErr result (GiveParted (P.view port.old).mine (P.view port.new).mine purse.old want) }
+    ensures refused { IsErrOf result Halt.Refused → GiveRefused (P.view port.new)
+        (P.view port.old).mine purse.old want }
+{
+    match want {
+        LookWant::Pay { tree } => Ok(pay_unit(purse, tree)),
+        LookWant::DirGet { dir, part } => ask(port, purse, dir, part),
+        LookWant::DirSet { dir, listing } => keep(port, purse, dir, listing),
+        LookWant::Done(found) => Ok(Step::Over(Sought::Found(found))),
+    }
+}
+
+/// A call of the tree failed: the script stands where it paid for it.
+fn unread(purse: &Purse) -> Result<Step, Halt>
+    ensures taken { IfOk result (λ it. (files : Option Files) (faults faults' number : ℕ)
+        (mine : List (Event × Reply)) (before : Search) (go : LookIn → Search) → Rose faults faults'
+        → Taken files faults faults' number mine mine purse.now purse.now before go it) }
+    ensures fits { IfOk result (λ it. (kind : Await) → Fits kind it) }
+    ensures refused { IsErrOf result Halt.Refused → ⊥ }
+{
+    match purse.read {
+        Some(left) => Ok(Step::Over(Sought::Unread(left))),
+        None => Err(Halt::NoMemory),
+    }
+}
+
+/// The next step of a search, and what it wants.
+fn take_step<P: Port, T: Tree>(
+    port: &mut P,
+    tree: &mut T,
+    purse: &mut Purse,
+    look: &mut Look,
+    input: LookIn,
+) -> Result<Step, Halt>
+    requires ready { (P.view port.old).ready }
+    requires safe { IsSafe (shown (P.view port.old).number (P.view port.old).mine) (means look.old input) }
+    requires fits { awaits look.old.stage ≡ input_kind input }
+    requires suits { ForSome (T.files tree.old) (λ f. Suits look.old.stage f) }
+    ensures stays { Stays (P.view port.old) (P.view port.new) }
+    ensures taken { IfOk result (Taken (T.files tree.old) (T.faults tree.old) (T.faults tree.new)
+        (P.view port.old).number (P.view port.old).mine (P.view port.new).mine purse.old purse.new
+        (means look.old input) (means look.new)) }
+    ensures fits { IfOk result (Fits (awaits look.new.stage)) }
+    ensures suits { OnOk result (ForSome (T.files tree.old) (λ f. Suits look.new.stage f)) }
+    ensures kept { OnOk result (AllKept (T.lists tree.old) (T.lists tree.new) (P.view port.old).mine
+        (P.view port.new).mine) }
+    ensures holds { OnOk result (Keeps (P.view port.old) (P.view port.new)) }
+    ensures part { OnErr result (SearchParted (T.files tree.old) (P.view port.old).mine
+        (P.view port.new).mine purse.old (means look.old input)) }
+    ensures refused { IsErrOf result Halt.Refused → SearchRefused (P.view port.new) (T.files tree.old)
+        (P.view port.old).mine purse.old (means look.old input) }
+    ensures asked { Asked (T.files tree.old) (T.files tree.new) (T.faults tree.old) (T.faults tree.new) }
+{
+    match look.next(tree, input) {
+        Ok(want) => give_want(port, purse, want),
+        Err(TreeFault::Failed) => unread(purse),
+        Err(TreeFault::NoMemory) => Err(Halt::NoMemory),
+    }
+}
+
+/// Searches to the end. A count of the steps that would pass the end of its type is want of memory.
+fn search<P: Port, T: Tree>(
+    port: &mut P,
+    tree: &mut T,
+    purse: &mut Purse,
+    look: &mut Look,
+) -> Result<Sought, Halt>
+    requires ready { (P.view port.old).ready }
+    requires safe { IsSafe (shown (P.view port.old).number (P.view port.old).mine) (means look.old given.Start) }
+    requires fresh { look.old.stage ≡ stages.Fresh }
+    ensures stays { Stays (P.view port.old) (P.view port.new) }
+    ensures searched { IfOk result (Searched (T.files tree.old) (T.faults tree.old) (T.faults tree.new)
+        (P.view port.old).mine (P.view port.new).mine purse.old purse.new (means look.old given.Start)) }
+    ensures kept { OnOk result (AllKept (T.lists tree.old) (T.lists tree.new) (P.view port.old).mine
+        (P.view port.new).mine) }
+    ensures holds { OnOk result (Keeps (P.view port.old) (P.view port.new)) }
+    ensures part { OnErr result (SearchParted (T.files tree.old) (P.view port.old).mine
+        (P.view port.new).mine purse.old (means look.old given.Start)) }
+    ensures refused { IsErrOf result Halt.Refused → SearchRefused (P.view port.new) (T.files tree.old)
+        (P.view port.old).mine purse.old (means look.old given.Start) }
+    ensures asked { Asked (T.files tree.old) (T.files tree.new) (T.faults tree.old) (T.faults tree.new) }
+{
+    let mut input = LookIn::Start;
+    let mut steps: u64 = 0;
+    'steps: loop {
+        if steps == u64::MAX {
+            return Err(Halt::NoMemory);
+        }
+        steps += 1;
+        let step = match take_step(port, tree, purse, look, input) {
+            Ok(step) => step,
+            Err(halt) => return Err(halt),
+        };
+        match step {
+            Step::On(next) => input = next,
+            Step::Over(sought) => return Ok(sought),
+        }
+    }
+}
+
+/// Searches for a name on a path.
+pub fn seek<P: Port, T: Tree>(
+    port: &mut P,
+    tree: &mut T,
+    purse: &mut Purse,
+    name: Dotted,
+    path: Items,
+) -> Result<Sought, Halt>
+    requires ready { (P.view port.old).ready }
+    requires safe { IsSafe (shown (P.view port.old).number (P.view port.old).mine) (searches name path []) }
+    ensures stays { Stays (P.view port.old) (P.view port.new) }
+    ensures searched { IfOk result (Searched (T.files tree.old) (T.faults tree.old) (T.faults tree.new)
+        (P.view port.old).mine (P.view port.new).mine purse.old purse.new (searches name path [])) }
+    ensures kept { OnOk result (AllKept (T.lists tree.old) (T.lists tree.new) (P.view port.old).mine
+        (P.view port.new).mine) }
+    ensures holds { OnOk result (Keeps (P.view port.old) (P.view port.new)) }
+    ensures part { OnErr result (SearchParted (T.files tree.old) (P.view port.old).mine
+        (P.view port.new).mine purse.old (searches name path [])) }
+    ensures refused { IsErrOf result Halt.Refused → SearchRefused (P.view port.new) (T.files tree.old)
+        (P.view port.old).mine purse.old (searches name path []) }
+    ensures asked { Asked (T.files tree.old) (T.files tree.new) (T.faults tree.old) (T.faults tree.new) }
+{
+    let Ok(mut look) = Look::start(name, path) else {
+        return Err(Halt::NoMemory);
+    };
+    let sought = search(port, tree, purse, &mut look);
+    drop(look);
+    sought
+}

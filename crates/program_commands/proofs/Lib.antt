@@ -1,0 +1,5 @@
+mod Naming
+mod Opening
+mod Made
+pub mod FolderOpening
+pub mod Lines

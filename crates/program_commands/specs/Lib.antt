@@ -1,0 +1,9 @@
+pub mod Modules
+pub mod Opening
+pub mod Refusals
+pub mod Converting
+pub mod Making
+pub mod Bundling
+pub mod FolderOpening
+pub mod Telling
+pub mod Reporting

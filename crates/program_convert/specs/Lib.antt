@@ -1,3 +1,0 @@
-pub mod Opening
-pub mod Refusals
-pub mod Converting

@@ -1,6 +1,0 @@
-use Rattle.std.proofs.Common.{◌≡◌, take}
-use Rattle.program_module.specs.Modules.{no_texts}
-use Rattle.program_module.proofs.programs.no_texts.Given as goal
-
-abbrev pub invariant-loop-name : goal.invariant-loop-name
-invariant-loop-name l = l.texts ≡ no_texts (take l.name-index l.names)

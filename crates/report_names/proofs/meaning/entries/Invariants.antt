@@ -1,6 +1,0 @@
-use Rattle.std.proofs.Common.{◌≡◌, take}
-use Rattle.report_names.specs.Meanings.{entries}
-use Rattle.report_names.proofs.meaning.entries.Given as goal
-
-abbrev pub invariant-loop-entry : goal.invariant-loop-entry
-invariant-loop-entry l = l.items ≡ entries (take l.entry-index l.entry-items)

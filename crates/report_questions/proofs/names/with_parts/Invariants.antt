@@ -1,0 +1,6 @@
+use Rattle.std.proofs.Common.{◌≡◌, ◌∷◌, drop}
+use Rattle.report_questions.specs.Statements.{dotted_name}
+use Rattle.report_questions.proofs.names.with_parts.Given as goal
+
+abbrev pub invariant-loop-part : goal.invariant-loop-part
+invariant-loop-part l = dotted_name (l.front ∷ l.parts) ≡ dotted_name (l.name ∷ drop l.part-index l.parts)

@@ -1,3 +1,0 @@
-pub mod Statements
-pub mod Lines
-pub mod Sources

@@ -1,6 +1,0 @@
-use Rattle.std.proofs.Common.{◌≡◌, take}
-use Rattle.source_lexemes.specs.Words.{lexemes_of}
-use Rattle.source_lexemes.proofs.mapping.lexemes.Given as goal
-
-abbrev pub invariant-loop-token : goal.invariant-loop-token
-invariant-loop-token l = l.found ≡ lexemes_of (take l.token-index l.tokens)

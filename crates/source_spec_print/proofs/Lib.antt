@@ -1,9 +1,0 @@
-pub mod Places
-pub mod Expressions
-pub mod Simple
-pub mod Functions
-pub mod Statements
-pub mod LaidRows
-pub mod LaidExpressions
-pub mod LaidSimple
-pub mod LaidStatements

@@ -1,6 +1,0 @@
-use Rattle.source_spec_print.specs.Lines.{Passes}
-use Rattle.source_spec_print.proofs.LaidStatements.{script_laid}
-use Rattle.source_spec_print.proofs.printed_is_laid.Goals as goal
-
-pub returns : goal.returns
-returns c p room ts s h held = script_laid (Passes p) room ts s h held

@@ -1,5 +1,0 @@
-use Rattle.source_spec_print.proofs.Statements.{script_printed}
-use Rattle.source_spec_print.proofs.printed_is_spelled.Goals as goal
-
-pub returns : goal.returns
-returns c room ts s h = script_printed room ts s h

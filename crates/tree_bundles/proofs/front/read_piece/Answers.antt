@@ -1,7 +1,0 @@
-use Rattle.std.proofs.Common.{refl}
-use Rattle.tree_bundles.proofs.Fronts.{piece}
-use Rattle.tree_bundles.proofs.front.read_piece.Goals as goal
-
-pub returns-clause-told : goal.returns-clause-told
-returns-clause-told g c =
-    piece (g.T.Tree.files c.args.tree.now) c.args.file.now c.args.front.now _ _ c.read.new.into _ c.args.done c.in_ok-count.count c.requires.within c.in_ok-count.ensures.told refl

@@ -1,5 +1,0 @@
-use Rattle.tree_bundles.proofs.Expanding.{node_at-inside}
-use Rattle.tree_bundles.proofs.laws.a_bundle_is_a_folder.Goals as goal
-
-pub returns : goal.returns
-returns c = λ f t path rest files is. node_at-inside f t path rest files is
