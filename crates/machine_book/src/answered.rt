@@ -1,4 +1,4 @@
-//! What is written down of an event.
+//! What an event changes.
 ghost use Rattle.std.specs.Prelude.{◌≡◌, IfOk, OnOk, OnErr, IsTrue};
 ghost use Rattle.machine_events.specs.Fitting.{Fits};
 ghost use Rattle.machine_spec.specs.Allowed.{allowed};
@@ -7,7 +7,7 @@ ghost use Rattle.machine_book.specs.Reads.{OnlyReads};
 
 use base_types::{Exact, NoMemory};
 use import_machine::Machine;
-use machine_events::{Entry, Event, Reply};
+use machine_events::{Event, Reply};
 
 /// Whether an event of this kind only reads. Not counted are kinds that read in some states alone, as Ask, which may
 /// wait.
@@ -27,41 +27,25 @@ fn only_reads(event: &Event) -> bool
     }
 }
 
-/// Makes an event of a thread, which is allowed, and gives the entry about it, and its reply once more. Of an event that
-/// only reads the reply is all that is worked out. An `Err` changes nothing.
+/// The change that an event of a thread makes, which is allowed and whose answer is known, and the answer once more. Of an
+/// event that only reads nothing is worked out again. An `Err` changes nothing.
 pub(crate) fn answered(
     machine: &mut Machine,
     thread: u32,
-    event: Event,
-) -> Result<(Entry, Reply), NoMemory>
-    requires { IsTrue (allowed machine.old thread event) }
-    ensures entry { IfOk result (λ it. it.0 ≡ record { thread = thread; event = event; reply = it.1 }) }
-    ensures reply { IfOk result (λ it. it.1 ≡ (step machine.old thread event).0) }
-    ensures fits { IfOk result (λ it. Fits event it.1) }
-    ensures ok { OnOk result (machine.new ≡ (step machine.old thread event).1) }
+    event: &Event,
+    answer: &Reply,
+) -> Result<Reply, NoMemory>
+    requires may { IsTrue (allowed machine.old thread event.now) }
+    requires answer { answer.now ≡ (step machine.old thread event.now).0 }
+    ensures reply { IfOk result (λ it. it ≡ answer.now) }
+    ensures fits { IfOk result (λ it. Fits event.now it) }
+    ensures ok { OnOk result (machine.new ≡ (step machine.old thread event.now).1) }
     ensures err { OnErr result (machine.new ≡ machine.old) }
 {
     machine.is_sound();
-    let answer = machine.reply(thread, &event)?;
-    if only_reads(&event) {
+    if only_reads(event) {
         let reply = answer.copy()?;
-        return Ok((
-            Entry {
-                thread,
-                event,
-                reply: answer,
-            },
-            reply,
-        ));
+        return Ok(reply);
     }
-    let written = event.copy()?;
-    let reply = machine.step(thread, event)?;
-    Ok((
-        Entry {
-            thread,
-            event: written,
-            reply: answer,
-        },
-        reply,
-    ))
+    machine.step(thread, event.copy()?)
 }

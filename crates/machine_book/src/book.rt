@@ -93,8 +93,33 @@ impl<O: Outlet> Book<O> {
         ensures legal { IfOk result (λ reply. IsLegal self.new.opening self.new.history) }
         ensures err { OnErr result (self.new ≡ self.old) }
     {
-        self.history.reserve(1)?;
-        let (entry, reply) = answered(&mut self.machine, thread, event)?;
+        match self.history.reserve(1) {
+            Ok(()) => {}
+            Err(no_room) => {
+                drop(event);
+                return Err(no_room.into());
+            }
+        }
+        let answer = match self.machine.reply(thread, &event) {
+            Ok(answer) => answer,
+            Err(no_memory) => {
+                drop(event);
+                return Err(no_memory);
+            }
+        };
+        let reply = match answered(&mut self.machine, thread, &event, &answer) {
+            Ok(reply) => reply,
+            Err(no_memory) => {
+                drop(event);
+                drop(answer);
+                return Err(no_memory);
+            }
+        };
+        let entry = Entry {
+            thread,
+            event,
+            reply: answer,
+        };
         self.outlet.put(&entry);
         self.history.push_reserved(entry);
         Ok(reply)

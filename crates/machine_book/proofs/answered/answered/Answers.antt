@@ -3,4 +3,4 @@ use Rattle.machine_book.proofs.answered.answered.Goals as goal
 
 pub returns-then-only_reads-clause-fits : goal.returns-then-only_reads-clause-fits
 returns-then-only_reads-clause-fits c =
-    rw (c.in_ok-reply.ensures, c.in_ok-answer.ensures) (fits_step c.args.machine.now c.is_sound.ensures c.args.thread c.args.event c.requires)
+    rw (c.in_ok-reply.ensures, c.requires.answer) (fits_step c.args.machine.now c.is_sound.ensures c.args.thread c.args.event.now c.requires.may)

@@ -6,15 +6,15 @@ use Rattle.machine_book.proofs.book.Book.step.Goals as goal
 pub invariant_of-self-2 : goal.invariant_of-self-2
 invariant_of-self-2 g c =
     let b = c.self.inside in
-    let kept = book_snoc (opened b.opening) b.machine c.answered.new.machine b.history.items c.reserve.new.self.items c.push_reserved.new.self.items (record { thread = c.args.thread; event = c.args.event; reply = c.in_ok-entry.reply }) (c.self.invariant.0, c.self.invariant.1)
+    let kept = book_snoc (opened b.opening) b.machine c.answered.new.machine b.history.items c.reserve.new.self.items c.push_reserved.new.self.items (record { thread = c.args.thread; event = c.args.event; reply = c.in-Ok-reply.answer }) (c.self.invariant.0, c.self.invariant.1)
     (rw (← c.self.view_is) at c.requires)
-    c.in_ok-entry.ensures.reply c.in_ok-entry.ensures.ok c.in_ok-reserve.ensures.items (rw c.in_ok-entry.ensures.entry at c.push_reserved.ensures.items)
+    c.in-Ok-reply.ensures c.in-Ok-answered.ensures.ok c.in-Ok.ensures.items c.push_reserved.ensures.items
     in
     (kept.0, kept.1, c.self.invariant.2)
 
 pub returns-clause-legal : goal.returns-clause-legal
 returns-clause-legal g c =
     let b = c.self.inside in
-    (book_snoc (opened b.opening) b.machine c.answered.new.machine b.history.items c.reserve.new.self.items c.push_reserved.new.self.items (record { thread = c.args.thread; event = c.args.event; reply = c.in_ok-entry.reply }) (c.self.invariant.0, c.self.invariant.1)
+    (book_snoc (opened b.opening) b.machine c.answered.new.machine b.history.items c.reserve.new.self.items c.push_reserved.new.self.items (record { thread = c.args.thread; event = c.args.event; reply = c.in-Ok-reply.answer }) (c.self.invariant.0, c.self.invariant.1)
     (rw (← c.self.view_is) at c.requires)
-    c.in_ok-entry.ensures.reply c.in_ok-entry.ensures.ok c.in_ok-reserve.ensures.items (rw c.in_ok-entry.ensures.entry at c.push_reserved.ensures.items)).1
+    c.in-Ok-reply.ensures c.in-Ok-answered.ensures.ok c.in-Ok.ensures.items c.push_reserved.ensures.items).1
