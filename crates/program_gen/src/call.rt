@@ -2,7 +2,7 @@
 ghost use Rattle.std.specs.Prelude.{◌≡◌, ◌≤◌, None, IfSome, IfNone};
 ghost use Rattle.program_run.specs.Runs.{finished};
 ghost use Rattle.program_run.specs.Sinks.{at};
-ghost use Rattle.program_run.specs.Statuses.{tree_fault, want_of_memory};
+ghost use Rattle.program_run.specs.Statuses.{tree_fault};
 ghost use Rattle.program_gen.specs.MadeRuns.{QuietGives, MadeGives, sinks, Summed, workload_of};
 
 use crate::MadeTree;
@@ -10,20 +10,11 @@ use crate::no_out::NoOut;
 use crate::ready::{Ready, make_ready};
 use crate::summing::sum_up;
 use drive_round::Gate;
-use program_run::{Left, Scripts, WANT_OF_MEMORY, run_scripts};
+use program_run::{Left, Scripts, run_scripts, unbegun};
 use std::alloc::Global;
 use std::sync::Wait;
 use std::thread::Threads;
 use tree_files::Sink;
-
-fn unbegun() -> Left
-    ensures { result ≡ record { status = want_of_memory; history = None } }
-{
-    Left {
-        status: WANT_OF_MEMORY,
-        history: None,
-    }
-}
 
 /// Runs the scripts of a made workload, what they print going nowhere.
 fn run_quiet<S: Scripts + Send, R: Threads + Wait + Sync, K: Sink, G: Gate + Sync>(
