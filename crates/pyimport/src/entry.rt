@@ -8,6 +8,7 @@ use crate::{OpenGate, Report, pyimport};
 use base_types::{NoMemory, Text};
 use std::env;
 use std::io::ErrorKind;
+use std::mem::forget;
 use std::process::ExitCode;
 use std::sync::Wait;
 use std::thread::Threads;
@@ -49,12 +50,23 @@ fn report<R: Threads + Wait + Sync>(rt: HostRuntime, threads: &R) -> Option<Repo
     ))
 }
 
-/// How the program ends: with the status of its report, and with 6 where it has none.
+/// How the program ends: with the status of its report, and with 6 where it has none. The process ends here, so the
+/// memory of the history is left to the system, which takes it back as a whole.
 fn exit_of(report: Option<Report>) -> ExitCode
     ensures { exit_status result ≡ status_of report }
 {
     match report {
-        Some(report) => ExitCode::from(report.status),
+        Some(
+            Report {
+                status,
+                plan,
+                history,
+            },
+        ) => {
+            drop(plan);
+            forget(history);
+            ExitCode::from(status)
+        }
         None => ExitCode::from(6),
     }
 }
