@@ -100,7 +100,7 @@ valued c e g n sum v is more comes w next =
     record {
       payments = 1 ∷ h.payments;
       all = omega (arith, h.all, more);
-      same = ap (λ (r : Run). pay 1 r) (h.same ∙ ap (λ (g : Given). paying h.payments (given_does w c.thread.left g next c.thread.state)) is);
+      same = ap (λ (r : Run). pay 1 r) (h.same ∙ ap (λ (g : Given). paying h.payments (given_does w c.thread.left e g next c.thread.state)) is);
     }
 
 -- the size of a value is paid

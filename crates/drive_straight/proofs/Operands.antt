@@ -158,12 +158,12 @@ operated c e none h empty =
 -- ---- what came to its price
 
 pub expression_came : (c c' : Course) (e : Expr) (p : Priced) (purse : Purse) → Affords c.purse purse p.units → Comes e c.thread p → c' ≡ record { purse = purse; held = c.held; thread = c.thread; work = c.work }
-    → Reaches c.purse (remains c (want.Then (it.Eval e))) c'.purse (comes p.given c')
+    → Reaches c.purse (remains c (want.Then (it.Eval e))) c'.purse (comes e p.given c')
 expression_came c c' e p purse affords priced is files whole fuel mine a =
     rw is (affords files whole fuel mine _ _ (priced sources (rest sources c.work)) a)
 
 pub operator_came : (c c' : Course) (e : Expr) (vs : List Value) (v : Value) (p : Priced) (purse : Purse) → Affords c.purse purse p.units → Resumes e vs v c.thread p
-    → c' ≡ record { purse = purse; held = c.held; thread = c.thread; work = c.work } → Reaches c.purse (goes_on (frame.Operands (Expression e) vs) (Went v) c) c'.purse (comes p.given c')
+    → c' ≡ record { purse = purse; held = c.held; thread = c.thread; work = c.work } → Reaches c.purse (goes_on (frame.Operands (Expression e) vs) (Went v) c) c'.purse (comes e p.given c')
 operator_came c c' e vs v p purse affords priced is files whole fuel mine a =
     rw is (affords files whole fuel mine _ _ (priced sources (rest sources c.work)) a)
 
@@ -179,8 +179,9 @@ pub put_back : (c : Course) (f : Frame) (frames work : List Frame) (v : Value) �
 put_back c f frames work v is back = ap (λ (fs : List Frame). rest sources fs c.thread.left (Went v) c.thread.state) (is ∙ sym back)
 
 -- what an expression waits for, before the frame that was pushed
-pub operand_given : (c c' : Course) (g : Given) (e : Expr) (f : Frame) → g ≡ given.Waits e f → c' ≡ record { purse = c.purse; held = c.held; thread = c.thread; work = f ∷ c.work } → comes g c ≡ remains c' (want.Then (it.Eval e))
-operand_given c c' g e f same is = rw (same, is) refl
+pub operand_given : (c c' : Course) (e : Expr) (g : Given) (operand : Expr) (vs : List Value) → g ≡ given.Waits operand vs
+    → c' ≡ record { purse = c.purse; held = c.held; thread = c.thread; work = frame.Operands (Expression e) vs ∷ c.work } → comes e g c ≡ remains c' (want.Then (it.Eval operand))
+operand_given c c' e g operand vs same is = rw (same, is) refl
 
 -- ---- tests
 

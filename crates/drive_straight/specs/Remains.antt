@@ -1,5 +1,5 @@
 -- What remains of a script, and what is done of it in place.
-use Rattle.std.specs.Prelude.{◌≡◌, ℕ, ◌+◌, List, [], Option, Some, None, Bool, true, false, not, Result, IfOk, slice_get}
+use Rattle.std.specs.Prelude.{◌≡◌, ℕ, ◌+◌, List, [], Option, Some, None, Bool, true, false, not, Result, IfOk, IfSome, slice_get}
 use Rattle.base_types.specs.declared.no_memory.NoMemory.{NoMemory}
 use Rattle.tree_files.specs.Files.{Files}
 use Rattle.py_value.specs.declared.value.Value.{Value}
@@ -28,8 +28,10 @@ use Rattle.drive_account.specs.At.{At}
 use Rattle.drive_account.specs.Holds.{held_in}
 use Rattle.drive_account.specs.declared.purse.Purse.{Purse}
 use Rattle.step_straight.specs.Costs.{Costs}
-use Rattle.step_straight.specs.Comes.{given_does}
+use Rattle.step_straight.specs.Comes.{Comes, given_does}
 use Rattle.step_straight.specs.declared.given.Given.{Given}
+use Rattle.drive_straight.specs.declared.blocks.Operand.{Operand}
+use Rattle.drive_straight.specs.declared.blocks.Operand.TheVariants as operand
 use Rattle.drive_straight.specs.declared.coming.Use.{Use}
 use Rattle.drive_straight.specs.declared.coming.Use.TheVariants as uses
 use Rattle.drive_straight.specs.declared.course.Course.{Course}
@@ -82,10 +84,11 @@ due (next.Branches bs otherwise) c = begins (it.Branches bs 0 otherwise) c
 due (next.Begun stmts at) c = begins (it.Begun stmts at) c
 due (next.Piece item) c = begins item c
 due (next.Frame waiting) c = goes_on waiting.0 waiting.1 c
+due (next.Wanted want) c = remains c want
 
--- what an expression came to, and then the work that waits
-abbrev pub comes : Given → Due
-comes given c = given_does sources c.thread.left given (rest sources c.work) c.thread.state
+-- what the expression came to, and then the work that waits
+abbrev pub comes : Expr → Given → Due
+comes e given c = given_does sources c.thread.left e given (rest sources c.work) c.thread.state
 
 -- whatever script stood at what was due stands at what comes next
 abbrev pub LeadsTo : Course → Due → Course → Next → Type 0
@@ -106,6 +109,11 @@ abbrev pub IsValueOf : Expr → Course → Value → ℕ → Type 0
 IsValueOf e c v units = (w : World) (next : Rest)
     → Costs units (pay 1 (want_does w c.thread.left (want.Then (it.Eval e)) next c.thread.state))
     (next c.thread.left (Went v) c.thread.state)
+
+-- what the expression of a statement comes to at once
+abbrev pub IsOperand : Expr → Course → Operand → Type 0
+IsOperand e c (operand.Value v units) = IsValueOf e c v units
+IsOperand e c (operand.Other found) = IfSome found (λ priced. Comes e c.thread priced)
 
 -- an assignment of the expression to the name stands at the place
 pub record Assigns (stmts : List Stmt) (at : ℕ) (x : List ℕ) (e : Expr) : Type 0 where

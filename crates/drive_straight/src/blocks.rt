@@ -3,7 +3,7 @@ ghost use Rattle.std.specs.Prelude.{◌≡◌, ◌<◌, IfOk, IfSome, Some, leng
 ghost use Rattle.std.specs.Option.{option_copied};
 ghost use Rattle.py_syntax.specs.declared.stmt.Stmt.{out-Stmt};
 ghost use Rattle.py_frames.specs.declared.work.Item.TheVariants as items;
-ghost use Rattle.drive_straight.specs.Remains.{Assigns, Did, IsValueOf, Leads, Returns, begins};
+ghost use Rattle.drive_straight.specs.Remains.{Assigns, Did, IsOperand, Leads, Returns, begins};
 ghost use Rattle.drive_straight.specs.Remains.{first_operand, operand_at, returned_at, returned_of};
 
 use crate::choices::begin_other;
@@ -21,23 +21,31 @@ use std::alloc::Global;
 use step_simple::{is_local_name, set_local};
 use step_straight::{Given, Priced, at_once};
 
-/// The value of an expression, and the units of the statement that has it: its own and those of the expression. None
-/// where it has none at once.
+/// What the expression of a statement comes to at once.
+#[derive(Drop)]
+pub enum Operand {
+    /// Its value, and the units of the statement: its own and those of the expression.
+    Value(Value, u64),
+    /// What else it comes to, if it comes to anything, with the units of the expression alone.
+    Other(Option<Priced>),
+}
+
+/// What the expression of a statement comes to at once.
 pub fn value_in_statement(
     alloc: Global,
     course: &Course,
     expr: &Shared<Expr>,
-) -> Result<Option<(Value, u64)>, NoMemory>
-    ensures { IfOk result (λ found. IfSome found (λ p. IsValueOf expr.now course.now p.0 p.1)) }
+) -> Result<Operand, NoMemory>
+    ensures { IfOk result (λ operand. IsOperand expr.now course.now operand) }
 {
     match at_once(alloc, &course.thread, expr)? {
-        None => Ok(None),
+        None => Ok(Operand::Other(None)),
         Some(Priced { given, units }) => match given {
             Given::Value(value) => match units.checked_add(1) {
-                None => Ok(None),
-                Some(units) => Ok(Some((value, units))),
+                None => Ok(Operand::Other(None)),
+                Some(units) => Ok(Operand::Value(value, units)),
             },
-            Given::Raised(_) | Given::Waits(_, _) => Ok(None),
+            given => Ok(Operand::Other(Some(Priced { given, units }))),
         },
     }
 }
@@ -59,8 +67,8 @@ fn assign(
         return Ok(false);
     }
     match value_in_statement(alloc, course, value)? {
-        None => Ok(false),
-        Some((value, units)) => {
+        Operand::Other(_) => Ok(false),
+        Operand::Value(value, units) => {
             let name = name.copy()?;
             if !afford(&mut course.purse, units) {
                 return Ok(false);
@@ -185,8 +193,8 @@ fn returned(
     match returned_at(stmts, at) {
         None => Ok(None),
         Some(expr) => match value_in_statement(alloc, course, expr)? {
-            None => Ok(None),
-            Some((value, units)) => Ok(Some((value, units))),
+            Operand::Other(_) => Ok(None),
+            Operand::Value(value, units) => Ok(Some((value, units))),
         },
     }
 }

@@ -120,15 +120,21 @@ pub fn give(alloc: Global, course: &mut Course, value: Value) -> Result<Next, No
 }
 
 /// What an expression came to comes to what waits for it.
-pub fn come(alloc: Global, course: &mut Course, given: Given) -> Result<Next, NoMemory>
-    ensures moves { Leads course.old (comes given) course.new result }
+pub fn come(
+    alloc: Global,
+    course: &mut Course,
+    expr: Shared<Expr>,
+    given: Given,
+) -> Result<Next, NoMemory>
+    ensures moves { Leads course.old (comes expr given) course.new result }
     ensures held { course.new.held ≡ course.old.held }
 {
     match given {
         Given::Value(value) => give(alloc, course, value),
         Given::Raised(error) => Ok(Next::Left(Leave::Raised(error))),
-        Given::Waits(operand, frame) => {
-            course.work.push(frame)?;
+        Given::Waits(operand, done) => {
+            let form = Form::Expression(expr);
+            course.work.push(Frame::Operands { form, done })?;
             reach(alloc, course, operand)
         }
     }

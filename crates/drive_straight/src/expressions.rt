@@ -1,7 +1,8 @@
 //! Expressions.
-ghost use Rattle.std.specs.Prelude.{◌≡◌};
+ghost use Rattle.std.specs.Prelude.{◌≡◌, IfSome};
 ghost use Rattle.py_syntax.specs.declared.expr.Expr.{out-Expr};
 ghost use Rattle.py_frames.specs.declared.work.Item.TheVariants as items;
+ghost use Rattle.step_straight.specs.Comes.{Comes};
 ghost use Rattle.drive_straight.specs.Remains.{Leads, begins, is_attribute, is_operated};
 
 use crate::coming::come;
@@ -50,18 +51,33 @@ fn begin(alloc: Global, course: &mut Course, expr: Shared<Expr>) -> Result<Next,
     ask(alloc, course, expr)
 }
 
-/// An expression, at once if it can be.
-pub fn evaluate(alloc: Global, course: &mut Course, expr: Shared<Expr>) -> Result<Next, NoMemory>
+/// An expression, of which it was found what it comes to at once, if it comes to anything.
+pub fn take(
+    alloc: Global,
+    course: &mut Course,
+    expr: Shared<Expr>,
+    found: Option<Priced>,
+) -> Result<Next, NoMemory>
+    requires found { IfSome found (λ priced. Comes expr course.old.thread priced) }
     ensures moves { Leads course.old (begins (items.Eval expr)) course.new result }
     ensures held { course.new.held ≡ course.old.held }
 {
-    match at_once(alloc, &course.thread, &expr)? {
+    match found {
         None => begin(alloc, course, expr),
         Some(Priced { given, units }) => {
             if !afford(&mut course.purse, units) {
                 return Ok(Next::Piece(Boxed::new(alloc, Item::Eval(expr))?));
             }
-            come(alloc, course, given)
+            come(alloc, course, expr, given)
         }
     }
+}
+
+/// An expression, at once if it can be.
+pub fn evaluate(alloc: Global, course: &mut Course, expr: Shared<Expr>) -> Result<Next, NoMemory>
+    ensures moves { Leads course.old (begins (items.Eval expr)) course.new result }
+    ensures held { course.new.held ≡ course.old.held }
+{
+    let found = at_once(alloc, &course.thread, &expr)?;
+    take(alloc, course, expr, found)
 }

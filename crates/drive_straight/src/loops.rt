@@ -1,11 +1,12 @@
 //! Turns of a loop (Language Reference 8.2).
-ghost use Rattle.std.specs.Prelude.{◌≡◌, ◌<◌};
+ghost use Rattle.std.specs.Prelude.{◌≡◌, ◌<◌, IfSome};
 ghost use Rattle.py_frames.specs.declared.work.Item.TheVariants as items;
+ghost use Rattle.step_straight.specs.Comes.{Comes};
 ghost use Rattle.drive_straight.specs.Remains.{Leads, begins};
 
-use crate::blocks::{block, value_in_statement};
+use crate::blocks::{Operand, block, value_in_statement};
 use crate::course::Course;
-use crate::expressions::evaluate;
+use crate::expressions::take;
 use crate::next::Next;
 use crate::paying::afford;
 use base_owners::{Boxed, Shared};
@@ -14,16 +15,20 @@ use py_frames::{Frame, Item, is_listed};
 use py_syntax::{Expr, Stmt};
 use py_value::{Value, truth};
 use std::alloc::Global;
+use step_straight::Priced;
 
-/// A turn whose test has no value at once: its unit is paid, and then the test comes.
+/// A turn whose test has no value at once: its unit is paid, and then the test comes, of which it was found what it comes
+/// to at once, if it comes to anything.
 fn begin_test(
     alloc: Global,
     course: &mut Course,
     test: Shared<Expr>,
     body: Shared<Seq<Stmt>>,
     turns: u64,
+    found: Option<Priced>,
 ) -> Result<Next, NoMemory>
     requires some { 0 < turns }
+    requires found { IfSome found (λ priced. Comes test course.old.thread priced) }
     ensures moves { Leads course.old (begins (items.Turn test body turns)) course.new result }
     ensures held { course.new.held ≡ course.old.held }
 {
@@ -33,7 +38,7 @@ fn begin_test(
     let expr = test.share()?;
     let turns = turns - 1;
     course.work.push(Frame::Decide { test, body, turns })?;
-    evaluate(alloc, course, expr)
+    take(alloc, course, expr, found)
 }
 
 /// A turn of a loop that can take so many: its test, and then its block, at once if they can be.
@@ -51,8 +56,8 @@ pub fn turn(
         return Ok(Next::Piece(Boxed::new(alloc, Item::Turn { test, body, turns })?));
     }
     match value_in_statement(alloc, course, &test)? {
-        None => begin_test(alloc, course, test, body, turns),
-        Some((value, units)) => {
+        Operand::Other(found) => begin_test(alloc, course, test, body, turns, found),
+        Operand::Value(value, units) => {
             if is_listed(&value) {
                 return Ok(Next::Piece(Boxed::new(alloc, Item::Turn { test, body, turns })?));
             }

@@ -2,7 +2,7 @@
 use base_owners::{Boxed, Shared};
 use base_types::{Seq, Text};
 use meaning_state::{Flow, Leave};
-use py_frames::{Frame, Item};
+use py_frames::{Frame, Item, Want};
 use py_syntax::{Branch, Expr, Stmt};
 use py_value::Value;
 
@@ -45,4 +45,6 @@ pub enum Next {
     Piece(Boxed<Item>),
     /// A frame and the way on that comes to it, piece by piece.
     Frame(Boxed<(Frame, Flow)>),
+    /// What a piece of work wants.
+    Wanted(Boxed<Want>),
 }

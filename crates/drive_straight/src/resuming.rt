@@ -101,7 +101,7 @@ fn resume_expression(
                     (Frame::Operands { form, done }, Flow::Went(value)),
                 )?));
             }
-            come(alloc, course, given)
+            come(alloc, course, expr, given)
         }
     }
 }

@@ -1,51 +1,59 @@
 -- Turns that see neither a port nor a tree, one after another.
-use Rattle.std.proofs.Common.{◌≡◌, ℕ, List, ◌∷◌, Option, Result, Ok, IfOk, refl, subst, sym}
+use Rattle.std.proofs.Common.{◌≡◌, ℕ, List, ◌∷◌, Bool, true, false, not, Option, Result, Ok, IfOk, refl, subst, sym}
+use Rattle.std.proofs.lemmas.Bool.{false≢true}
 use Rattle.std.proofs.lemmas.Result.{IfOk-weaker}
 use Rattle.base_types.specs.declared.no_memory.NoMemory.{NoMemory}
 use Rattle.tree_files.specs.Files.{Files}
 use Rattle.machine_events.specs.declared.event.Event.{Event}
 use Rattle.machine_events.specs.declared.event.Reply.{Reply}
+use Rattle.machine_events.specs.declared.event.Reply.TheVariants as kinds
+use Rattle.machine_shown.specs.Shown.{is_namespace_path}
+use Rattle.py_value.specs.declared.value.Value.{Value}
 use Rattle.meaning_runs.specs.Runs.{Run}
 use Rattle.meaning_runs.specs.Costs.{after_reply}
 use Rattle.meaning_state.specs.declared.flow.Flow.{Flow}
+use Rattle.meaning_state.specs.declared.flow.Flow.TheVariants.{Went}
 use Rattle.meaning_state.specs.declared.thread.State.{State}
 use Rattle.meaning_state.specs.declared.thread.Thread.{Thread}
 use Rattle.step_calls.specs.Sources.{sources}
 use Rattle.py_frames.specs.Does.{DoesIn, rest, replies, frame_does, reply_does}
 use Rattle.py_frames.specs.declared.replies.OnReply.{OnReply}
+use Rattle.py_frames.specs.declared.replies.OnReply.TheVariants as on
 use Rattle.py_frames.specs.declared.want.Want.{Want}
 use Rattle.py_frames.specs.declared.want.Want.TheVariants as want
 use Rattle.py_frames.specs.declared.work.Frame.{Frame}
 use Rattle.py_frames.specs.declared.work.Item.{Item}
 use Rattle.drive_account.specs.At.{At}
-use Rattle.drive_straight.specs.Remains.{Due, Moves, begins, goes_on}
-use Rattle.py_run.specs.Turns.{Stepped, Wants, remains}
+use Rattle.drive_account.specs.declared.port.Halt.{Halt}
+use Rattle.drive_straight.specs.Remains.{Due, Leads, Moves, begins, due, goes_on}
+use Rattle.drive_straight.specs.declared.next.Next.{Next}
+use Rattle.py_run.specs.Turns.{Stepped, Wants, remains, replied_at}
 use Rattle.drive_straight.specs.declared.course.Course.{Course}
 use Rattle.py_run.specs.declared.course.Turn.{Turn}
 use Rattle.py_run.specs.declared.course.Turn.TheVariants as turn
 use Rattle.drive_account.specs.declared.purse.Purse.{Purse}
 
 -- the same of what a step wants next
-abbrev pub Leads : Purse → Run → Course → Result Want NoMemory → Type 0
-Leads purse run c r = IfOk r (λ next. Moves purse run c next)
+abbrev pub LeadsOn : Purse → Run → Course → Result Want NoMemory → Type 0
+LeadsOn purse run c r = IfOk r (λ next. Moves purse run c next)
 
 pub wanted : (purse : Purse) (run : Run) (c : Course) (w w' : Want) → w ≡ w' → Moves purse run c w → Moves purse run c w'
 wanted purse run c w w' is moves = subst (λ (w : Want). Moves purse run c w) is moves
 
-pub over_course : (purse : Purse) (run : Run) (r : Result Want NoMemory) (c c' : Course) → c ≡ c' → Leads purse run c' r → Leads purse run c r
-over_course purse run r c c' is leads = subst (λ (c : Course). Leads purse run c r) (sym is) leads
+pub over_course : (purse : Purse) (run : Run) (r : Result Want NoMemory) (c c' : Course) → c ≡ c' → LeadsOn purse run c' r → LeadsOn purse run c r
+over_course purse run r c c' is leads = subst (λ (c : Course). LeadsOn purse run c r) (sym is) leads
 
 -- a step, behind a payment or none
 pub leads : (purse : Purse) (run : Run) (c c' : Course) (w : Want) (next : Run) (r r' : Result Want NoMemory) → Moves purse run c w → r ≡ r'
     → ((files : Option Files) (whole : Run) (fuel : ℕ) (mine : List (Event × Reply)) → At files whole fuel mine c.purse (remains c w) → At files whole fuel mine c'.purse next)
-    → IfOk r' (λ w'. remains c' w' ≡ next) → Leads purse run c' r
+    → IfOk r' (λ w'. remains c' w' ≡ next) → LeadsOn purse run c' r
 leads purse run c c' w next r r' moves is pays means =
     rw is (IfOk-weaker r' _ _ (λ w' m. λ files whole fuel mine a. rw m (pays files whole fuel mine (moves files whole fuel mine a))) means)
 
 -- what was due is done as far as it can be
 pub leads_by : (purse : Purse) (run : Run) (c mid after : Course) (w : Want) (was : Due) (r r' : Result Want NoMemory) → Moves purse run c w
     → ((files : Option Files) (whole : Run) (fuel : ℕ) (mine : List (Event × Reply)) → At files whole fuel mine c.purse (remains c w) → At files whole fuel mine mid.purse (was mid))
-    → r ≡ r' → Wants mid was after r' → Leads purse run after r
+    → r ≡ r' → Wants mid was after r' → LeadsOn purse run after r
 leads_by purse run c mid after w was r r' moves due is wants =
     rw is (IfOk-weaker r' _ _ (λ w' on. λ files whole fuel mine a. on files whole fuel mine (due files whole fuel mine (moves files whole fuel mine a))) wants)
 
@@ -60,22 +68,20 @@ pub leads_replied : (purse : Purse) (run : Run) (c c' : Course) (paid : Purse) (
     → Moves purse run c (want.Replied on reply)
     → ((files : Option Files) (whole : Run) (fuel : ℕ) (mine : List (Event × Reply)) (next : Run) → At files whole fuel mine c.purse (after_reply reply next) → At files whole fuel mine paid next)
     → c' ≡ record { purse = paid; held = c.held; thread = thread; work = c.work } → r ≡ r'
-    → IfOk r' (DoesIn sources thread (replies on reply c.thread sources)) → Leads purse run c' r
+    → IfOk r' (DoesIn sources thread (replies on reply c.thread sources)) → LeadsOn purse run c' r
 leads_replied purse run c c' paid on reply thread r r' moves pays is same does =
     let after : Course = record { purse = paid; held = c.held; thread = thread; work = c.work } in
     let next : Run = reply_does sources c.thread.left on (rest sources c.work) c.thread.state reply in
     over_course purse run r c' after is (leads purse run c after (want.Replied on reply) next r r' moves same (λ files whole fuel mine a. pays files whole fuel mine next a)
     (IfOk-weaker r' (DoesIn sources thread (replies on reply c.thread sources)) (λ w. remains after w ≡ next) (λ w d. d.does (rest sources c.work)) does))
 
--- the same, where it leads to what is wanted
-pub replied_on : (old after : Course) (paid : Purse) (on : OnReply) (reply : Reply) (thread : Thread) (r : Result Want NoMemory) (w : Want)
-    → ((files : Option Files) (whole : Run) (fuel : ℕ) (mine : List (Event × Reply)) (next : Run) → At files whole fuel mine old.purse (after_reply reply next) → At files whole fuel mine paid next)
-    → after ≡ record { purse = paid; held = old.held; thread = thread; work = old.work } → r ≡ Ok w
-    → IfOk r (DoesIn sources thread (replies on reply old.thread sources)) → Moves old.purse (remains old (want.Replied on reply)) after w
-replied_on old after paid on reply thread r w pays is came does =
-    let run : Run = remains old (want.Replied on reply) in
-    subst (λ (r : Result Want NoMemory). Leads old.purse run after r) came
-    (leads_replied old.purse run old after paid on reply thread r r (λ files whole fuel mine a. a) pays is refl does)
+-- the same of one whose cost is paid, where it leads to what is wanted
+pub replied_on : (old after : Course) (on : OnReply) (reply : Reply) (thread : Thread) (r : Result Want NoMemory) (w : Want)
+    → after ≡ record { purse = old.purse; held = old.held; thread = thread; work = old.work } → r ≡ Ok w
+    → IfOk r (DoesIn sources thread (replies on reply old.thread sources)) → Moves old.purse (replied_at on reply old) after w
+replied_on old after on reply thread r w is came does files whole fuel mine a =
+    let done : DoesIn sources thread (replies on reply old.thread sources) w = subst (λ (r : Result Want NoMemory). IfOk r (DoesIn sources thread (replies on reply old.thread sources))) came does in
+    rw is (subst (λ (run : Run). At files whole fuel mine old.purse run) (sym (done.does (rest sources old.work))) a)
 
 -- a frame that was put first waits for the item
 pub begins_pushed : (c : Course) (frames : List Frame) (item : Item) (frame : Frame) → frames ≡ frame ∷ c.work
@@ -90,9 +96,42 @@ comes_to purse run c c' w t moves step files faults mine = record {
   counts = (step files faults mine).counts;
 }
 
--- what is wanted is handed on
-pub hands_on : (purse : Purse) (run : Run) (c : Course) (w : Want) → Moves purse run c w → Stepped purse c run (turn.On w)
-hands_on purse run c w moves files faults mine = record {
+-- what comes next is handed on
+pub hands_next : (purse : Purse) (run : Run) (c : Course) (next : Next)
+    → ((files : Option Files) (whole : Run) (fuel : ℕ) (mine : List (Event × Reply)) → At files whole fuel mine purse run → At files whole fuel mine c.purse (due next c)) → Stepped purse c run (turn.On next)
+hands_next purse run c next moves files faults mine = record {
   moves = λ whole fuel a. moves files whole fuel mine a;
   counts = refl;
 }
+
+-- what is wanted comes next
+pub handed : (old c : Course) (was : Due) (w : Want) (r : Result Next NoMemory) → Moves old.purse (was old) c w → IfOk r (λ next. (c : Course) → due next c ≡ remains c w) → Leads old was c r
+handed old c was w r moves = IfOk-weaker r _ _ (λ next is files whole fuel mine a. subst (λ (run : Run). At files whole fuel mine c.purse run) (sym (is c)) (moves files whole fuel mine a))
+
+-- what is wanted is handed on
+pub hands_on : (purse : Purse) (run : Run) (c : Course) (w : Want) (r : Result Turn Halt) → Moves purse run c w → IfOk r (λ t. (c : Course) → Stepped c.purse c (remains c w) t) → IfOk r (Stepped purse c run)
+hands_on purse run c w r moves = IfOk-weaker r _ _ (λ t step. comes_to purse run c c w t moves (step c))
+
+-- the same turn from a run in other words
+pub stepped_as : (purse : Purse) (after : Course) (t : Turn) (run run' : Run) → run ≡ run' → Stepped purse after run' t → Stepped purse after run t
+stepped_as purse after t run run' is step = subst (λ (run : Run). Stepped purse after run t) (sym is) step
+
+-- the turn behind a payment for the reply
+pub followed : (old new : Course) (paid : Purse) (on on' : OnReply) (reply reply' : Reply) (r : Result Turn Halt) → on ≡ on' → reply ≡ reply'
+    → ((files : Option Files) (whole : Run) (fuel : ℕ) (mine : List (Event × Reply)) (next : Run) → At files whole fuel mine old.purse (after_reply reply next) → At files whole fuel mine paid next)
+    → IfOk r (Stepped paid new (replied_at on' reply' old)) → IfOk r (Stepped old.purse new (remains old (want.Replied on reply)))
+followed old new paid on on' reply reply' r is same pays = IfOk-weaker r _ _ (λ t step files faults mine. record {
+  moves = λ whole fuel a.
+      (step files faults mine).moves whole fuel
+      (subst (λ (o : OnReply). At files whole fuel mine paid (replied_at o reply' old)) is
+      (subst (λ (p : Reply). At files whole fuel mine paid (replied_at on p old)) same (pays files whole fuel mine (replied_at on reply old) a)));
+  counts = (step files faults mine).counts;
+})
+
+-- a variable of the module has a value that is no path of a namespace
+pub global_came : (c : Course) (x : List ℕ) (v : Value) → is_namespace_path v ≡ false → replied_at (on.Global x) (kinds.Value v) c ≡ remains c (want.Go (Went v))
+global_came c x v plain = rw plain refl
+
+pub negated : (b : Bool) → not b ≡ true → b ≡ false
+negated true h = absurd (false≢true h)
+negated false h = refl

@@ -45,3 +45,8 @@ pub made_stands : {A B : Type 0} (r : Result A B) (mine mine' : List (Event × R
     → OnErr r ((files : Option Files) → Parted files mine mine' purse run)
 made_stands (Ok a) mine mine' purse mid run on reply was = tt
 made_stands (Err e) mine mine' purse mid run on reply was = λ files whole fuel a. in_some ((was files 0).moves whole fuel a).stands
+
+pub stands_behind : {A B : Type 0} (r : Result A B) (mine mine' : List (Event × Reply)) (purse : Purse) (event : Event) (reply : Reply) (next : Reply → Run) → mine' ≡ mine ++ (event, reply) ∷ []
+    → OnErr r ((files : Option Files) → Parted files mine mine' purse (Makes event next))
+stands_behind (Ok a) mine mine' purse event reply next is = tt
+stands_behind (Err e) mine mine' purse event reply next is = λ files whole fuel a. in_made mine mine' purse event reply next is a

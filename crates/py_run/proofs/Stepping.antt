@@ -9,20 +9,12 @@ use Rattle.meaning_state.specs.declared.thread.State.{State}
 use Rattle.meaning_script.specs.Meaning.{ends}
 use Rattle.step_calls.specs.Sources.{sources}
 use Rattle.py_frames.specs.Does.{rest}
-use Rattle.py_frames.specs.declared.want.Want.{Want}
 use Rattle.py_frames.specs.declared.want.Want.TheVariants as want
 use Rattle.drive_account.specs.At.{At, IsShort}
 use Rattle.py_run.specs.Turns.{Stepped, remains}
 use Rattle.drive_straight.specs.declared.course.Course.{Course}
 use Rattle.py_run.specs.declared.course.Turn.TheVariants as turn
 use Rattle.drive_account.specs.declared.purse.Purse.{Purse}
-
--- a step leads on, where what it wants means what was to be done
-pub stepped : (purse : Purse) (after : Course) (run : Run) (w : Want) → after.purse ≡ purse → remains after w ≡ run → Stepped purse after run (turn.On w)
-stepped purse after run w same is files faults mine = record {
-  moves = λ whole fuel a. rw (same, is) a;
-  counts = refl;
-}
 
 -- a payment could not be made
 pub stepped_out : (purse : Purse) (after : Course) (run : Run)

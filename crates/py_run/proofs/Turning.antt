@@ -1,5 +1,5 @@
 -- From where a script stands to where it stands after a turn.
-use Rattle.std.proofs.Common.{◌≡◌, ℕ, List, [], Option, None, Result, IfOk, sym, ◌∙◌, subst, false}
+use Rattle.std.proofs.Common.{◌≡◌, ℕ, List, [], Option, None, Result, IfOk, OnErr, refl, ap, sym, ◌∙◌, subst, true, false}
 use Rattle.std.proofs.lemmas.Result.{IfOk-weaker}
 use Rattle.tree_files.specs.Files.{Files}
 use Rattle.machine_events.specs.declared.event.Event.{Event}
@@ -10,10 +10,19 @@ use Rattle.meaning_runs.proofs.Stand.{stands_start, safe_stands, in_some}
 use Rattle.drive_account.specs.View.{View, Stays}
 use Rattle.drive_account.specs.declared.port.Halt.{Halt}
 use Rattle.py_frames.specs.declared.want.Want.{Want}
+use Rattle.py_frames.specs.declared.want.Want.TheVariants as want
+use Rattle.py_frames.specs.declared.replies.OnReply.TheVariants as on
+use Rattle.py_value.specs.declared.value.Value.{Value}
+use Rattle.meaning_script.specs.Names.{is_local_name}
+use Rattle.machine_events.specs.declared.event.Event.TheVariants as e
+use Rattle.drive_account.specs.declared.held.Held.{Held}
 use Rattle.drive_account.specs.Ending.{Holds}
 use Rattle.drive_account.specs.At.{At}
 use Rattle.drive_account.specs.Asking.{Refused, RefusedAt, Parted}
-use Rattle.py_run.specs.Turns.{After, Counts, Turned, Stepped, Stood, remains}
+use Rattle.drive_straight.specs.Remains.{due}
+use Rattle.drive_straight.specs.declared.next.Next.{Next}
+use Rattle.drive_straight.specs.declared.next.Next.TheVariants as nexts
+use Rattle.py_run.specs.Turns.{After, Counts, Made, Turned, Stepped, Stood, remains}
 use Rattle.py_run.specs.Overs.{Begun, Fresh}
 use Rattle.py_run.specs.Starts.{StartsAs}
 use Rattle.drive_straight.specs.declared.course.Course.{Course}
@@ -35,29 +44,29 @@ pub holds_first : {S : Type 0} (v : View S) (script fuel : ℕ) (c : Course) →
 holds_first v script fuel c none fresh = rw none fresh.held
 
 -- the next turn may be done
-pub stood : {S : Type 0} (first v : View S) (files : Option Files) (script fuel : ℕ) (whole : Run) (c : Course) (w : Want)
-    → Begun first script → Stays first v → Holds v c.held → At files whole fuel v.mine c.purse (remains c w) → Safe (shown_first script) whole → Stood v c.held (remains c w)
-stood first v files script fuel whole c w begun stays holds at safe = record {
+pub stood : {S : Type 0} (first v : View S) (files : Option Files) (script fuel : ℕ) (whole : Run) (c : Course) (next : Next)
+    → Begun first script → Stays first v → Holds v c.held → At files whole fuel v.mine c.purse (due next c) → Safe (shown_first script) whole → Stood v c.held (due next c)
+stood first v files script fuel whole c next begun stays holds at safe = record {
   ready = stays.ready begun.ready;
   holds = holds;
   safe = rw (stays.number ∙ begun.number) (safe_stands script at.stands safe);
 }
 
 -- over a tree whose files are as they were
-pub after_turn : (files files' : Option Files) (whole : Run) (fuel faults faults' : ℕ) (mine mine' : List (Event × Reply)) (c c' : Course) (w : Want) (t : Turn)
-    → files' ≡ files → At files whole fuel mine c.purse (remains c w) → Turned files' faults faults' mine mine' c.purse c' (remains c w) t → After files whole fuel mine' c' t
-after_turn files files' whole fuel faults faults' mine mine' c c' w t same at turned =
-    subst (λ (o : Option Files). After o whole fuel mine' c' t) same (turned.moves whole fuel (subst (λ (o : Option Files). At o whole fuel mine c.purse (remains c w)) (sym same) at))
+pub after_turn : (files files' : Option Files) (whole : Run) (fuel faults faults' : ℕ) (mine mine' : List (Event × Reply)) (c c' : Course) (next : Next) (t : Turn)
+    → files' ≡ files → At files whole fuel mine c.purse (due next c) → Turned files' faults faults' mine mine' c.purse c' (due next c) t → After files whole fuel mine' c' t
+after_turn files files' whole fuel faults faults' mine mine' c c' next t same at turned =
+    subst (λ (o : Option Files). After o whole fuel mine' c' t) same (turned.moves whole fuel (subst (λ (o : Option Files). At o whole fuel mine c.purse (due next c)) (sym same) at))
 
-pub parted : (files files' : Option Files) (whole : Run) (fuel : ℕ) (mine mine' : List (Event × Reply)) (c : Course) (w : Want)
-    → files' ≡ files → At files whole fuel mine c.purse (remains c w) → Parted files' mine mine' c.purse (remains c w) → StandsIn files whole fuel mine'
-parted files files' whole fuel mine mine' c w same at part =
-    subst (λ (o : Option Files). StandsIn o whole fuel mine') same (part whole fuel (subst (λ (o : Option Files). At o whole fuel mine c.purse (remains c w)) (sym same) at))
+pub parted : (files files' : Option Files) (whole : Run) (fuel : ℕ) (mine mine' : List (Event × Reply)) (c : Course) (next : Next)
+    → files' ≡ files → At files whole fuel mine c.purse (due next c) → Parted files' mine mine' c.purse (due next c) → StandsIn files whole fuel mine'
+parted files files' whole fuel mine mine' c next same at part =
+    subst (λ (o : Option Files). StandsIn o whole fuel mine') same (part whole fuel (subst (λ (o : Option Files). At o whole fuel mine c.purse (due next c)) (sym same) at))
 
-pub refused_at : {S : Type 0} (v : View S) (files files' : Option Files) (whole : Run) (fuel : ℕ) (mine : List (Event × Reply)) (c : Course) (w : Want)
-    → files' ≡ files → At files whole fuel mine c.purse (remains c w) → Refused v files' mine c.purse (remains c w) → RefusedAt v files whole fuel
-refused_at v files files' whole fuel mine c w same at refused =
-    subst (λ (o : Option Files). RefusedAt v o whole fuel) same (refused whole fuel (subst (λ (o : Option Files). At o whole fuel mine c.purse (remains c w)) (sym same) at))
+pub refused_at : {S : Type 0} (v : View S) (files files' : Option Files) (whole : Run) (fuel : ℕ) (mine : List (Event × Reply)) (c : Course) (next : Next)
+    → files' ≡ files → At files whole fuel mine c.purse (due next c) → Refused v files' mine c.purse (due next c) → RefusedAt v files whole fuel
+refused_at v files files' whole fuel mine c next same at refused =
+    subst (λ (o : Option Files). RefusedAt v o whole fuel) same (refused whole fuel (subst (λ (o : Option Files). At o whole fuel mine c.purse (due next c)) (sym same) at))
 
 -- a turn over a count that is as it was
 pub counts_same : {faults faults' : ℕ} → faults' ≡ faults → (t : Turn) → Counts faults faults t → Counts faults faults' t
@@ -79,3 +88,35 @@ at_want {files = files} {whole} {fuel} {mine} c w w' is a = subst (λ (w : Want)
 -- where nothing was done, a script stands somewhere
 pub parted_here : {files : Option Files} {mine : List (Event × Reply)} (purse : Purse) (run : Run) → Parted files mine mine purse run
 parted_here purse run whole fuel a = in_some a.stands
+
+-- what comes next is known
+pub due_as : (c : Course) (next next' : Next) → next ≡ next' → due next c ≡ due next' c
+due_as c next next' is = ap (λ (n : Next). due n c) is
+
+pub due_wanted : (c : Course) (next : Next) (w w' : Want) → next ≡ nexts.Wanted w → w' ≡ w → due next c ≡ remains c w'
+due_wanted c next w w' is same = due_as c next (nexts.Wanted w) is ∙ ap (λ (w : Want). remains c w) (sym same)
+
+-- the event by which a variable of the module is read, and by which it is bound
+pub reads_by : (c : Course) (x y : List ℕ) → y ≡ x → due (nexts.ReadGlobal x) c ≡ remains c (want.Call (e.GetVar c.thread.state.scope.mid y true) (on.Global x))
+reads_by c x y same = rw same refl
+
+pub binds_by : (c : Course) (x : List ℕ) (v : Value) → is_local_name c.thread.state x ≡ false → due (nexts.Store x v) c ≡ remains c (want.Call (e.SetVar c.thread.state.scope.mid x v true) on.Stored)
+binds_by c x v plain = rw plain refl
+
+-- what is made, or told of what was not, is of the run in other words
+pub made_as : (mine mine' : List (Event × Reply)) (purse : Purse) (new : Course) (run run' : Run) (r : Result Turn Halt) → run ≡ run' → IfOk r (Made mine mine' purse new run') → IfOk r (Made mine mine' purse new run)
+made_as mine mine' purse new run run' r is = subst (λ (run : Run). IfOk r (Made mine mine' purse new run)) (sym is)
+
+pub parts_as : (r : Result Turn Halt) (mine mine' : List (Event × Reply)) (purse : Purse) (run run' : Run) → run ≡ run'
+    → OnErr r ((files : Option Files) → Parted files mine mine' purse run') → OnErr r ((files : Option Files) → Parted files mine mine' purse run)
+parts_as r mine mine' purse run run' is = subst (λ (run : Run). OnErr r ((files : Option Files) → Parted files mine mine' purse run)) (sym is)
+
+pub stood_as : {S : Type 0} (v : View S) (held : Held) (run run' : Run) → run ≡ run' → Stood v held run → Stood v held run'
+stood_as v held run run' is = subst (λ (run : Run). Stood v held run) is
+
+pub turned_if : (files : Option Files) (faults faults' : ℕ) (mine mine' : List (Event × Reply)) (purse : Purse) (c' : Course) (run run' : Run) (r : Result Turn Halt) → run ≡ run'
+    → IfOk r (Turned files faults faults' mine mine' purse c' run') → IfOk r (Turned files faults faults' mine mine' purse c' run)
+turned_if files faults faults' mine mine' purse c' run run' r is = subst (λ (run : Run). IfOk r (Turned files faults faults' mine mine' purse c' run)) (sym is)
+
+pub parted_as : {A : Type 0} (r : Result A Halt) (files : Option Files) (mine mine' : List (Event × Reply)) (purse : Purse) (run run' : Run) → run ≡ run' → OnErr r (Parted files mine mine' purse run') → OnErr r (Parted files mine mine' purse run)
+parted_as r files mine mine' purse run run' is = subst (λ (run : Run). OnErr r (Parted files mine mine' purse run)) (sym is)

@@ -7,14 +7,18 @@ use Rattle.tree_files.specs.declared.tree.Stamp.{Stamp}
 use Rattle.tree_files.specs.declared.tree.Stamp.TheVariants as stamps
 use Rattle.machine_events.specs.declared.event.Event.{Event}
 use Rattle.machine_events.specs.declared.event.Reply.{Reply}
+use Rattle.machine_events.specs.declared.event.Reply.TheVariants as replies
 use Rattle.machine_shown.specs.Shown.{shown}
 use Rattle.meaning_runs.specs.Runs.{Run, Over, Ended, IsUnread, Safe}
 use Rattle.drive_account.specs.View.{View}
 use Rattle.drive_account.specs.declared.held.Held.{Held}
 use Rattle.meaning_state.specs.declared.flow.Flow.{Flow}
+use Rattle.meaning_state.specs.declared.flow.Flow.TheVariants.{Went}
+use Rattle.py_value.specs.declared.value.Value.{Value}
+use Rattle.py_value.specs.declared.value.Value.TheVariants as values
 use Rattle.meaning_script.specs.Meaning.{outcome_of}
 use Rattle.step_calls.specs.Sources.{sources}
-use Rattle.py_frames.specs.Does.{rest, fed}
+use Rattle.py_frames.specs.Does.{rest, fed, reply_does}
 use Rattle.py_frames.specs.declared.want.Want.{Want}
 use Rattle.py_frames.specs.declared.want.Want.TheVariants as want
 use Rattle.py_frames.specs.declared.replies.OnReply.{OnReply}
@@ -23,15 +27,29 @@ use Rattle.find_load.specs.declared.words.In.{In}
 use Rattle.drive_account.specs.Ending.{Holds}
 use Rattle.drive_account.specs.At.{At, IsShort}
 use Rattle.drive_straight.specs.declared.course.Course.{Course}
+use Rattle.drive_straight.specs.declared.next.Next.TheVariants as nexts
 use Rattle.py_run.specs.declared.course.Turn.{Turn}
 use Rattle.py_run.specs.declared.course.Turn.TheVariants as turn
 use Rattle.drive_account.specs.declared.purse.Purse.{Purse}
 pub use Rattle.drive_straight.specs.Remains.{remains}
-use Rattle.drive_straight.specs.Remains.{Due, Moves}
+use Rattle.drive_straight.specs.Remains.{Due, Moves, due}
 
 -- what remains where a procedure is fed
 abbrev pub feeds : Course → Procedure → In → Run
 feeds c p input = fed sources c.thread.left p input c.thread.state (rest sources c.work c.thread.left)
+
+-- what comes of a reply whose cost is paid
+abbrev pub replied_at : OnReply → Reply → Due
+replied_at on reply c = reply_does sources c.thread.left on (rest sources c.work) c.thread.state reply
+
+-- the value that a reply brings, where it brings one
+abbrev pub brought : Reply → Value
+brought (replies.Value v) = v
+brought reply = values.Nothing
+
+-- such a reply brings its value, and nothing else is to be done
+abbrev pub IsPlain : OnReply → Reply → Type 0
+IsPlain on reply = (c : Course) → replied_at on reply c ≡ remains c (want.Go (Went (brought reply)))
 
 -- where no work is left
 abbrev pub ended : Flow → Run
@@ -39,7 +57,7 @@ ended flow = Over (Ended (outcome_of flow))
 
 -- where a turn leads
 abbrev pub After : Option Files → Run → ℕ → List (Event × Reply) → Course → Turn → Type 0
-After files whole fuel mine c (turn.On want) = At files whole fuel mine c.purse (remains c want)
+After files whole fuel mine c (turn.On next) = At files whole fuel mine c.purse (due next c)
 After files whole fuel mine c (turn.Came flow) = At files whole fuel mine c.purse (ended flow)
 After files whole fuel mine c turn.Out = IsShort files whole fuel mine c.purse.budget c.purse.of_tree
 After files whole fuel mine c (turn.Unread left) = IsUnread files whole fuel mine left
@@ -75,7 +93,7 @@ Made mine mine' purse after run t = (files : Option Files) (faults : ℕ) → Tu
 
 -- where an event leads to which this reply came, or none since its unit was not there
 abbrev pub made : OnReply → Option Reply → Turn
-made on (Some reply) = turn.On (want.Replied on reply)
+made on (Some reply) = turn.On (nexts.Wanted (want.Replied on reply))
 made on None = turn.Out
 
 -- a turn may be done: it is the script's turn, what is held is known, and its events show all that it asks for

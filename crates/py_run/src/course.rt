@@ -1,11 +1,12 @@
 //! Where a turn leads.
+use drive_straight::Next;
 use meaning_state::Flow;
-use py_frames::Want;
 
 /// Where a turn leads.
 #[derive(Drop)]
 pub enum Turn {
-    On(Want),
+    /// To what comes next.
+    On(Next),
     /// No work is left.
     Came(Flow),
     /// To the end, since a payment could not be made.

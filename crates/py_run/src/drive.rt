@@ -11,6 +11,7 @@ ghost use Rattle.py_run.specs.Starts.{started};
 use crate::course::Turn;
 use crate::start::{Start, first_want};
 use crate::turn::give;
+use crate::working::hand_on;
 use drive_account::{Halt, Port};
 use drive_straight::Course;
 use meaning_state::Flow;
@@ -56,23 +57,27 @@ pub fn run<P: Port, T: Tree>(
     ensures kept { OnOk result (AllKept (T.lists tree.old) (T.lists tree.new) (P.view port.old).mine
         (P.view port.new).mine) }
 {
-    let mut want = match first_want(alloc, script, start) {
+    let first = match first_want(alloc, script, start) {
         Ok(want) => want,
+        Err(_) => return Err(Halt::NoMemory),
+    };
+    let mut next = match hand_on(alloc, first) {
+        Ok(next) => next,
         Err(_) => return Err(Halt::NoMemory),
     };
     let mut turns: u64 = 0;
     'turns: loop {
         if turns == u64::MAX {
-            drop(want);
+            drop(next);
             return Err(Halt::NoMemory);
         }
         turns += 1;
-        let turn = match give(alloc, port, tree, course, want) {
+        let turn = match give(alloc, port, tree, course, next) {
             Ok(turn) => turn,
             Err(halt) => return Err(halt),
         };
         match turn {
-            Turn::On(next) => want = next,
+            Turn::On(after) => next = after,
             Turn::Came(flow) => return Ok(Over::Came(flow)),
             Turn::Out => {
                 return Ok(Over::Out {

@@ -1,19 +1,24 @@
 //! Turns that make an event.
-ghost use Rattle.std.specs.Prelude.{◌≤◌, IfOk, OnOk, OnErr, IsErrOf, Option};
+ghost use Rattle.std.specs.Prelude.{◌≡◌, ◌≤◌, IfOk, OnOk, OnErr, IsErrOf, Option, false};
+ghost use Rattle.meaning_script.specs.Names.{is_local_name};
 ghost use Rattle.tree_files.specs.Files.{Files};
 ghost use Rattle.meaning_runs.specs.Lists.{lists_in};
 ghost use Rattle.py_frames.specs.declared.want.Want.TheVariants as wants;
 ghost use Rattle.drive_account.specs.View.{View, Stays};
 ghost use Rattle.drive_account.specs.Ending.{Holds};
 ghost use Rattle.drive_account.specs.Asking.{Parted, Refused};
+ghost use Rattle.drive_straight.specs.Remains.{due};
+ghost use Rattle.drive_straight.specs.declared.next.Next.TheVariants as nexts;
 ghost use Rattle.py_run.specs.Turns.{Stood, Made, made, remains};
 
 use crate::course::Turn;
-use crate::working::follow;
+use crate::working::{follow, turn_on};
+use base_types::{Exact, Text};
 use drive_account::{Halt, Port, change_of};
 use drive_straight::Course;
 use machine_events::{Event, Reply};
 use py_frames::{Item, OnReply, Want};
+use py_value::Value;
 use std::alloc::Global;
 
 /// An event is made, for a unit, and its reply comes. None where the unit is not there.
@@ -96,8 +101,74 @@ pub fn call<P: Port>(
     }
 }
 
+/// A variable of the module is read.
+pub fn read<P: Port>(
+    alloc: Global,
+    port: &mut P,
+    course: &mut Course,
+    name: Text,
+) -> Result<Turn, Halt>
+    requires stood { Stood (P.view port.old) course.old.held (due (nexts.ReadGlobal name) course.old) }
+    ensures stays { Stays (P.view port.old) (P.view port.new) }
+    ensures turned { IfOk result (Made (P.view port.old).mine (P.view port.new).mine course.old.purse course.new
+        (due (nexts.ReadGlobal name) course.old)) }
+    ensures grows { OnOk result (lists_in (P.view port.old).mine ≤ lists_in (P.view port.new).mine) }
+    ensures holds { OnOk result (Holds (P.view port.new) course.new.held) }
+    ensures part { OnErr result ((files : Option Files) → Parted files (P.view port.old).mine
+        (P.view port.new).mine course.old.purse (due (nexts.ReadGlobal name) course.old)) }
+    ensures refused { IsErrOf result Halt.Refused → (files : Option Files)
+        → Refused (P.view port.new) files (P.view port.old).mine course.old.purse
+        (due (nexts.ReadGlobal name) course.old) }
+{
+    let copied = match name.copy() {
+        Ok(copied) => copied,
+        Err(_) => return Err(Halt::NoMemory),
+    };
+    let event = Event::GetVar {
+        mid: course.thread.state.scope.mid,
+        name: copied,
+        raw: true,
+    };
+    call(alloc, port, course, event, OnReply::Global(name))
+}
+
+/// A variable of the module is bound to a value.
+pub fn bind<P: Port>(
+    alloc: Global,
+    port: &mut P,
+    course: &mut Course,
+    name: Text,
+    value: Value,
+) -> Result<Turn, Halt>
+    requires global { is_local_name course.old.thread.state name ≡ false }
+    requires stood { Stood (P.view port.old) course.old.held (due (nexts.Store name value) course.old) }
+    ensures stays { Stays (P.view port.old) (P.view port.new) }
+    ensures turned { IfOk result (Made (P.view port.old).mine (P.view port.new).mine course.old.purse course.new
+        (due (nexts.Store name value) course.old)) }
+    ensures grows { OnOk result (lists_in (P.view port.old).mine ≤ lists_in (P.view port.new).mine) }
+    ensures holds { OnOk result (Holds (P.view port.new) course.new.held) }
+    ensures part { OnErr result ((files : Option Files) → Parted files (P.view port.old).mine
+        (P.view port.new).mine course.old.purse (due (nexts.Store name value) course.old)) }
+    ensures refused { IsErrOf result Halt.Refused → (files : Option Files)
+        → Refused (P.view port.new) files (P.view port.old).mine course.old.purse
+        (due (nexts.Store name value) course.old) }
+{
+    let event = Event::SetVar {
+        mid: course.thread.state.scope.mid,
+        name,
+        value,
+        raw: true,
+    };
+    call(alloc, port, course, event, OnReply::Stored)
+}
+
 /// The script waits for a lock.
-pub fn wait<P: Port>(port: &mut P, course: &mut Course, item: Item) -> Result<Turn, Halt>
+pub fn wait<P: Port>(
+    alloc: Global,
+    port: &mut P,
+    course: &mut Course,
+    item: Item,
+) -> Result<Turn, Halt>
     requires stood { Stood (P.view port.old) course.old.held (remains course.old (wants.Wait item)) }
     ensures stays { Stays (P.view port.old) (P.view port.new) }
     ensures turned { IfOk result (Made (P.view port.old).mine (P.view port.new).mine course.old.purse course.new
@@ -114,7 +185,7 @@ pub fn wait<P: Port>(port: &mut P, course: &mut Course, item: Item) -> Result<Tu
     match port.wait() {
         Ok(reply) => {
             drop(reply);
-            Ok(Turn::On(Want::Then(item)))
+            turn_on(alloc, Want::Then(item))
         }
         Err(halt) => {
             drop(item);

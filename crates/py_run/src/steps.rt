@@ -7,6 +7,7 @@ ghost use Rattle.py_frames.specs.Does.{rest, frame_does};
 ghost use Rattle.py_run.specs.Turns.{Stepped, feeds};
 
 use crate::course::Turn;
+use crate::working::turn_on;
 use drive_account::Halt;
 use drive_straight::Course;
 use find_load::In;
@@ -39,7 +40,7 @@ pub fn feed(
     ensures refused { IsErrOf result Halt.Refused → ⊥ }
 {
     match fed(alloc, procedure, input, &mut course.thread) {
-        Ok(want) => Ok(Turn::On(want)),
+        Ok(want) => turn_on(alloc, want),
         Err(_) => Err(Halt::NoMemory),
     }
 }

@@ -1,23 +1,25 @@
 //! One turn: what is wanted is given.
-ghost use Rattle.std.specs.Prelude.{IfOk, OnOk, OnErr, IsErrOf};
+ghost use Rattle.std.specs.Prelude.{◌≡◌, IfOk, OnOk, OnErr, IsErrOf};
 ghost use Rattle.drive_account.specs.View.{View, Stays};
 ghost use Rattle.drive_account.specs.Ending.{Holds};
 ghost use Rattle.drive_account.specs.Asking.{Parted, Refused, Asked, AllKept};
-ghost use Rattle.py_run.specs.Turns.{Stood, Turned, remains};
+ghost use Rattle.drive_straight.specs.Remains.{due};
+ghost use Rattle.py_run.specs.Turns.{Stepped, Stood, Turned, remains};
 
 use crate::course::Turn;
 use crate::find::find;
 use crate::looks::file;
-use crate::makes::{call, wait};
-use crate::working::work_on;
+use crate::makes::{bind, call, read, wait};
+use crate::working::{next_piece, work_on};
 use drive_account::{Halt, Port};
-use drive_straight::Course;
+use drive_straight::{Course, Next};
 use py_frames::Want;
 use std::alloc::Global;
+use step_simple::is_local_name;
 use tree_files::Tree;
 
 /// Gives what is wanted.
-pub fn give<P: Port, T: Tree>(
+fn give_wanted<P: Port, T: Tree>(
     alloc: Global,
     port: &mut P,
     tree: &mut T,
@@ -39,7 +41,7 @@ pub fn give<P: Port, T: Tree>(
 {
     match want {
         Want::Call(event, on) => call(alloc, port, course, event, on),
-        Want::Wait(item) => wait(port, course, item),
+        Want::Wait(item) => wait(alloc, port, course, item),
         Want::Find {
             name,
             path,
@@ -47,5 +49,51 @@ pub fn give<P: Port, T: Tree>(
         } => find(alloc, port, tree, course, name, path, procedure),
         Want::File(path, procedure) => file(alloc, tree, course, &path, procedure),
         other => work_on(alloc, course, other),
+    }
+}
+
+/// What comes next, piece by piece, for as long as that needs neither a port nor a tree.
+fn piece(alloc: Global, course: &mut Course, next: Next) -> Result<Turn, Halt>
+    ensures turned { IfOk result (Stepped course.old.purse course.new (due next course.old)) }
+    ensures held { course.new.held ≡ course.old.held }
+    ensures refused { IsErrOf result Halt.Refused → ⊥ }
+{
+    match next_piece(alloc, course, next) {
+        Ok(want) => work_on(alloc, course, want),
+        Err(_) => Err(Halt::NoMemory),
+    }
+}
+
+/// Gives what comes next.
+pub fn give<P: Port, T: Tree>(
+    alloc: Global,
+    port: &mut P,
+    tree: &mut T,
+    course: &mut Course,
+    next: Next,
+) -> Result<Turn, Halt>
+    requires stood { Stood (P.view port.old) course.old.held (due next course.old) }
+    ensures stays { Stays (P.view port.old) (P.view port.new) }
+    ensures turned { IfOk result (Turned (T.files tree.old) (T.faults tree.old) (T.faults tree.new)
+        (P.view port.old).mine (P.view port.new).mine course.old.purse course.new (due next course.old)) }
+    ensures holds { OnOk result (Holds (P.view port.new) course.new.held) }
+    ensures part { OnErr result (Parted (T.files tree.old) (P.view port.old).mine
+        (P.view port.new).mine course.old.purse (due next course.old)) }
+    ensures refused { IsErrOf result Halt.Refused → Refused (P.view port.new) (T.files tree.old)
+        (P.view port.old).mine course.old.purse (due next course.old) }
+    ensures asked { Asked (T.files tree.old) (T.files tree.new) (T.faults tree.old) (T.faults tree.new) }
+    ensures kept { OnOk result (AllKept (T.lists tree.old) (T.lists tree.new) (P.view port.old).mine
+        (P.view port.new).mine) }
+{
+    match next {
+        Next::ReadGlobal(name) => read(alloc, port, course, name),
+        Next::Wanted(want) => give_wanted(alloc, port, tree, course, want.into_inner()),
+        Next::Store(name, value) => {
+            if is_local_name(&course.thread, &name) {
+                return piece(alloc, course, Next::Store(name, value));
+            }
+            bind(alloc, port, course, name, value)
+        }
+        next => piece(alloc, course, next),
     }
 }

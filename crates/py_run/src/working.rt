@@ -1,12 +1,13 @@
 //! Turns that see neither a port nor a tree, one after another.
-ghost use Rattle.std.specs.Prelude.{◌≡◌, IfOk, IsErrOf};
-ghost use Rattle.drive_straight.specs.Remains.{begins, due, goes_on};
+ghost use Rattle.std.specs.Prelude.{◌≡◌, IfOk, IsErrOf, IsTrue};
+ghost use Rattle.drive_straight.specs.Remains.{Leads, begins, due, goes_on};
 ghost use Rattle.drive_straight.specs.declared.course.Course.{Course};
 ghost use Rattle.py_frames.specs.declared.want.Want.TheVariants as wants;
-ghost use Rattle.py_run.specs.Turns.{Stepped, Wants, remains};
+ghost use Rattle.py_run.specs.Turns.{IsPlain, Stepped, Wants, brought, remains, replied_at};
 
 use crate::course::Turn;
 use crate::steps::next_frame;
+use base_owners::Boxed;
 use base_types::NoMemory;
 use drive_account::{Halt, pay_reply};
 use drive_straight::{
@@ -15,14 +16,15 @@ use drive_straight::{
 };
 use machine_events::Reply;
 use meaning_state::Flow;
-use py_frames::{Frame, Item, OnReply, Want};
+use py_frames::{Frame, Item, OnReply, Want, is_namespace_path};
+use py_value::Value;
 use std::alloc::Global;
 use step_calls::come_back;
 use step_dispatch::{begin, go_on, replied};
 use step_simple::{read_global, store};
 
 /// What comes next, piece by piece.
-fn next_piece(alloc: Global, course: &mut Course, next: Next) -> Result<Want, NoMemory>
+pub fn next_piece(alloc: Global, course: &mut Course, next: Next) -> Result<Want, NoMemory>
     ensures moves { Wants course.old (due next) course.new result }
     ensures held { course.new.held ≡ course.old.held }
 {
@@ -56,24 +58,35 @@ fn next_piece(alloc: Global, course: &mut Course, next: Next) -> Result<Want, No
             let (frame, flow) = waiting.into_inner();
             go_on(alloc, frame, flow, &mut course.thread)
         }
+        Next::Wanted(want) => Ok(want.into_inner()),
     }
 }
 
-/// What comes next, for as long as it is done in place, and what is wanted then.
-fn straight(alloc: Global, course: &mut Course, first: Next) -> Result<Want, NoMemory>
-    ensures moves { Wants course.old (due first) course.new result }
+/// What a piece of work wants comes next. A way on is small, and all else is on the heap.
+pub fn hand_on(alloc: Global, want: Want) -> Result<Next, NoMemory>
+    ensures { IfOk result (λ next. (c : Course) → due next c ≡ remains c want) }
+{
+    match want {
+        Want::Go(flow) => Ok(passing(flow)),
+        want => Ok(Next::Wanted(Boxed::new(alloc, want)?)),
+    }
+}
+
+/// What comes next, for as long as it is done in place.
+pub fn straight(alloc: Global, course: &mut Course, first: Next) -> Result<Next, NoMemory>
+    ensures moves { Leads course.old (due first) course.new result }
     ensures held { course.new.held ≡ course.old.held }
 {
     let mut next = first;
     let mut turns: u64 = 0;
     'turns: loop {
         if turns == u64::MAX {
-            return next_piece(alloc, course, next);
+            return Ok(next);
         }
         turns += 1;
         let after = match next {
             Next::Went(value) => match course.work.pop() {
-                None => return Ok(Want::Go(Flow::Went(value))),
+                None => return Ok(Next::Went(value)),
                 Some(Frame::Sized) => resume_sized(alloc, course, value),
                 Some(Frame::Block { stmts, at }) => resume_block(alloc, course, stmts, at, value),
                 Some(Frame::Loop { test, body, turns }) => {
@@ -85,17 +98,26 @@ fn straight(alloc: Global, course: &mut Course, first: Next) -> Result<Want, NoM
                 Some(Frame::Decide { test, body, turns }) => {
                     decide(alloc, course, test, body, turns, value)
                 }
-                Some(frame) => return leave(alloc, course, frame, Flow::Went(value)),
+                Some(frame) => leave_on(alloc, course, frame, Flow::Went(value)),
             },
             Next::Evaluate(expr) => evaluate(alloc, course, expr),
             Next::Block(stmts) => block(alloc, course, stmts, 0),
-            other => return next_piece(alloc, course, other),
+            other => return Ok(other),
         };
         match after {
             Ok(after) => next = after,
             Err(no_memory) => return Err(no_memory),
         }
     }
+}
+
+/// What comes next, for as long as it is done in place, and what is wanted then.
+fn straight_on(alloc: Global, course: &mut Course, first: Next) -> Result<Want, NoMemory>
+    ensures moves { Wants course.old (due first) course.new result }
+    ensures held { course.new.held ≡ course.old.held }
+{
+    let next = straight(alloc, course, first)?;
+    next_piece(alloc, course, next)
 }
 
 /// A piece of work: at once, in place, as far as it can be, and else as any other.
@@ -105,14 +127,14 @@ fn start(alloc: Global, course: &mut Course, item: Item) -> Result<Want, NoMemor
 {
     match item {
         Item::Give(flow) => Ok(Want::Go(flow)),
-        Item::Eval(expr) => straight(alloc, course, Next::Evaluate(expr)),
+        Item::Eval(expr) => straight_on(alloc, course, Next::Evaluate(expr)),
         Item::Block { stmts, at } => {
             let next = block(alloc, course, stmts, at)?;
-            straight(alloc, course, next)
+            straight_on(alloc, course, next)
         }
         Item::Turn { test, body, turns } => {
             let next = turn(alloc, course, test, body, turns)?;
-            straight(alloc, course, next)
+            straight_on(alloc, course, next)
         }
         item => begin(alloc, item, &mut course.thread),
     }
@@ -129,6 +151,15 @@ fn leave(alloc: Global, course: &mut Course, frame: Frame, flow: Flow) -> Result
     }
 }
 
+/// The same, and what is wanted then comes next.
+fn leave_on(alloc: Global, course: &mut Course, frame: Frame, flow: Flow) -> Result<Next, NoMemory>
+    ensures moves { Leads course.old (goes_on frame flow) course.new result }
+    ensures held { course.new.held ≡ course.old.held }
+{
+    let want = leave(alloc, course, frame, flow)?;
+    hand_on(alloc, want)
+}
+
 /// A way on comes to a frame: what follows is done at once, as far as it can be, and else as any other.
 fn pass(alloc: Global, course: &mut Course, frame: Frame, flow: Flow) -> Result<Want, NoMemory>
     ensures moves { Wants course.old (goes_on frame flow) course.new result }
@@ -140,7 +171,7 @@ fn pass(alloc: Global, course: &mut Course, frame: Frame, flow: Flow) -> Result<
                 return leave(alloc, course, frame, Flow::Went(value));
             }
             course.work.push(frame)?;
-            straight(alloc, course, Next::Went(value))
+            straight_on(alloc, course, Next::Went(value))
         }
         Flow::Left(left) => leave(alloc, course, frame, Flow::Left(left)),
     }
@@ -156,6 +187,65 @@ fn passing(flow: Flow) -> Next
     }
 }
 
+/// A way on comes to the work that waits, and then all is done that can be in place.
+fn go_straight(alloc: Global, course: &mut Course, flow: Flow) -> Result<Turn, Halt>
+    ensures turned { IfOk result (Stepped course.old.purse course.new (remains course.old (wants.Go flow))) }
+    ensures held { course.new.held ≡ course.old.held }
+    ensures refused { IsErrOf result Halt.Refused → ⊥ }
+{
+    match straight(alloc, course, passing(flow)) {
+        Ok(next) => Ok(Turn::On(next)),
+        Err(_) => Err(Halt::NoMemory),
+    }
+}
+
+/// A reply whose cost is paid comes to what waits for it, and then all is done that can be in place.
+fn reply_to(alloc: Global, course: &mut Course, on: OnReply, reply: Reply) -> Result<Turn, Halt>
+    ensures turned { IfOk result (Stepped course.old.purse course.new (replied_at on reply course.old)) }
+    ensures held { course.new.held ≡ course.old.held }
+    ensures refused { IsErrOf result Halt.Refused → ⊥ }
+{
+    let want = match replied(alloc, on, reply, &mut course.thread) {
+        Ok(want) => want,
+        Err(_) => return Err(Halt::NoMemory),
+    };
+    match want {
+        Want::Go(flow) => go_straight(alloc, course, flow),
+        other => turn_on(alloc, other),
+    }
+}
+
+/// Whether a reply brings a value to what waits for it, and nothing else is to be done: to the read of a variable of
+/// the module that is no path of a namespace, and to the binding of one.
+fn is_plain(on: &OnReply, reply: &Reply) -> bool
+    ensures { IsTrue result → IsPlain on.now reply.now }
+{
+    match on {
+        OnReply::Global(_) => match reply {
+            Reply::Value(value) => !is_namespace_path(value),
+            _ => false,
+        },
+        OnReply::Stored => match reply {
+            Reply::Done => true,
+            _ => false,
+        },
+        _ => false,
+    }
+}
+
+/// The value that such a reply brings.
+fn brought(reply: Reply) -> Value
+    ensures { result ≡ brought reply }
+{
+    match reply {
+        Reply::Value(value) => value,
+        reply => {
+            drop(reply);
+            Value::Nothing
+        }
+    }
+}
+
 /// The reply to an event comes to what waits for it, once its cost is paid, and then all is done that can be in place.
 pub fn follow(alloc: Global, course: &mut Course, on: OnReply, reply: Reply) -> Result<Turn, Halt>
     ensures turned { IfOk result (Stepped course.old.purse course.new (remains course.old (wants.Replied on reply))) }
@@ -163,18 +253,25 @@ pub fn follow(alloc: Global, course: &mut Course, on: OnReply, reply: Reply) -> 
     ensures refused { IsErrOf result Halt.Refused → ⊥ }
 {
     if !pay_reply(&mut course.purse, &reply) {
+        drop(on);
+        drop(reply);
         return Ok(Turn::Out);
     }
-    let want = match replied(alloc, on, reply, &mut course.thread) {
-        Ok(want) => want,
-        Err(_) => return Err(Halt::NoMemory),
-    };
-    match want {
-        Want::Go(flow) => match straight(alloc, course, passing(flow)) {
-            Ok(next) => Ok(Turn::On(next)),
-            Err(_) => Err(Halt::NoMemory),
-        },
-        other => Ok(Turn::On(other)),
+    if is_plain(&on, &reply) {
+        drop(on);
+        return go_straight(alloc, course, Flow::Went(brought(reply)));
+    }
+    reply_to(alloc, course, on, reply)
+}
+
+/// What is wanted is handed on.
+pub fn turn_on(alloc: Global, want: Want) -> Result<Turn, Halt>
+    ensures turned { IfOk result (λ turn. (c : Course) → Stepped c.purse c (remains c want) turn) }
+    ensures refused { IsErrOf result Halt.Refused → ⊥ }
+{
+    match hand_on(alloc, want) {
+        Ok(next) => Ok(Turn::On(next)),
+        Err(_) => Err(Halt::NoMemory),
     }
 }
 
@@ -191,7 +288,7 @@ pub fn work_on(alloc: Global, course: &mut Course, first: Want) -> Result<Turn, 
     let mut turns: u64 = 0;
     'turns: loop {
         if turns == u64::MAX {
-            return Ok(Turn::On(want));
+            return turn_on(alloc, want);
         }
         turns += 1;
         let next = match want {
@@ -220,7 +317,7 @@ pub fn work_on(alloc: Global, course: &mut Course, first: Want) -> Result<Turn, 
                 }
                 replied(alloc, on, reply, &mut course.thread)
             }
-            other => return Ok(Turn::On(other)),
+            other => return turn_on(alloc, other),
         };
         match next {
             Ok(next) => want = next,

@@ -22,7 +22,6 @@ use Rattle.meaning_script.specs.Operators.{Around, applies_at, compared, compare
 use Rattle.meaning_script.specs.Meaning.{World, around_at}
 use Rattle.py_frames.specs.Does.{Rest, completes}
 use Rattle.py_frames.specs.declared.work.Form.TheVariants.{Expression}
-use Rattle.py_frames.specs.declared.work.Frame.TheVariants as frame
 use Rattle.py_frames.specs.Listing.{is_listed, is_listed_at, first_listed}
 use Rattle.py_frames.proofs.Operands.{all_unlisted}
 use Rattle.step_expressions.specs.Forms.{eval_at}
@@ -71,7 +70,7 @@ has_both e a b s x y m n sum two left right is plain too = record {
 }
 
 -- the left one is waited for
-pub waits_left : (e a b : Expr) (th : Thread) → IsOfTwo e a b → Comes e th (record { given = given.Waits a (frame.Operands (Expression e) []); units = 0 })
+pub waits_left : (e a b : Expr) (th : Thread) → IsOfTwo e a b → Comes e th (record { given = given.Waits a []; units = 0 })
 waits_left e a b th two w next =
     let around = around_at w th.left in
     let k = next th.left in
@@ -85,7 +84,7 @@ waits_left e a b th two w next =
 
 -- the left one has its value, and the right one is waited for
 pub waits_right : (e a b : Expr) (th : Thread) (x : Value) (units : ℕ) → IsOfTwo e a b → Gives a th.state x units
-    → Comes e th (record { given = given.Waits b (frame.Operands (Expression e) (x ∷ [])); units = units })
+    → Comes e th (record { given = given.Waits b (x ∷ []); units = units })
 waits_right e a b th x units two left w next =
     let around = around_at w th.left in
     let k = next th.left in
@@ -108,12 +107,12 @@ came_right e a b th x y two plain too = record {
 -- ---- the operator
 
 pub prices_value : (a : Applied) (v : Value) (units sum : ℕ) → a ≡ applied.Value v → sum ≡ units + 1 + units_of v → Prices a units (record { given = given.Value v; units = sum })
-prices_value a v units sum of is w d next s run h =
+prices_value a v units sum of is w d e next s run h =
     costs_then {n = 1 + units_of v} sum (omega (arith, is)) (costs_as refl (ap (λ (a : Applied). pay 1 (gives a s (sized (next d)))) of) h)
     (record { payments = 1 ∷ units_of v ∷ []; all = omega arith; same = refl })
 
 pub prices_error : (a : Applied) (error : Error) (units sum : ℕ) → a ≡ applied.Raised error → sum ≡ units + 1 → Prices a units (record { given = given.Raised error; units = sum })
-prices_error a error units sum of is w d next s run h =
+prices_error a error units sum of is w d e next s run h =
     costs_then {n = 1} sum is (costs_as refl (ap (λ (a : Applied). pay 1 (gives a s (sized (next d)))) of) h)
     (record { payments = 1 ∷ []; all = omega arith; same = refl })
 
@@ -125,11 +124,11 @@ none_first x y left right = rw (left, right) refl
 operation_costs : (e a b : Expr) (th : Thread) (o : BinaryOp) (x y : Value) (units : ℕ) (given : Applied) (p : Priced) (w : World) (next : Rest) (run : Run) → out-Expr e ≡ Expr-F.Binary o a b
     → is_listed x ≡ false → is_listed y ≡ false → given ≡ binary (operator_of o) x y → Prices given units p
     → Costs units run (applied_on (applies_at (around_at w th.left) (out-Expr e)) (x ∷ y ∷ []) th.state (next th.left))
-    → Costs p.units run (given_does w th.left p.given next th.state)
+    → Costs p.units run (given_does w th.left e p.given next th.state)
 operation_costs e a b th o x y units given p w next run is left right gave prices costs =
     let around = around_at w th.left in
     let k = next th.left in
-    prices w th.left next th.state run (costs_as refl
+    prices w th.left e next th.state run (costs_as refl
     (ap (λ (d : Expr-F Expr). pay 1 (applies_at around d (x ∷ y ∷ []) th.state (sized k))) is
     ∙ ap (λ (q : Piece). pay 1 (q th.state (sized k))) (all_unlisted (x ∷ y ∷ []) (λ vs. with_two vs (λ x y. gives (binary (operator_of o) x y))) (none_first x y left right))
     ∙ ap (λ (a : Applied). pay 1 (gives a th.state (sized k))) (sym gave))
@@ -161,11 +160,11 @@ compares_plain c x y left right = values_plain c x y left right
 comparison_costs : (e a b : Expr) (th : Thread) (c : Comparison) (x y : Value) (units : ℕ) (given : Applied) (p : Priced) (w : World) (next : Rest) (run : Run) → out-Expr e ≡ Expr-F.Compare c a b
     → is_listed x ≡ false → is_listed y ≡ false → given ≡ compared c x y → Prices given units p
     → Costs units run (applied_on (applies_at (around_at w th.left) (out-Expr e)) (x ∷ y ∷ []) th.state (next th.left))
-    → Costs p.units run (given_does w th.left p.given next th.state)
+    → Costs p.units run (given_does w th.left e p.given next th.state)
 comparison_costs e a b th c x y units given p w next run is left right gave prices costs =
     let around = around_at w th.left in
     let k = next th.left in
-    prices w th.left next th.state run (costs_as refl
+    prices w th.left e next th.state run (costs_as refl
     (ap (λ (d : Expr-F Expr). pay 1 (applies_at around d (x ∷ y ∷ []) th.state (sized k))) is
     ∙ ap (λ (q : Piece). pay 1 (q th.state (sized k))) (compares_plain c x y left right)
     ∙ ap (λ (a : Applied). pay 1 (gives a th.state (sized k))) (sym gave))

@@ -51,17 +51,18 @@ pub record HasBoth (e : Expr) (s : State) (x y : Value) (units : ℕ) : Type 0 w
   pub costs : (around : Around) (k : Onward)
       → Costs units (eval around e s k) (applied_on (applies_at around (out-Expr e)) (x ∷ y ∷ []) s k)
 
--- what an expression came to, and then `next`: its value, its error, or the value of an operand that is not at hand,
--- for which a frame waits
-abbrev pub given_does : World → ℕ → Given → Rest → State → Run
-given_does w d (given.Value v) next s = next d (Went v) s
-given_does w d (given.Raised error) next s = next d (Left (Raised error)) s
-given_does w d (given.Waits e f) next s = item_does w d (it.Eval e) (λ d. frame_does w d f next) s
+-- what the expression `e` came to, and then `next`: its value, its error, or the value of an operand that is not at
+-- hand, for which the frame waits that gathers its operands
+abbrev pub given_does : World → ℕ → Expr → Given → Rest → State → Run
+given_does w d e (given.Value v) next s = next d (Went v) s
+given_does w d e (given.Raised error) next s = next d (Left (Raised error)) s
+given_does w d e (given.Waits operand vs) next s =
+    item_does w d (it.Eval operand) (λ d. frame_does w d (frame.Operands (Expression e) vs) next) s
 
 -- the expression came to this for its price
 abbrev pub Comes : Expr → Thread → Priced → Type 0
 Comes e th p = (w : World) (next : Rest)
-    → Costs p.units (item_does w th.left (it.Eval e) next th.state) (given_does w th.left p.given next th.state)
+    → Costs p.units (item_does w th.left (it.Eval e) next th.state) (given_does w th.left e p.given next th.state)
 
 -- what the operands of an expression came to
 abbrev pub BothCome : Expr → Thread → Both → Type 0
@@ -71,8 +72,8 @@ BothCome e th both.Later = Unit {0}
 
 -- whatever comes to an operator that gives this, behind so many units, comes to this price
 abbrev pub Prices : Applied → ℕ → Priced → Type 0
-Prices applied units p = (w : World) (d : ℕ) (next : Rest) (s : State) (run : Run)
-    → Costs units run (pay 1 (gives applied s (sized (next d)))) → Costs p.units run (given_does w d p.given next s)
+Prices applied units p = (w : World) (d : ℕ) (e : Expr) (next : Rest) (s : State) (run : Run)
+    → Costs units run (pay 1 (gives applied s (sized (next d)))) → Costs p.units run (given_does w d e p.given next s)
 
 -- the expression has two operands, of which this is the right one
 pub record IsRightOf (e b : Expr) : Type 0 where
@@ -83,7 +84,7 @@ pub record IsRightOf (e b : Expr) : Type 0 where
 abbrev pub Resumes : Expr → List Value → Value → Thread → Priced → Type 0
 Resumes e vs v th p = (w : World) (next : Rest)
     → Costs p.units (frame_does w th.left (frame.Operands (Expression e) vs) next (Went v) th.state)
-    (given_does w th.left p.given next th.state)
+    (given_does w th.left e p.given next th.state)
 
 -- so many units are paid behind a value that came to that frame, and what comes next is the operator on both values, of
 -- which neither is one that a list comes for

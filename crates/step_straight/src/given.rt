@@ -1,6 +1,6 @@
 //! What an expression comes to.
 use base_owners::Shared;
-use py_frames::Frame;
+use base_types::Seq;
 use py_syntax::Expr;
 use py_value::{Raised, Value};
 
@@ -9,8 +9,9 @@ use py_value::{Raised, Value};
 pub enum Given {
     Value(Value),
     Raised(Raised),
-    /// An operand whose value is not at hand, for which the frame waits.
-    Waits(Shared<Expr>, Frame),
+    /// An operand whose value is not at hand, behind the values of those before it. What gathers the operands of the
+    /// expression waits for it.
+    Waits(Shared<Expr>, Seq<Value>),
 }
 
 /// What an expression came to, and the units that it paid on the way.

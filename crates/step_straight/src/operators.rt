@@ -2,8 +2,6 @@
 ghost use Rattle.std.specs.Prelude.{◌≡◌, IfOk, IfSome, [], ◌∷◌};
 ghost use Rattle.py_syntax.specs.declared.expr.Expr.{out-Expr};
 ghost use Rattle.py_syntax.specs.declared.expr.Expr.TheOpen.{Expr-F};
-ghost use Rattle.py_frames.specs.declared.work.Form.TheVariants.{Expression};
-ghost use Rattle.py_frames.specs.declared.work.Frame.TheVariants as frames;
 ghost use Rattle.step_straight.specs.Comes.{BothCome, Comes, IsOfTwo, Prices};
 ghost use Rattle.step_straight.specs.declared.given.Given.TheVariants as givens;
 
@@ -12,7 +10,7 @@ use crate::given::{Given, Priced};
 use base_owners::Shared;
 use base_types::{NoMemory, Seq};
 use meaning_state::Thread;
-use py_frames::{Form, Frame, is_listed};
+use py_frames::is_listed;
 use py_syntax::{BinaryOp, Comparison, Expr};
 use py_value::{Applied, Value, size};
 use std::alloc::Global;
@@ -30,35 +28,13 @@ pub enum Both {
     Later,
 }
 
-/// The left operand is waited for.
-fn wait_left(alloc: Global, expr: &Shared<Expr>, left: &Shared<Expr>) -> Result<Given, NoMemory>
-    ensures { IfOk result (λ given. given
-        ≡ givens.Waits left.now (frames.Operands (Expression expr.now) [])) }
-{
-    let frame = Frame::Operands {
-        form: Form::Expression(expr.share()?),
-        done: Seq::new(alloc),
-    };
-    Ok(Given::Waits(left.share()?, frame))
-}
-
 /// The right operand is waited for, behind the value of the left one.
-pub fn wait(
-    alloc: Global,
-    expr: &Shared<Expr>,
-    left: Value,
-    right: &Shared<Expr>,
-) -> Result<Given, NoMemory>
-    ensures { IfOk result (λ given. given
-        ≡ givens.Waits right.now (frames.Operands (Expression expr.now) (left ∷ []))) }
+pub fn wait(alloc: Global, left: Value, right: &Shared<Expr>) -> Result<Given, NoMemory>
+    ensures { IfOk result (λ given. given ≡ givens.Waits right.now (left ∷ [])) }
 {
     let mut done = Seq::new(alloc);
     done.push(left)?;
-    let frame = Frame::Operands {
-        form: Form::Expression(expr.share()?),
-        done,
-    };
-    Ok(Given::Waits(right.share()?, frame))
+    Ok(Given::Waits(right.share()?, done))
 }
 
 /// The operands of an expression, from left to right.
@@ -73,9 +49,10 @@ fn gather(
     requires two { IsOfTwo expr.now a.now b.now }
     ensures { IfOk result (λ both. BothCome expr.now thread.now both) }
 {
+    let _ = expr;
     let x = match atom(alloc, thread, a.get())? {
         None => {
-            let given = wait_left(alloc, expr, a)?;
+            let given = Given::Waits(a.share()?, Seq::new(alloc));
             return Ok(Both::Waits(Priced { given, units: 0 }));
         }
         Some(x) => x,
@@ -83,7 +60,7 @@ fn gather(
     let y = match atom(alloc, thread, b.get())? {
         None => {
             let units = x.units;
-            let given = wait(alloc, expr, x.value, b)?;
+            let given = wait(alloc, x.value, b)?;
             return Ok(Both::Waits(Priced { given, units }));
         }
         Some(y) => y,

@@ -37,9 +37,10 @@ fn take_right(
     requires two { IsRightOf expr.now right.now }
     ensures { IfOk result (λ right. RightComes expr.now thread.now left.now right) }
 {
+    let _ = expr;
     match atom(alloc, thread, right.get())? {
         None => {
-            let given = wait(alloc, expr, left.copy()?, right)?;
+            let given = wait(alloc, left.copy()?, right)?;
             Ok(Right::Waits(Priced { given, units: 0 }))
         }
         Some(bought) => {

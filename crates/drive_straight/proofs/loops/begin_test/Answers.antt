@@ -9,6 +9,6 @@ pub returns-clause-moves : goal.returns-clause-moves
 returns-clause-moves c =
     let old = c.args.course.now in
     let ready : Course = record { purse = c.afford.new.purse; held = old.held; thread = old.thread; work = c.push.new.self } in
-    leads_behind old ready c.evaluate.new.course (begins (it.Turn c.args.test c.args.body c.args.turns)) (begins (it.Eval c.in_ok-expr.expr)) c.evaluate.result
+    leads_behind old ready c.take.new.course (begins (it.Turn c.args.test c.args.body c.args.turns)) (begins (it.Eval c.in_ok-expr.expr)) c.take.result
     (test_begins old ready c.args.test c.in_ok-expr.expr c.args.body (c.args.turns - 1) c.args.turns c.afford.new.purse
-    (omega (arith, c.requires.some)) (search rules) (c.if-not-afford.ensures.paid refl) (search rules)) c.evaluate.ensures.moves
+    (omega (arith, c.requires.some)) (search rules) (c.if-not-afford.ensures.paid refl) (search rules)) c.take.ensures.moves

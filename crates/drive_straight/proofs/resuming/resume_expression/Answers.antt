@@ -18,5 +18,5 @@ pub returns-else-not-afford-clause-moves : goal.returns-else-not-afford-clause-m
 returns-else-not-afford-clause-moves c =
     let old = c.args.course.now in
     let paid : Course = record { purse = c.afford.new.purse; held = old.held; thread = old.thread; work = old.work } in
-    leads_behind old paid c.come.new.course (goes_on (frame.Operands (Expression c.args.expr) c.args.done) (Went c.args.value)) (comes c.in-Some.field-0.given) c.come.result
+    leads_behind old paid c.come.new.course (goes_on (frame.Operands (Expression c.args.expr) c.args.done) (Went c.args.value)) (comes c.args.expr c.in-Some.field-0.given) c.come.result
     (operator_came old paid c.args.expr c.args.done c.args.value c.in-Some.field-0 c.afford.new.purse (c.if-not-afford.ensures.paid refl) (search rules) refl) c.come.ensures.moves

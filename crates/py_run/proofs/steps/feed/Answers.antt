@@ -1,8 +1,15 @@
-use Rattle.std.proofs.Common.{refl}
+use Rattle.std.proofs.Common.{sym}
+use Rattle.std.proofs.lemmas.Result.{IfOk-weaker}
 use Rattle.step_calls.specs.Sources.{sources}
 use Rattle.py_frames.specs.Does.{rest}
-use Rattle.py_run.proofs.Stepping.{stepped}
+use Rattle.drive_straight.specs.declared.course.Course.{Course}
+use Rattle.py_run.specs.Turns.{feeds, remains}
+use Rattle.py_run.proofs.Leading.{stepped_as}
 use Rattle.py_run.proofs.steps.feed.Goals as goal
 
 pub returns-in-Ok-clause-turned : goal.returns-in-Ok-clause-turned
-returns-in-Ok-clause-turned c = stepped c.args.course.now.purse _ _ c.in-Ok.want refl (c.in-Ok.ensures.does (rest sources c.args.course.now.work))
+returns-in-Ok-clause-turned c =
+    let old = c.args.course.now in
+    let after : Course = record { purse = old.purse; held = old.held; thread = c.fed.new.thread; work = old.work } in
+    IfOk-weaker c.turn_on.result _ _ (λ t step. stepped_as old.purse after t (feeds old c.args.procedure c.args.input) (remains after c.in-Ok.want)
+    (sym (c.in-Ok.ensures.does (rest sources old.work))) (step after)) c.turn_on.ensures.turned

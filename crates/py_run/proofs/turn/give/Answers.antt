@@ -1,58 +1,97 @@
-use Rattle.std.proofs.Common.{refl}
+use Rattle.std.proofs.Common.{rules, subst}
 use Rattle.std.proofs.lemmas.Result.{IfOk-weaker}
-use Rattle.py_frames.specs.declared.want.Want.TheVariants as wants
-use Rattle.py_run.specs.Turns.{remains}
+use Rattle.meaning_runs.specs.Runs.{Run}
+use Rattle.drive_account.specs.At.{At}
 use Rattle.drive_account.proofs.Results.{on_err_then}
+use Rattle.drive_straight.specs.Remains.{due}
+use Rattle.drive_straight.specs.declared.next.Next.TheVariants as nexts
 use Rattle.py_run.proofs.Results.{if_ok, if_err}
-use Rattle.py_run.proofs.Turning.{turned_at, turned_here, at_want, parted_here}
+use Rattle.py_run.proofs.Turning.{due_as, due_wanted, parted_as, parted_here, stood_as, turned_if}
 use Rattle.py_run.proofs.turn.give.Goals as goal
 
-pub returns-in-Call-clause-turned : goal.returns-in-Call-clause-turned
-returns-in-Call-clause-turned g c = IfOk-weaker c.call.result _ _ (λ turn made.
-    turned_at (g.T.Tree.files c.args.tree.now) (g.T.Tree.faults c.args.tree.now) (g.T.Tree.faults c.args.tree.now) (g.P.Port.view c.args.port.now).mine _ c.args.course.now c.call.new.course c.args.want (wants.Call c.in-Call.event c.in-Call.on) turn c.in-Call.is (made (g.T.Tree.files c.args.tree.now) (g.T.Tree.faults c.args.tree.now))) c.call.ensures.turned
+pub read-requires : goal.read-requires
+read-requires g c = record { stood = stood_as _ _ _ _ (due_as c.args.course.now c.args.next (nexts.ReadGlobal c.in-ReadGlobal.name) c.in-ReadGlobal.is) c.requires.stood }
 
-pub returns-in-Call-clause-part : goal.returns-in-Call-clause-part
-returns-in-Call-clause-part g c = on_err_then c.call.result c.call.ensures.part (λ parted. λ whole fuel a. parted (g.T.Tree.files c.args.tree.now) whole fuel (at_want c.args.course.now c.args.want (wants.Call c.in-Call.event c.in-Call.on) c.in-Call.is a))
+pub returns-in-ReadGlobal-clause-turned : goal.returns-in-ReadGlobal-clause-turned
+returns-in-ReadGlobal-clause-turned g c =
+    let files = g.T.Tree.files c.args.tree.now in
+    let faults = g.T.Tree.faults c.args.tree.now in
+    turned_if files faults faults _ _ _ _ _ _ c.read.result (due_as c.args.course.now c.args.next (nexts.ReadGlobal c.in-ReadGlobal.name) c.in-ReadGlobal.is)
+    (IfOk-weaker c.read.result _ _ (λ t made. made files faults) c.read.ensures.turned)
 
-pub returns-in-Call-clause-refused : goal.returns-in-Call-clause-refused
-returns-in-Call-clause-refused g c = λ is whole fuel a. c.call.ensures.refused is (g.T.Tree.files c.args.tree.now) whole fuel (at_want c.args.course.now c.args.want (wants.Call c.in-Call.event c.in-Call.on) c.in-Call.is a)
+pub returns-in-ReadGlobal-clause-part : goal.returns-in-ReadGlobal-clause-part
+returns-in-ReadGlobal-clause-part g c =
+    parted_as c.read.result (g.T.Tree.files c.args.tree.now) _ _ _ _ _ (due_as c.args.course.now c.args.next (nexts.ReadGlobal c.in-ReadGlobal.name) c.in-ReadGlobal.is)
+    (on_err_then c.read.result c.read.ensures.part (λ parted. parted (g.T.Tree.files c.args.tree.now)))
 
-pub returns-in-Wait-clause-turned : goal.returns-in-Wait-clause-turned
-returns-in-Wait-clause-turned g c = IfOk-weaker c.wait.result _ _ (λ turn made.
-    turned_at (g.T.Tree.files c.args.tree.now) (g.T.Tree.faults c.args.tree.now) (g.T.Tree.faults c.args.tree.now) (g.P.Port.view c.args.port.now).mine _ c.args.course.now c.wait.new.course c.args.want (wants.Wait c.in-Wait.item) turn c.in-Wait.is (made (g.T.Tree.files c.args.tree.now) (g.T.Tree.faults c.args.tree.now))) c.wait.ensures.turned
+pub returns-in-ReadGlobal-clause-refused : goal.returns-in-ReadGlobal-clause-refused
+returns-in-ReadGlobal-clause-refused g c = λ is whole fuel a.
+    let files = g.T.Tree.files c.args.tree.now in
+    c.read.ensures.refused is files whole fuel
+    (subst (λ (run : Run). At files whole fuel (g.P.Port.view c.args.port.now).mine c.args.course.now.purse run) (due_as c.args.course.now c.args.next (nexts.ReadGlobal c.in-ReadGlobal.name) c.in-ReadGlobal.is) a)
 
-pub returns-in-Wait-clause-part : goal.returns-in-Wait-clause-part
-returns-in-Wait-clause-part g c = on_err_then c.wait.result c.wait.ensures.part (λ parted. λ whole fuel a. parted (g.T.Tree.files c.args.tree.now) whole fuel (at_want c.args.course.now c.args.want (wants.Wait c.in-Wait.item) c.in-Wait.is a))
+pub give_wanted-requires : goal.give_wanted-requires
+give_wanted-requires g c = record { stood = stood_as _ _ _ _ (due_wanted c.args.course.now c.args.next c.in-Wanted.want c.into_inner.result c.in-Wanted.is c.into_inner.ensures) c.requires.stood }
 
-pub returns-in-Wait-clause-refused : goal.returns-in-Wait-clause-refused
-returns-in-Wait-clause-refused g c = λ is whole fuel a. c.wait.ensures.refused is (g.T.Tree.files c.args.tree.now) whole fuel (at_want c.args.course.now c.args.want (wants.Wait c.in-Wait.item) c.in-Wait.is a)
+pub returns-in-Wanted-clause-turned : goal.returns-in-Wanted-clause-turned
+returns-in-Wanted-clause-turned g c =
+    turned_if _ _ _ _ _ _ _ _ _ c.give_wanted.result (due_wanted c.args.course.now c.args.next c.in-Wanted.want c.into_inner.result c.in-Wanted.is c.into_inner.ensures) c.give_wanted.ensures.turned
 
-pub returns-in-Find-clause-turned : goal.returns-in-Find-clause-turned
-returns-in-Find-clause-turned g c = IfOk-weaker c.find.result _ _ (λ turn turned.
-    turned_at (g.T.Tree.files c.args.tree.now) (g.T.Tree.faults c.args.tree.now) (g.T.Tree.faults c.find.new.tree) (g.P.Port.view c.args.port.now).mine _ c.args.course.now c.find.new.course c.args.want (wants.Find c.in-Find.name c.in-Find.path c.in-Find.procedure) turn c.in-Find.is turned) c.find.ensures.turned
+pub returns-in-Wanted-clause-part : goal.returns-in-Wanted-clause-part
+returns-in-Wanted-clause-part g c =
+    parted_as c.give_wanted.result _ _ _ _ _ _ (due_wanted c.args.course.now c.args.next c.in-Wanted.want c.into_inner.result c.in-Wanted.is c.into_inner.ensures) c.give_wanted.ensures.part
 
-pub returns-in-Find-clause-part : goal.returns-in-Find-clause-part
-returns-in-Find-clause-part g c = on_err_then c.find.result c.find.ensures.part (λ parted. λ whole fuel a. parted whole fuel (at_want c.args.course.now c.args.want (wants.Find c.in-Find.name c.in-Find.path c.in-Find.procedure) c.in-Find.is a))
+pub returns-in-Wanted-clause-refused : goal.returns-in-Wanted-clause-refused
+returns-in-Wanted-clause-refused g c = λ is whole fuel a.
+    c.give_wanted.ensures.refused is whole fuel
+    (subst (λ (run : Run). At (g.T.Tree.files c.args.tree.now) whole fuel (g.P.Port.view c.args.port.now).mine c.args.course.now.purse run)
+    (due_wanted c.args.course.now c.args.next c.in-Wanted.want c.into_inner.result c.in-Wanted.is c.into_inner.ensures) a)
 
-pub returns-in-Find-clause-refused : goal.returns-in-Find-clause-refused
-returns-in-Find-clause-refused g c = λ is whole fuel a. c.find.ensures.refused is whole fuel (at_want c.args.course.now c.args.want (wants.Find c.in-Find.name c.in-Find.path c.in-Find.procedure) c.in-Find.is a)
+pub bind-requires : goal.bind-requires
+bind-requires g c = record {
+  global = search rules;
+  stood = stood_as _ _ _ _ (due_as c.args.course.now c.args.next (nexts.Store c.in-Store.name c.in-Store.value) c.in-Store.is) c.requires.stood;
+}
 
-pub returns-in-File-clause-turned : goal.returns-in-File-clause-turned
-returns-in-File-clause-turned g c = IfOk-weaker c.file.result _ _ (λ turn looked.
-    turned_at (g.T.Tree.files c.args.tree.now) (g.T.Tree.faults c.args.tree.now) (g.T.Tree.faults c.file.new.tree) (g.P.Port.view c.args.port.now).mine _ c.args.course.now c.file.new.course c.args.want (wants.File c.in-File.path c.in-File.procedure) turn c.in-File.is
-    (looked (g.P.Port.view c.args.port.now).mine)) c.file.ensures.turned
+pub returns-else-is_local_name-clause-turned : goal.returns-else-is_local_name-clause-turned
+returns-else-is_local_name-clause-turned g c =
+    let files = g.T.Tree.files c.args.tree.now in
+    let faults = g.T.Tree.faults c.args.tree.now in
+    turned_if files faults faults _ _ _ _ _ _ c.bind.result (due_as c.args.course.now c.args.next (nexts.Store c.in-Store.name c.in-Store.value) c.in-Store.is)
+    (IfOk-weaker c.bind.result _ _ (λ t made. made files faults) c.bind.ensures.turned)
 
-pub returns-in-File-clause-holds : goal.returns-in-File-clause-holds
-returns-in-File-clause-holds g c = if_ok c.file.result (λ _. rw c.file.ensures.held c.requires.stood.holds)
+pub returns-else-is_local_name-clause-part : goal.returns-else-is_local_name-clause-part
+returns-else-is_local_name-clause-part g c =
+    parted_as c.bind.result (g.T.Tree.files c.args.tree.now) _ _ _ _ _ (due_as c.args.course.now c.args.next (nexts.Store c.in-Store.name c.in-Store.value) c.in-Store.is)
+    (on_err_then c.bind.result c.bind.ensures.part (λ parted. parted (g.T.Tree.files c.args.tree.now)))
 
-pub returns-in-File-clause-part : goal.returns-in-File-clause-part
-returns-in-File-clause-part g c = if_err c.file.result (λ _. parted_here c.args.course.now.purse (remains c.args.course.now c.args.want))
+pub returns-else-is_local_name-clause-refused : goal.returns-else-is_local_name-clause-refused
+returns-else-is_local_name-clause-refused g c = λ is whole fuel a.
+    let files = g.T.Tree.files c.args.tree.now in
+    c.bind.ensures.refused is files whole fuel
+    (subst (λ (run : Run). At files whole fuel (g.P.Port.view c.args.port.now).mine c.args.course.now.purse run) (due_as c.args.course.now c.args.next (nexts.Store c.in-Store.name c.in-Store.value) c.in-Store.is) a)
+
+pub returns-then-is_local_name-clause-turned : goal.returns-then-is_local_name-clause-turned
+returns-then-is_local_name-clause-turned g c =
+    let files = g.T.Tree.files c.args.tree.now in
+    let faults = g.T.Tree.faults c.args.tree.now in
+    turned_if files faults faults _ _ _ _ _ _ c.piece.result (due_as c.args.course.now c.args.next (nexts.Store c.in-Store.name c.in-Store.value) c.in-Store.is)
+    (IfOk-weaker c.piece.result _ _ (λ t step. step files faults (g.P.Port.view c.args.port.now).mine) c.piece.ensures.turned)
+
+pub returns-then-is_local_name-clause-holds : goal.returns-then-is_local_name-clause-holds
+returns-then-is_local_name-clause-holds g c = if_ok c.piece.result (λ _. rw c.piece.ensures.held c.requires.stood.holds)
+
+pub returns-then-is_local_name-clause-part : goal.returns-then-is_local_name-clause-part
+returns-then-is_local_name-clause-part g c = if_err c.piece.result (λ _. parted_here c.args.course.now.purse (due c.args.next c.args.course.now))
 
 pub returns-in_default-clause-turned : goal.returns-in_default-clause-turned
-returns-in_default-clause-turned g c = turned_here _ _ _ c.args.course.now c.work_on.new.course c.args.want _ c.work_on.result refl c.work_on.ensures.turned
+returns-in_default-clause-turned g c =
+    let files = g.T.Tree.files c.args.tree.now in
+    let faults = g.T.Tree.faults c.args.tree.now in
+    IfOk-weaker c.piece-in_default.result _ _ (λ t step. step files faults (g.P.Port.view c.args.port.now).mine) c.piece-in_default.ensures.turned
 
 pub returns-in_default-clause-holds : goal.returns-in_default-clause-holds
-returns-in_default-clause-holds g c = if_ok c.work_on.result (λ _. rw c.work_on.ensures.held c.requires.stood.holds)
+returns-in_default-clause-holds g c = if_ok c.piece-in_default.result (λ _. rw c.piece-in_default.ensures.held c.requires.stood.holds)
 
 pub returns-in_default-clause-part : goal.returns-in_default-clause-part
-returns-in_default-clause-part g c = if_err c.work_on.result (λ _. parted_here c.args.course.now.purse (remains c.args.course.now c.args.want))
+returns-in_default-clause-part g c = if_err c.piece-in_default.result (λ _. parted_here c.args.course.now.purse (due c.args.next c.args.course.now))

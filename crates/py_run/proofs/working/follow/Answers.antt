@@ -1,10 +1,11 @@
-use Rattle.std.proofs.Common.{refl, subst, sym}
-use Rattle.meaning_runs.specs.Runs.{Run}
+use Rattle.std.proofs.Common.{refl, ap, sym, ◌∙◌}
+use Rattle.std.proofs.lemmas.Result.{IfOk-weaker}
+use Rattle.py_value.specs.declared.value.Value.{Value}
+use Rattle.meaning_state.specs.declared.flow.Flow.TheVariants.{Went}
 use Rattle.py_frames.specs.declared.want.Want.TheVariants as want
-use Rattle.drive_account.specs.At.{At}
 use Rattle.drive_straight.specs.declared.course.Course.{Course}
-use Rattle.py_run.specs.Turns.{remains}
-use Rattle.py_run.proofs.Leading.{hands_on, replied_on, wanted}
+use Rattle.py_run.specs.Turns.{remains, replied_at}
+use Rattle.py_run.proofs.Leading.{followed, stepped_as}
 use Rattle.py_run.proofs.Stepping.{stepped_out}
 use Rattle.py_run.proofs.working.follow.Goals as goal
 
@@ -12,22 +13,15 @@ pub returns-then-not-pay_reply-clause-turned : goal.returns-then-not-pay_reply-c
 returns-then-not-pay_reply-clause-turned c =
     stepped_out c.args.course.now.purse _ _ (λ files whole fuel mine a. c.if-not-pay_reply.ensures files whole fuel mine _ a)
 
-pub returns-in_default-clause-turned : goal.returns-in_default-clause-turned
-returns-in_default-clause-turned c =
+pub returns-then-is_plain-clause-turned : goal.returns-then-is_plain-clause-turned
+returns-then-is_plain-clause-turned c =
     let old = c.args.course.now in
-    let run : Run = remains old (want.Replied c.args.on c.args.reply) in
-    let after : Course = record { purse = c.pay_reply.new.purse; held = old.held; thread = c.replied.new.thread; work = old.work } in
-    hands_on old.purse run after c.in-Ok.want
-    (replied_on old after c.pay_reply.new.purse c.args.on c.args.reply c.replied.new.thread c.replied.result c.in-Ok.want c.if-not-pay_reply.ensures refl c.in-Ok.is c.replied.ensures)
+    let paid : Course = record { purse = c.pay_reply.new.purse; held = old.held; thread = old.thread; work = old.work } in
+    followed old c.go_straight.new.course paid.purse c.args.on c.args.on c.args.reply c.args.reply c.go_straight.result refl refl c.if-not-pay_reply.ensures
+    (IfOk-weaker c.go_straight.result _ _ (λ t step. stepped_as paid.purse c.go_straight.new.course t (replied_at c.args.on c.args.reply old) (remains paid (want.Go (Went c.brought.result)))
+    (c.if-is_plain.ensures refl paid ∙ ap (λ (v : Value). remains paid (want.Go (Went v))) (sym c.brought.ensures)) step) c.go_straight.ensures.turned)
 
-pub returns-in-Ok-straight-clause-turned : goal.returns-in-Ok-straight-clause-turned
-returns-in-Ok-straight-clause-turned c =
+pub returns-clause-turned : goal.returns-clause-turned
+returns-clause-turned c =
     let old = c.args.course.now in
-    let run : Run = remains old (want.Replied c.args.on c.args.reply) in
-    let after : Course = record { purse = c.pay_reply.new.purse; held = old.held; thread = c.replied.new.thread; work = old.work } in
-    hands_on old.purse run c.straight.new.course c.in-Ok-straight.next
-    (λ files whole fuel mine a. c.in-Ok-straight.ensures.moves files whole fuel mine
-    (subst (λ (r : Run). At files whole fuel mine after.purse r) (sym (c.passing.ensures after))
-    (wanted old.purse run after c.in-Ok.want (want.Go c.in-Go.flow) c.in-Go.is
-    (replied_on old after c.pay_reply.new.purse c.args.on c.args.reply c.replied.new.thread c.replied.result c.in-Ok.want c.if-not-pay_reply.ensures refl c.in-Ok.is c.replied.ensures)
-    files whole fuel mine a)))
+    followed old c.reply_to.new.course c.pay_reply.new.purse c.args.on c.args.on c.args.reply c.args.reply c.reply_to.result refl refl c.if-not-pay_reply.ensures c.reply_to.ensures.turned

@@ -4,14 +4,14 @@ use Rattle.py_run.proofs.InPlace.{wants_behind}
 use Rattle.py_run.proofs.working.start.Goals as goal
 
 pub returns-in-Eval-clause-moves : goal.returns-in-Eval-clause-moves
-returns-in-Eval-clause-moves c = rw c.in-Eval.is c.straight.ensures.moves
+returns-in-Eval-clause-moves c = rw c.in-Eval.is c.straight_on.ensures.moves
 
 pub returns-in_ok-next-in-Block-clause-moves : goal.returns-in_ok-next-in-Block-clause-moves
 returns-in_ok-next-in-Block-clause-moves c =
-    rw c.in-Block.is (wants_behind c.args.course.now c.block.new.course c.straight-in-Block.new.course (begins (it.Block c.in-Block.stmts c.in-Block.at)) (due c.in_ok-next-in-Block.next) c.straight-in-Block.result
-    c.in_ok-next-in-Block.ensures.moves c.straight-in-Block.ensures.moves)
+    rw c.in-Block.is (wants_behind c.args.course.now c.block.new.course c.straight_on-in-Block.new.course (begins (it.Block c.in-Block.stmts c.in-Block.at)) (due c.in_ok-next-in-Block.next) c.straight_on-in-Block.result
+    c.in_ok-next-in-Block.ensures.moves c.straight_on-in-Block.ensures.moves)
 
 pub returns-in_ok-next-in-Turn-clause-moves : goal.returns-in_ok-next-in-Turn-clause-moves
 returns-in_ok-next-in-Turn-clause-moves c =
-    rw c.in-Turn.is (wants_behind c.args.course.now c.turn.new.course c.straight-in-Turn.new.course (begins (it.Turn c.in-Turn.test c.in-Turn.body c.in-Turn.turns)) (due c.in_ok-next-in-Turn.next) c.straight-in-Turn.result
-    c.in_ok-next-in-Turn.ensures.moves c.straight-in-Turn.ensures.moves)
+    rw c.in-Turn.is (wants_behind c.args.course.now c.turn.new.course c.straight_on-in-Turn.new.course (begins (it.Turn c.in-Turn.test c.in-Turn.body c.in-Turn.turns)) (due c.in_ok-next-in-Turn.next) c.straight_on-in-Turn.result
+    c.in_ok-next-in-Turn.ensures.moves c.straight_on-in-Turn.ensures.moves)

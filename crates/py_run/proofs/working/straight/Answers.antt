@@ -8,9 +8,9 @@ use Rattle.drive_straight.specs.Remains.{Leads, begins, due, goes_on}
 use Rattle.drive_straight.specs.declared.course.Course.{Course}
 use Rattle.drive_straight.specs.declared.next.Next.{Next}
 use Rattle.drive_straight.specs.declared.next.Next.TheVariants as nexts
-use Rattle.py_run.proofs.InPlace.{comes_by, known, led_by, none_left, wants_behind}
+use Rattle.py_run.proofs.InPlace.{comes_by, known, led_by, none_left}
 use Rattle.py_run.proofs.working.straight.Goals as goal
-use Rattle.py_run.proofs.working.straight.Goals.{in-Went+in-Some-Sized, in-Went+in-Some-Block, in-Went+in-Some-Loop, in-Went+in-Some-Operands, in-Went+in-Some-Decide, in-Evaluate, in-Block}
+use Rattle.py_run.proofs.working.straight.Goals.{in-Went+in-Some-Sized, in-Went+in-Some-Block, in-Went+in-Some-Loop, in-Went+in-Some-Operands, in-Went+in-Some-Decide, in-Went+in-Some, in-Evaluate, in-Block}
 
 pub turns-init : goal.turns-init
 turns-init c = record {
@@ -18,32 +18,9 @@ turns-init c = record {
   held = refl;
 }
 
-pub returns-then-turns-clause-moves : goal.returns-then-turns-clause-moves
-returns-then-turns-clause-moves c =
-    wants_behind c.args.course.now c.turns.course c.next_piece.new.course (due c.args.first) (due c.turns.next) c.next_piece.result c.turns.invariant.moves c.next_piece.ensures.moves
-
 pub returns-in-None-clause-moves : goal.returns-in-None-clause-moves
 returns-in-None-clause-moves c =
     none_left c.args.course.now c.turns.course (due c.args.first) c.turns.next c.in-Went.value c.pop.new.self c.in-Went.is (search rules) c.turns.invariant.moves
-
-pub returns-in-Some : goal.returns-in-Some
-returns-in-Some c =
-    let here : Course = c.turns.course in
-    let popped : Course = record { purse = here.purse; held = here.held; thread = here.thread; work = c.pop.new.self } in
-    record {
-      moves =
-          wants_behind c.args.course.now popped c.leave.new.course (due c.args.first) (goes_on c.in-Some.frame (Went c.in-Went.value)) c.leave.result
-          (comes_by c.args.course.now here (due c.args.first) c.turns.next c.in-Went.value c.in-Some.frame c.pop.new.self c.in-Went.is (search rules) c.turns.invariant.moves) c.leave.ensures.moves;
-      held = c.leave.ensures.held ∙ c.turns.invariant.held;
-    }
-
-pub returns-in_default : goal.returns-in_default
-returns-in_default c = record {
-  moves =
-      wants_behind c.args.course.now c.turns.course c.next_piece-in_default.new.course (due c.args.first) (due c.turns.next) c.next_piece-in_default.result c.turns.invariant.moves
-      c.next_piece-in_default.ensures.moves;
-  held = c.next_piece-in_default.ensures.held ∙ c.turns.invariant.held;
-}
 
 pub turns-preserved : goal.turns-preserved
 turns-preserved c =
@@ -68,6 +45,9 @@ turns-preserved c =
       | in-Went+in-Some-Decide w ↦
           led_by old (popped w.pop.new.self) c.match-next.course was (goes_on (frame.Decide w.in-Some-Decide.test w.in-Some-Decide.body w.in-Some-Decide.turns) (Went w.in-Went.value)) c.match-next.after w.decide.result
           (comes_by old here was c.turns.next w.in-Went.value (frame.Decide w.in-Some-Decide.test w.in-Some-Decide.body w.in-Some-Decide.turns) w.pop.new.self w.in-Went.is (search rules) came) w.after-is (rw w.course-is w.decide.ensures.moves)
+      | in-Went+in-Some w ↦
+          led_by old (popped w.pop.new.self) c.match-next.course was (goes_on w.in-Some.frame (Went w.in-Went.value)) c.match-next.after w.leave_on.result
+          (comes_by old here was c.turns.next w.in-Went.value w.in-Some.frame w.pop.new.self w.in-Went.is (search rules) came) w.after-is (rw w.course-is w.leave_on.ensures.moves)
       | in-Evaluate w ↦
           led_by old here c.match-next.course was (begins (it.Eval w.in-Evaluate.expr)) c.match-next.after w.evaluate-after.result (known old here was c.turns.next (nexts.Evaluate w.in-Evaluate.expr) w.in-Evaluate.is came)
           w.after-is (rw w.course-is w.evaluate-after.ensures.moves)
@@ -81,6 +61,7 @@ turns-preserved c =
       | in-Went+in-Some-Loop w ↦ ap (λ (c : Course). c.held) w.course-is ∙ w.resume_loop.ensures.held
       | in-Went+in-Some-Operands w ↦ ap (λ (c : Course). c.held) w.course-is ∙ w.resume_operand.ensures.held
       | in-Went+in-Some-Decide w ↦ ap (λ (c : Course). c.held) w.course-is ∙ w.decide.ensures.held
+      | in-Went+in-Some w ↦ ap (λ (c : Course). c.held) w.course-is ∙ w.leave_on.ensures.held
       | in-Evaluate w ↦ ap (λ (c : Course). c.held) w.course-is ∙ w.evaluate-after.ensures.held
       | in-Block w ↦ ap (λ (c : Course). c.held) w.course-is ∙ w.block-after.ensures.held
     ] in

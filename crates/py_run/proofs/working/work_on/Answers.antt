@@ -6,7 +6,7 @@ use Rattle.drive_straight.specs.Remains.{begins, goes_on}
 use Rattle.py_run.specs.Turns.{remains}
 use Rattle.drive_straight.specs.declared.course.Course.{Course}
 use Rattle.py_run.proofs.Stepping.{stepped_came, stepped_out}
-use Rattle.py_run.proofs.Leading.{Leads, wanted, leads_by, leads_replied, begins_pushed, comes_on, comes_to, hands_on}
+use Rattle.py_run.proofs.Leading.{LeadsOn, wanted, leads_by, leads_replied, begins_pushed, comes_on, comes_to, hands_on}
 use Rattle.py_run.proofs.working.work_on.Goals as goal
 use Rattle.py_run.proofs.working.work_on.Goals.{in-Go+in-Some, in-Then, in-Both+in-Ok, in-Both+in-Err, in-Pay+else-not-pay, in-Replied+else-not-pay_reply}
 
@@ -17,10 +17,10 @@ turns-init c = record {
 }
 
 pub returns-then-turns-clause-turned : goal.returns-then-turns-clause-turned
-returns-then-turns-clause-turned c = hands_on c.args.course.now.purse (remains c.args.course.now c.args.first) c.turns.course c.turns.want c.turns.invariant.moves
+returns-then-turns-clause-turned c = hands_on c.args.course.now.purse (remains c.args.course.now c.args.first) c.turns.course c.turns.want c.turn_on.result c.turns.invariant.moves c.turn_on.ensures.turned
 
 pub returns-in_default-clause-turned : goal.returns-in_default-clause-turned
-returns-in_default-clause-turned c = hands_on c.args.course.now.purse (remains c.args.course.now c.args.first) c.turns.course c.turns.want c.turns.invariant.moves
+returns-in_default-clause-turned c = hands_on c.args.course.now.purse (remains c.args.course.now c.args.first) c.turns.course c.turns.want c.turn_on-in_default.result c.turns.invariant.moves c.turn_on-in_default.ensures.turned
 
 pub returns-in-None-clause-turned : goal.returns-in-None-clause-turned
 returns-in-None-clause-turned c =
@@ -46,7 +46,7 @@ turns-preserved c =
     let run = remains c.args.course.now c.args.first in
     let course = c.turns.course in
     let came = c.turns.invariant.moves in
-    let led : Leads purse run c.match-want.course c.match-want.next = elim c.match-want.branch [
+    let led : LeadsOn purse run c.match-want.course c.match-want.next = elim c.match-want.branch [
       | in-Go+in-Some w ↦
           let mid : Course = record { purse = course.purse; held = course.held; thread = course.thread; work = w.next_frame.new.work } in
           leads_by purse run course mid c.match-want.course (wants.Go w.in-Go.flow) (goes_on w.in-Some.frame w.in-Go.flow) _ _ (wanted purse run course _ _ w.in-Go.is came)
@@ -57,7 +57,7 @@ turns-preserved c =
           let mid : Course = record { purse = course.purse; held = course.held; thread = course.thread; work = w.push.new.self } in
           leads_by purse run course mid c.match-want.course (wants.Both w.in-Both.item w.in-Both.frame) (begins w.in-Both.item) _ _ (wanted purse run course _ _ w.in-Both.is came)
           (begins_pushed course w.push.new.self w.in-Both.item w.in-Both.frame w.in-Ok.ensures.ok) w.next-is (rw w.course-is w.start.ensures.moves)
-      | in-Both+in-Err w ↦ subst (λ (r : Result Want NoMemory). Leads purse run c.match-want.course r) (sym w.next-is) tt
+      | in-Both+in-Err w ↦ subst (λ (r : Result Want NoMemory). LeadsOn purse run c.match-want.course r) (sym w.next-is) tt
       | in-Pay+else-not-pay w ↦
           let mid : Course = record { purse = w.pay.new.self; held = course.held; thread = course.thread; work = course.work } in
           leads_by purse run course mid c.match-want.course (wants.Pay w.in-Pay.of_tree w.in-Pay.units w.in-Pay.item) (begins w.in-Pay.item) _ _ (wanted purse run course _ _ w.in-Pay.is came)
@@ -75,6 +75,6 @@ turns-preserved c =
       | in-Replied+else-not-pay_reply w ↦ ap (λ (c : Course). c.held) w.course-is
     ] in
     record {
-      moves = subst (λ (r : Result Want NoMemory). Leads purse run c.match-want.course r) c.in-Ok-next.is led;
+      moves = subst (λ (r : Result Want NoMemory). LeadsOn purse run c.match-want.course r) c.in-Ok-next.is led;
       held = kept ∙ c.turns.invariant.held;
     }

@@ -3,11 +3,11 @@ use Rattle.py_frames.specs.declared.work.Item.TheVariants as it
 use Rattle.drive_straight.specs.Remains.{begins, comes}
 use Rattle.drive_straight.specs.declared.course.Course.{Course}
 use Rattle.drive_straight.proofs.Operands.{expression_came, leads_behind}
-use Rattle.drive_straight.proofs.expressions.evaluate.Goals as goal
+use Rattle.drive_straight.proofs.expressions.take.Goals as goal
 
 pub returns-else-not-afford-clause-moves : goal.returns-else-not-afford-clause-moves
 returns-else-not-afford-clause-moves c =
     let old = c.args.course.now in
     let paid : Course = record { purse = c.afford.new.purse; held = old.held; thread = old.thread; work = old.work } in
-    leads_behind old paid c.come.new.course (begins (it.Eval c.args.expr)) (comes c.in-Some.field-0.given) c.come.result
+    leads_behind old paid c.come.new.course (begins (it.Eval c.args.expr)) (comes c.args.expr c.in-Some.field-0.given) c.come.result
     (expression_came old paid c.args.expr c.in-Some.field-0 c.afford.new.purse (c.if-not-afford.ensures.paid refl) (search rules) refl) c.come.ensures.moves
