@@ -8,7 +8,7 @@ use Rattle.program_run.specs.declared.open.Unopened.TheVariants as unopened
 use Rattle.tree_walk.specs.Reading.{IsFile, HasWithin}
 use Rattle.tree_walk.specs.declared.open.Read.{Read}
 use Rattle.program_commands.specs.Opening.{Names, NoTrace, unopened_line}
-use Rattle.program_commands.specs.declared.open_trace.TheConstants.{LONGEST_TRACE}
+use Rattle.program_commands.specs.declared.trace_open.TheConstants.{LONGEST_TRACE}
 
 -- what was read is what the word names, by either name of both
 pub names_by : (tree : Option Files) (word word' : Word) (it it' : Read) → word ≡ word' → it ≡ it' → IfSome tree (λ f. IsFile f LONGEST_TRACE word it) → HasWithin LONGEST_TRACE it → Names tree word' it'

@@ -8,7 +8,7 @@ use Rattle.program_run.specs.declared.open.Unopened.TheVariants as unopened
 use Rattle.tree_walk.specs.Reading.{IsFile, HasWithin}
 use Rattle.tree_walk.specs.declared.open.Read.{Read}
 use Rattle.tree_walk.specs.declared.open.Read.TheVariants as read
-use Rattle.program_commands.specs.declared.open_trace.TheConstants.{LONGEST_TRACE}
+use Rattle.program_commands.specs.declared.trace_open.TheConstants.{LONGEST_TRACE}
 
 -- a stored trace is a file of at most 268,435,456 bytes; a tree that does not tell its files may have any there
 abbrev pub Names : Option Files → Word → Read → Type 0

@@ -9,7 +9,7 @@ ghost use Rattle.program_commands.specs.FolderOpening.{NoFolder};
 ghost use Rattle.program_commands.specs.Telling.{found_status, Ends};
 ghost use Rattle.program_commands.specs.Reporting.{Reports};
 
-use crate::open_folder::open_folder;
+use crate::folder_open::open_folder;
 use crate::telling::{Told, tell_report};
 use base_types::{Text, Texts};
 use import_words::Plan;

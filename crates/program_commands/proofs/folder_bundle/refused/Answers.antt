@@ -1,6 +1,6 @@
 use Rattle.std.proofs.Common.{List, ℕ, [], ◌∷◌, ◌++◌, subst, IfOk}
 use Rattle.std.specs.Prelude.{◌≡◌, codes}
-use Rattle.program_commands.proofs.bundle.refused.Goals as goal
+use Rattle.program_commands.proofs.folder_bundle.refused.Goals as goal
 
 pub returns-clause-leaves : goal.returns-clause-leaves
 returns-clause-leaves g c = λ old new out before after.

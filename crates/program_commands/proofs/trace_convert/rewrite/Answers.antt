@@ -8,7 +8,7 @@ use Rattle.trace_read.specs.Refusing.{IsRefusal}
 use Rattle.trace_read.specs.declared.trace.TraceError.{TraceError}
 use Rattle.trace_text.specs.Trace.{trace}
 use Rattle.program_commands.specs.Converting.{ConvertsText}
-use Rattle.program_commands.proofs.convert.rewrite.Goals as goal
+use Rattle.program_commands.proofs.trace_convert.rewrite.Goals as goal
 
 pub returns-in-Ok-clause-answers : goal.returns-in-Ok-clause-answers
 returns-in-Ok-clause-answers g c = λ old new o n e f.

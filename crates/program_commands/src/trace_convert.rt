@@ -8,8 +8,8 @@ ghost use Rattle.trace_text.specs.Trace.{trace};
 ghost use Rattle.program_commands.specs.Converting.{Converts, ConvertsText};
 ghost use Rattle.program_commands.specs.Opening.{NoTrace};
 
-use crate::open_trace::open_trace;
 use crate::refusal::refusal_line;
+use crate::trace_open::open_trace;
 use base_types::Text;
 use import_words::Plan;
 use machine_desk::{Flow, Outlet};

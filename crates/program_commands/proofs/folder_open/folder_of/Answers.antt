@@ -1,7 +1,7 @@
 use Rattle.std.proofs.Common.{subst, MatchOption}
 use Rattle.base_types.specs.Path.{Path, Spells}
 use Rattle.program_commands.proofs.FolderOpening.{names_by, names_none}
-use Rattle.program_commands.proofs.open_folder.folder_of.Goals as goal
+use Rattle.program_commands.proofs.folder_open.folder_of.Goals as goal
 
 pub returns-in-Some-clause-names : goal.returns-in-Some-clause-names
 returns-in-Some-clause-names g c =

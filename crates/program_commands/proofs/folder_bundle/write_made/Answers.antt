@@ -6,7 +6,7 @@ use Rattle.program_commands.specs.Making.{Packs, Makes}
 use Rattle.program_commands.specs.Bundling.{Bundles}
 use Rattle.program_commands.specs.declared.make.Made.{Made}
 use Rattle.program_commands.proofs.Made.{wrote}
-use Rattle.program_commands.proofs.bundle.write_made.Goals as goal
+use Rattle.program_commands.proofs.folder_bundle.write_made.Goals as goal
 
 pub returns-in-Bytes-clause-answers : goal.returns-in-Bytes-clause-answers
 returns-in-Bytes-clause-answers g c = λ old new makes o n e f.

@@ -2,7 +2,7 @@ use Rattle.std.proofs.Common.{◌≡◌, ◌++◌, ◌∷◌, [], List, ℕ, IfO
 use Rattle.std.specs.Prelude.{codes}
 use Rattle.tree_walk.specs.declared.open.Read.TheVariants as read
 use Rattle.program_commands.proofs.Opening.{names_by, refused_at}
-use Rattle.program_commands.proofs.open_trace.open_trace.Goals as goal
+use Rattle.program_commands.proofs.trace_open.open_trace.Goals as goal
 
 pub returns-in-Ok-Missing-clause-err : goal.returns-in-Ok-Missing-clause-err
 returns-in-Ok-Missing-clause-err g c =

@@ -1,5 +1,5 @@
 use Rattle.std.proofs.Common.{refl, Err, ap}
-use Rattle.program_commands.proofs.bundle.bundle.Goals as goal
+use Rattle.program_commands.proofs.folder_bundle.bundle.Goals as goal
 
 pub returns-in-Ok-clause-answers : goal.returns-in-Ok-clause-answers
 returns-in-Ok-clause-answers g c = c.write_made.ensures.answers _ _ c.in-Ok.ensures.makes refl refl refl refl

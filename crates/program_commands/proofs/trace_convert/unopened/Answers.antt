@@ -2,7 +2,7 @@ use Rattle.std.proofs.Common.{refl, subst}
 use Rattle.program_run.specs.declared.open.Unopened.{Unopened}
 use Rattle.program_commands.specs.Converting.{Converts}
 use Rattle.program_commands.specs.Opening.{NoTrace}
-use Rattle.program_commands.proofs.convert.unopened.Goals as goal
+use Rattle.program_commands.proofs.trace_convert.unopened.Goals as goal
 
 pub returns-in-Refused-clause-answers : goal.returns-in-Refused-clause-answers
 returns-in-Refused-clause-answers g c = λ word old new why out before after.

@@ -3,7 +3,7 @@ use Rattle.std.proofs.lemmas.List.{take_more}
 use Rattle.machine_events.specs.declared.event.Entry.{Entry}
 use Rattle.machine_desk.specs.Outgo.{Kept}
 use Rattle.machine_desk.proofs.Keeping.{kept_none, kept_next}
-use Rattle.program_commands.proofs.convert.put_all.Goals as goal
+use Rattle.program_commands.proofs.trace_convert.put_all.Goals as goal
 
 pub loop-entry-init : goal.loop-entry-init
 loop-entry-init g c = kept_none g.O.Outlet.piece (g.O.Outlet.out c.args.out.now)

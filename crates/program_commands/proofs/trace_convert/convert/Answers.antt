@@ -1,7 +1,7 @@
 use Rattle.std.proofs.Common.{ℕ, List, refl, subst}
 use Rattle.program_run.specs.Sinks.{Moment, at, moment}
 use Rattle.program_commands.specs.Converting.{Converts, ConvertsText}
-use Rattle.program_commands.proofs.convert.convert.Goals as goal
+use Rattle.program_commands.proofs.trace_convert.convert.Goals as goal
 
 pub returns-in-Ok-clause-answers : goal.returns-in-Ok-clause-answers
 returns-in-Ok-clause-answers g c =

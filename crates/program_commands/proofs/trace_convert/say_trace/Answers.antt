@@ -1,7 +1,7 @@
 use Rattle.std.proofs.Common.{true}
 use Rattle.program_run.specs.Sinks.{at}
 use Rattle.program_run.proofs.Leaving.{gets_back}
-use Rattle.program_commands.proofs.convert.say_trace.Goals as goal
+use Rattle.program_commands.proofs.trace_convert.say_trace.Goals as goal
 
 pub returns-clause-gets : goal.returns-clause-gets
 returns-clause-gets g c =

@@ -3,7 +3,7 @@ use Rattle.std.specs.Prelude.{codes}
 use Rattle.base_types.specs.Path.{Path}
 use Rattle.program_commands.specs.FolderOpening.{Names}
 use Rattle.program_commands.proofs.FolderOpening.{refused_at}
-use Rattle.program_commands.proofs.open_folder.open_folder.Goals as goal
+use Rattle.program_commands.proofs.folder_open.open_folder.Goals as goal
 
 pub returns-in-Ok-Some-clause-ok : goal.returns-in-Ok-Some-clause-ok
 returns-in-Ok-Some-clause-ok g c = subst (λ (o : Option Path). Names (g.T.Tree.files c.args.tree.now) c.args.word.now o) c.in-Ok-Some.field-0-is c.in-Ok-Some.ensures.names

@@ -1,7 +1,7 @@
 use Rattle.std.proofs.Common.{◌∙◌, sym, ap}
 use Rattle.program_run.specs.declared.report.Report.{Report}
 use Rattle.program_commands.specs.Bundling.{Bundles}
-use Rattle.program_commands.proofs.bundle.unmade.Goals as goal
+use Rattle.program_commands.proofs.folder_bundle.unmade.Goals as goal
 
 pub returns-in-Failed-clause-answers : goal.returns-in-Failed-clause-answers
 returns-in-Failed-clause-answers g c = λ old new rose out before after.
