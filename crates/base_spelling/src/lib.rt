@@ -10,4 +10,4 @@ mod write;
 pub use decimal::read_number;
 pub use laws::{one_source, one_text};
 pub use read::{read_quoted, read_source};
-pub use write::{put, write_quoted, write_source};
+pub use write::{hex_digit, put, write_quoted, write_source};

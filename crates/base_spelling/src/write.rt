@@ -15,7 +15,8 @@ pub fn put(out: Text, piece: &str) -> Result<Text, NoMemory>
     Ok(out)
 }
 
-fn hex_digit(n: u8) -> &'static str
+/// A hexadecimal digit, in lower case.
+pub fn hex_digit(n: u8) -> &'static str
     requires { n < 16 }
     ensures { result.now ≡ spelling.hex_digit n ∷ [] }
 {

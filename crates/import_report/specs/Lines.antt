@@ -7,7 +7,7 @@ use Rattle.py_value.specs.declared.value.Value.TheVariants as values
 use Rattle.spec_core.specs.Names.{joined}
 use Rattle.tree_files.specs.Files.{Files}
 use Rattle.path_finder.specs.Entries.{text_of}
-use Rattle.value_operators.specs.Texts.{repr_of}
+use Rattle.value_texts.specs.Texts.{repr_of}
 use Rattle.import_report.specs.Meanings.{entries, meaning_of}
 use Rattle.import_report.specs.declared.meaning.Meaning.{Meaning}
 use Rattle.import_report.specs.declared.meaning.Meaning.TheVariants as meaning

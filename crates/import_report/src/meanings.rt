@@ -7,7 +7,7 @@ use crate::{Meaning, entries};
 use base_types::{Exact, NoMemory, Text, Texts};
 use py_value::{Applied, Value};
 use std::alloc::Global;
-use value_operators::repr_of;
+use value_texts::repr_of;
 
 /// Whether a name that means this is found.
 pub fn is_found(means: &Meaning) -> bool

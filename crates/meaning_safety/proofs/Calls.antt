@@ -14,7 +14,7 @@ use Rattle.py_value.specs.declared.value.Value.{Value, out-Value}
 use Rattle.py_value.specs.declared.value.Value.TheVariants as values
 use Rattle.py_value.specs.declared.value.Value.TheOpen.{Value-F}
 use Rattle.value_operators.specs.Items.{length_of}
-use Rattle.value_operators.specs.Texts.{str_of, repr_of}
+use Rattle.value_texts.specs.Texts.{str_of, repr_of}
 use Rattle.spec_core.specs.Identifiers.{is_dotted}
 use Rattle.machine_events.specs.declared.event.Event.TheVariants as e
 use Rattle.machine_shown.specs.Shown.{Shown, shown_more}

@@ -6,7 +6,7 @@ use Rattle.py_value.specs.declared.kind.Kind.TheVariants as kinds
 use Rattle.py_value.specs.declared.value.Value.{Value, out-Value}
 use Rattle.py_value.specs.declared.value.Value.TheVariants as values
 use Rattle.py_value.specs.declared.value.Value.TheOpen.{Value-F}
-use Rattle.value_operators.specs.Texts.{repr_of}
+use Rattle.value_texts.specs.Texts.{repr_of}
 use Rattle.machine_events.specs.declared.event.Event.TheVariants as e
 use Rattle.machine_events.specs.declared.event.Reply.{Reply}
 use Rattle.machine_events.specs.declared.event.Reply.TheVariants as r

@@ -22,7 +22,7 @@ use Rattle.value_operators.specs.Arithmetic as arithmetic
 use Rattle.value_operators.specs.Comparison as comparison
 use Rattle.value_operators.specs.Items as items
 use Rattle.value_operators.specs.Outcomes.{not_in_profile, profile_error, type_error, limited, is_long_text, is_long_list, fitting, number, truth_value, number_of, is_special, is_plain}
-use Rattle.value_operators.specs.Texts as texts
+use Rattle.value_texts.specs.Texts as texts
 use Rattle.machine_shown.specs.Shown.{Shown, is_namespace_path}
 use Rattle.machine_shown.specs.Knowing.{KnowsAll, KnowsItems}
 use Rattle.meaning_safety.specs.Laws.{KnowsApplied, KnowsGiven, OperatorsHold}

@@ -16,7 +16,7 @@ use Rattle.value_operators.specs.Arithmetic.{binary, augmented, negated}
 use Rattle.value_operators.specs.Comparison.{compare, identical}
 use Rattle.value_operators.specs.Items.{contains, subscript}
 use Rattle.value_operators.specs.Outcomes.{limited}
-use Rattle.value_operators.specs.Texts.{str_of, repr_of}
+use Rattle.value_texts.specs.Texts.{str_of, repr_of}
 use Rattle.machine_events.specs.declared.event.Event.{Event}
 use Rattle.machine_events.specs.declared.event.Reply.{Reply}
 use Rattle.machine_shown.specs.Shown.{Shown, shown_more, is_namespace_path}

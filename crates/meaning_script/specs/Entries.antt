@@ -9,7 +9,7 @@ use Rattle.py_value.specs.declared.value.Value.{Value, out-Value}
 use Rattle.py_value.specs.declared.value.Value.TheVariants as values
 use Rattle.py_value.specs.declared.value.Value.TheOpen.{Value-F}
 use Rattle.py_value.specs.declared.value.Value.TheFolds.{fold-Value}
-use Rattle.value_operators.specs.Texts.{repr_of}
+use Rattle.value_texts.specs.Texts.{repr_of}
 use Rattle.spec_core.specs.Identifiers.{is_dotted}
 use Rattle.machine_events.specs.declared.event.Event.TheVariants as e
 use Rattle.machine_events.specs.declared.event.Reply.{Reply}

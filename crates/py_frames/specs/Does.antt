@@ -32,8 +32,8 @@ use Rattle.meaning_script.specs.Imports.{opens}
 use Rattle.meaning_script.specs.Meaning.{World, around_at, inside_at, calls_at, imports_at, bodies_at, starts, loaded, body_gives, ends}
 use Rattle.meaning_script.specs.ImportStatements.{with_module, imports_one, imports_all, imports_front, binds_import, follows_parts, name_of, name_came, submodule_entry, missed, tried_submodule, submodule_came, submodule, submodules, package_came, asks_submodules, binds_item, binds_items, binds_star, binds_stars, public_names, all_came, package_in, optional_name, from_resolved, imported_names, from_import}
 use Rattle.step_package_path.specs.Means.{means as path_means}
-use Rattle.reload_lazy.specs.Rouse.{means as rouse_means}
 use Rattle.reload_lazy.specs.Reload.{means as reload_means}
+use Rattle.run_module.specs.Rouse.{means as rouse_means}
 use Rattle.run_module.specs.Means.{means as program_means}
 use Rattle.run_module.specs.Programs.{program_inside}
 use Rattle.path_finder.specs.Steps.{searches}

@@ -12,7 +12,7 @@ use find_load::In;
 use machine_events::Event;
 use meaning_state::{Flow, Thread};
 use py_value::ModRef;
-use reload_lazy::Rouser;
+use run_module::Rouser;
 use std::alloc::Global;
 
 /// A lazy module is loaded, and then this event is made, whose reply goes on so.

@@ -1,4 +1,2 @@
-pub mod Rouse
-pub mod Rousing
 pub mod Reload
 pub mod Reloading

@@ -1,5 +1,4 @@
-//! The first use of a lazy module, and reloads (`importlib.reload`), as procedures that are fed and that
-//! want.
+//! Reloads (`importlib.reload`), of lazy modules too, as a procedure that is fed and that wants.
 #![tactic(auto)]
 
 mod begins;
@@ -9,12 +8,8 @@ mod locates;
 mod raises;
 mod reload;
 mod reloader;
-mod rouse;
-mod rouser;
 mod takes;
 mod waits;
 
 pub use reload::next as next_of_reload;
 pub use reloader::{Awaited, Finding, ReloadStage, Reloader};
-pub use rouse::next as next_of_rouse;
-pub use rouser::{RouseStage, Rouser};

@@ -6,9 +6,9 @@ use py_value::{Applied, BinOp, CmpOp, Value, nesting, size, truth, type_name};
 use rows_words::{Row, RowError};
 use std::alloc::Global;
 use value_operators::{
-    augmented, binary, compare, contains, identical, length_of, limited, negate, repr_of, str_of,
-    subscript,
+    augmented, binary, compare, contains, identical, length_of, limited, negate, subscript,
 };
+use value_texts::{repr_of, str_of};
 
 /// Texts, lists and tuples that are longer are shown by their length.
 const MOST_SHOWN: usize = 130;

@@ -1,3 +1,5 @@
 pub mod Programs
 pub mod Means
 pub mod UnderWay
+pub mod Rouse
+pub mod Rousing

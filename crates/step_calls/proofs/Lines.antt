@@ -6,7 +6,7 @@ use Rattle.py_value.specs.declared.operator.Applied.{Applied}
 use Rattle.py_value.specs.declared.operator.Applied.TheVariants as applied
 use Rattle.py_value.specs.declared.value.Raised.{Raised as Error}
 use Rattle.py_value.specs.declared.value.Value.{Value}
-use Rattle.value_operators.specs.Texts.{str_of}
+use Rattle.value_texts.specs.Texts.{str_of}
 use Rattle.meaning_script.specs.Calls.{text_of, with_str, strs_of, prints}
 use Rattle.step_calls.specs.Lines.{behind, continued, ended, printed, writes_or_fails}
 

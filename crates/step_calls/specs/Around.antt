@@ -5,7 +5,7 @@ use Rattle.py_value.specs.declared.kind.Native.{Native}
 use Rattle.py_value.specs.declared.value.ModRef.{ModRef}
 use Rattle.py_value.specs.declared.value.Value.{Value, out-Value}
 use Rattle.value_operators.specs.Items.{length_of}
-use Rattle.value_operators.specs.Texts.{str_of, repr_of}
+use Rattle.value_texts.specs.Texts.{str_of, repr_of}
 use Rattle.spec_core.specs.Identifiers.{is_dotted}
 use Rattle.meaning_state.specs.declared.fault.Fault.TheVariants as fault
 use Rattle.meaning_script.specs.Pieces.{Piece, fails, gives}

@@ -4,7 +4,7 @@ use Rattle.py_value.specs.declared.operator.Applied.{Applied}
 use Rattle.py_value.specs.declared.operator.Applied.TheVariants as applied
 use Rattle.py_value.specs.declared.value.Raised.{Raised as Error}
 use Rattle.py_value.specs.declared.value.Value.{Value}
-use Rattle.value_operators.specs.Texts.{str_of}
+use Rattle.value_texts.specs.Texts.{str_of}
 use Rattle.meaning_state.specs.declared.flow.Leave.TheVariants.{Raised}
 use Rattle.meaning_state.specs.declared.flow.Flow.TheVariants.{Left}
 use Rattle.meaning_script.specs.Pieces.{Piece}

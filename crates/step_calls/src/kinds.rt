@@ -12,7 +12,7 @@ use meaning_state::{Fault, Thread};
 use py_frames::{Want, fail, is_listed, only, went};
 use py_value::{Applied, Kind, Raised, Value};
 use std::alloc::Global;
-use value_operators::{repr_of, str_of};
+use value_texts::{repr_of, str_of};
 
 /// An error of the kind with the text.
 fn made_error(alloc: Global, kind: Kind, applied: Applied) -> Result<Applied, NoMemory>

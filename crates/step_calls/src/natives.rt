@@ -16,7 +16,8 @@ use meaning_state::{Fault, Thread};
 use py_frames::{Item, Want, fail, first_listed, is_listed, list_operand, only, went};
 use py_value::{Native, Value, type_of};
 use std::alloc::Global;
-use value_operators::{length_of, repr_of, str_of};
+use value_operators::length_of;
+use value_texts::{repr_of, str_of};
 
 /// `print` of values that are operands.
 #[tactic(auto, using(crate::proofs::Lines::prints_is))]

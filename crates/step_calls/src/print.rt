@@ -1,6 +1,6 @@
 //! `print` (Library Reference, "Built-in Functions").
 ghost use Rattle.std.specs.Prelude.{◌≡◌, ◌++◌, ◌∷◌, [], IfOk, OnOk, Ok};
-ghost use Rattle.value_operators.specs.Texts.{str_of};
+ghost use Rattle.value_texts.specs.Texts.{str_of};
 ghost use Rattle.meaning_script.specs.Calls as spec;
 ghost use Rattle.step_calls.specs.Lines as lines;
 ghost use Rattle.py_frames.specs.Does.{Does, pieces};
@@ -12,7 +12,8 @@ use meaning_state::{Fault, Flow, Leave, Thread};
 use py_frames::{OnReply, Want, fail};
 use py_value::{Applied, Raised, Value};
 use std::alloc::Global;
-use value_operators::{MOST_TEXT, str_of};
+use value_operators::MOST_TEXT;
+use value_texts::str_of;
 
 /// Puts a text behind a blank.
 fn put_behind_blank(line: &mut Text, text: &str) -> Result<(), NoMemory>

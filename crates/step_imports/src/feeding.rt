@@ -15,7 +15,7 @@ use machine_events::Reply;
 use meaning_state::{Flow, Thread};
 use py_frames::{Frame, Item, OnReply, Procedure, Want};
 use py_value::ModRef;
-use reload_lazy::Rouser;
+use run_module::Rouser;
 use spec_core::Dotted;
 use std::alloc::Global;
 use step_package_path::PathReader;

@@ -10,7 +10,7 @@ use meaning_state::{Fault, Thread};
 use py_frames::{Want, fail, went};
 use py_value::{Applied, Kind, Raised, Value};
 use std::alloc::Global;
-use value_operators::repr_of;
+use value_texts::repr_of;
 
 /// The value of an entry, if there is one.
 pub(crate) fn entry_value(slot: Slot) -> Option<Value>

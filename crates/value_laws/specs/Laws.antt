@@ -11,7 +11,7 @@ use Rattle.py_value.specs.declared.operator.CmpOp.TheVariants as ops
 use Rattle.value_operators.specs.Arithmetic.{floor_quotient, floor_remainder}
 use Rattle.value_operators.specs.Comparison.{compare}
 use Rattle.value_operators.specs.Outcomes.{is_plain}
-use Rattle.value_operators.specs.Texts.{str_of}
+use Rattle.value_texts.specs.Texts.{str_of}
 
 -- each kind is itself, what is above a kind above is above, and no two kinds are above one another
 pub record IsOrder : Type 0 where

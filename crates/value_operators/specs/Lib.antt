@@ -1,5 +1,4 @@
 pub mod Outcomes
-pub mod Texts
 pub mod Arithmetic
 pub mod Comparison
 pub mod Items

@@ -60,7 +60,8 @@ pub fn limited(alloc: Global, value: Value) -> Result<Applied, NoMemory>
     Ok(Applied::Value(value))
 }
 
-pub(crate) fn too_long_text(alloc: Global) -> Result<Applied, NoMemory>
+/// The refusal of a text that is too long.
+pub fn too_long_text(alloc: Global) -> Result<Applied, NoMemory>
     ensures { IfOk result (λ applied. applied ≡ profile_error (codes "text too long")) }
 {
     raise(alloc, Kind::ProfileError, "text too long")
@@ -117,7 +118,7 @@ pub(crate) fn bool_number(b: bool) -> i128
 
 /// Whether the value neither is nor holds an error or what stands for something in the machine.
 #[cycle(plain)]
-pub(crate) fn is_plain(value: &Value) -> bool
+pub fn is_plain(value: &Value) -> bool
     ensures { result ≡ is_plain value.now }
 {
     match value {

@@ -1,11 +1,11 @@
 ghost use Rattle.std.specs.Prelude.{◌≡◌, IfOk};
-ghost use Rattle.value_operators.specs.Texts as table;
-ghost use Rattle.value_operators.specs.declared.draft.Draft.TheVariants as drafts;
+ghost use Rattle.value_texts.specs.Texts as table;
+ghost use Rattle.value_texts.specs.declared.draft.Draft.TheVariants as drafts;
 
-use crate::outcome::{MOST_TEXT, too_long_text};
 use base_types::{NoMemory, Text};
 use py_value::{Applied, Value};
 use std::alloc::Global;
+use value_operators::{MOST_TEXT, too_long_text};
 
 /// A text that is being written. Where it has become longer than a text may be, it is let go.
 #[derive(Drop)]

@@ -8,9 +8,9 @@ ghost use Rattle.find_load.specs.declared.words.In.TheVariants as ins;
 ghost use Rattle.meaning_state.specs.declared.fault.Fault.TheVariants as faults;
 ghost use Rattle.meaning_script.specs.Pieces.{fails, passes};
 ghost use Rattle.meaning_script.specs.Lazy.{rouses};
-ghost use Rattle.reload_lazy.specs.Rouse.{RouseGoes, means};
-ghost use Rattle.reload_lazy.specs.Rousing.{again, does_at, goes_on_by};
-ghost use Rattle.reload_lazy.specs.declared.rouser.RouseStage.TheVariants as stages;
+ghost use Rattle.run_module.specs.Rouse.{RouseGoes, means};
+ghost use Rattle.run_module.specs.Rousing.{again, does_at, goes_on_by};
+ghost use Rattle.run_module.specs.declared.rouser.RouseStage.TheVariants as stages;
 
 use crate::rouser::{RouseStage, Rouser};
 use base_types::{Exact, NoMemory, Seq};

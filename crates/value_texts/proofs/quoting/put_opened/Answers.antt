@@ -3,11 +3,11 @@ use Rattle.std.specs.List.{flat_map}
 use Rattle.std.specs.Str.{IsCharBoundary}
 use Rattle.std.proofs.lemmas.Bool.{cases_lt}
 use Rattle.std.proofs.lemmas.Str.{IsCharBoundary-start, IsCharBoundary-after_ascii}
-use Rattle.value_operators.specs.Texts.{put, quote_byte, is_escaped, escape, escaped}
-use Rattle.value_operators.proofs.Drafts.{put_put}
-use Rattle.value_operators.proofs.Escapes.{ascii, run_step, run_end}
-use Rattle.value_operators.proofs.quoting.put_opened.Goals as goal
-use Rattle.value_operators.proofs.quoting.put_opened.Goals.{then-is_escaped+in_ok-draft-2, else-is_escaped}
+use Rattle.value_texts.specs.Texts.{put, quote_byte, is_escaped, escape, escaped}
+use Rattle.value_texts.proofs.Drafts.{put_put}
+use Rattle.value_texts.proofs.Escapes.{ascii, run_step, run_end}
+use Rattle.value_texts.proofs.quoting.put_opened.Goals as goal
+use Rattle.value_texts.proofs.quoting.put_opened.Goals.{then-is_escaped+in_ok-draft-2, else-is_escaped}
 
 pub loop-i-init : goal.loop-i-init
 loop-i-init c = record {

@@ -1,9 +1,9 @@
 use Rattle.std.proofs.Common.{sym, subst, refl}
 use Rattle.find_load.specs.Means.{wants}
-use Rattle.reload_lazy.specs.Rouse.{RouseGoes}
-use Rattle.reload_lazy.specs.Rousing.{goes_on_by}
-use Rattle.reload_lazy.specs.declared.rouser.RouseStage.{RouseStage}
-use Rattle.reload_lazy.proofs.rouse.wait_for.Goals as goal
+use Rattle.run_module.specs.Rouse.{RouseGoes}
+use Rattle.run_module.specs.Rousing.{goes_on_by}
+use Rattle.run_module.specs.declared.rouser.RouseStage.{RouseStage}
+use Rattle.run_module.proofs.rouse.wait_for.Goals as goal
 
 pub returns : goal.returns
 returns c =

@@ -1,8 +1,8 @@
 use Rattle.std.proofs.Common.{◌≡◌, ◌∷◌, ◌<◌, ◌≤◌, ℕ, take, get_or, false}
 use Rattle.std.specs.List.{flat_map}
 use Rattle.std.specs.Str.{IsCharBoundary}
-use Rattle.value_operators.specs.Texts.{put, quote_byte, is_escaped, escaped}
-use Rattle.value_operators.proofs.quoting.put_opened.Given as goal
+use Rattle.value_texts.specs.Texts.{put, quote_byte, is_escaped, escaped}
+use Rattle.value_texts.proofs.quoting.put_opened.Given as goal
 
 abbrev pub invariant-loop-i : goal.invariant-loop-i
 invariant-loop-i l = record {

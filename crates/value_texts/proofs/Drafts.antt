@@ -1,9 +1,9 @@
 -- Two pieces that are put one after the other are one piece.
 use Rattle.std.proofs.Common.{◌≡◌, ◌∙◌, refl, sym, ap, ℕ, ◌<◌, ◌≤◌, List, ◌++◌, append_assoc, length, length-append, inl, inr, arith}
 use Rattle.std.proofs.lemmas.Bool.{cases_lt}
-use Rattle.value_operators.specs.declared.draft.Draft.{Draft}
-use Rattle.value_operators.specs.declared.draft.Draft.TheVariants as drafts
-use Rattle.value_operators.specs.Texts.{put}
+use Rattle.value_texts.specs.declared.draft.Draft.{Draft}
+use Rattle.value_texts.specs.declared.draft.Draft.TheVariants as drafts
+use Rattle.value_texts.specs.Texts.{put}
 
 pub over : (text piece : List ℕ) → 65536 < length (text ++ piece) → put (drafts.Within text) piece ≡ drafts.Over
 over text piece h = grind arith

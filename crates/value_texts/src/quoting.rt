@@ -1,8 +1,10 @@
-ghost use Rattle.std.specs.Prelude.{◌≡◌, ◌∷◌, [], ◌++◌, ◌<◌, ◌/◌, ◌%◌, codes, IfOk};
+ghost use Rattle.std.specs.Prelude.{◌≡◌, ◌∷◌, [], ◌++◌, ◌/◌, ◌%◌, codes, IfOk};
 ghost use Rattle.std.specs.List.{flat_map};
-ghost use Rattle.value_operators.specs.Texts as table;
+ghost use Rattle.base_spelling.specs.Spelling.{hex_digit};
+ghost use Rattle.value_texts.specs.Texts as table;
 
 use crate::draft::{Draft, put};
+use base_spelling::hex_digit;
 use base_types::NoMemory;
 
 /// What a text is written between.
@@ -47,30 +49,6 @@ fn quote_of(text: &[u8]) -> Quote
     Quote::Single
 }
 
-fn hex_digit(n: u8) -> &'static str
-    requires { n < 16 }
-    ensures { result.now ≡ table.hex_digit n ∷ [] }
-{
-    match n {
-        0 => "0",
-        1 => "1",
-        2 => "2",
-        3 => "3",
-        4 => "4",
-        5 => "5",
-        6 => "6",
-        7 => "7",
-        8 => "8",
-        9 => "9",
-        10 => "a",
-        11 => "b",
-        12 => "c",
-        13 => "d",
-        14 => "e",
-        _ => "f",
-    }
-}
-
 fn is_escaped(quote: Quote, b: u8) -> bool
     ensures { result ≡ table.is_escaped (table.quote_byte quote) b }
 {
@@ -80,7 +58,7 @@ fn is_escaped(quote: Quote, b: u8) -> bool
 #[tactic(auto, using(crate::proofs::Drafts::put_put))]
 fn put_hex(draft: Draft, b: u8) -> Result<Draft, NoMemory>
     ensures { IfOk result (λ it. it ≡ table.put draft (codes "\\x"
-        ++ (table.hex_digit (b / 16) ∷ table.hex_digit (b % 16) ∷ []))) }
+        ++ (hex_digit (b / 16) ∷ hex_digit (b % 16) ∷ []))) }
 {
     let draft = put(draft, "\\x")?;
     let draft = put(draft, hex_digit(b / 16))?;

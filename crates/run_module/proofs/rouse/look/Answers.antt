@@ -2,8 +2,8 @@ use Rattle.std.proofs.Common.{◌∙◌, sym, ap, ℕ, ◌-◌}
 use Rattle.machine_events.specs.declared.event.Event.TheVariants as e
 use Rattle.meaning_script.specs.Pieces.{calls}
 use Rattle.meaning_script.specs.Lazy.{rouses, rousing}
-use Rattle.reload_lazy.proofs.Turns.{rouses_more}
-use Rattle.reload_lazy.proofs.rouse.look.Goals as goal
+use Rattle.run_module.proofs.Turns.{rouses_more}
+use Rattle.run_module.proofs.rouse.look.Goals as goal
 
 pub returns : goal.returns
 returns c =

@@ -5,8 +5,8 @@ use Rattle.std.proofs.lemmas.List.{take_more, map_push, append-nil, length-map, 
 use Rattle.std.specs.List.{flat_map}
 use Rattle.py_value.specs.declared.value.Value.{Value}
 use Rattle.py_value.specs.declared.value.Value.TheVariants as values
-use Rattle.value_operators.specs.declared.draft.Draft.TheVariants as drafts
-use Rattle.value_operators.specs.Texts.{with_commas, comma_before, repr_text}
+use Rattle.value_texts.specs.declared.draft.Draft.TheVariants as drafts
+use Rattle.value_texts.specs.Texts.{with_commas, comma_before, repr_text}
 
 more : (texts : List (List ℕ)) (text : List ℕ) → with_commas (texts ++ text ∷ []) ≡ with_commas texts ++ (comma_before (length texts) ++ text)
 more [] text = append-nil text

@@ -4,9 +4,9 @@ use Rattle.std.proofs.lemmas.Grind.{flat_map-append}
 use Rattle.std.proofs.lemmas.List.{take_more, get_or-drop, get_or-take, take-append-drop, append-nil}
 use Rattle.std.proofs.Math.Seq.{take-add}
 use Rattle.std.specs.List.{flat_map}
-use Rattle.value_operators.specs.declared.quoting.Quote.{Quote}
-use Rattle.value_operators.specs.declared.quoting.Quote.TheVariants as quotes
-use Rattle.value_operators.specs.Texts.{quote_byte, is_escaped, escape, escaped}
+use Rattle.value_texts.specs.declared.quoting.Quote.{Quote}
+use Rattle.value_texts.specs.declared.quoting.Quote.TheVariants as quotes
+use Rattle.value_texts.specs.Texts.{quote_byte, is_escaped, escape, escaped}
 
 -- what is escaped is ASCII
 pub ascii : (quote : Quote) (b : ℕ) → is_escaped (quote_byte quote) b ≡ true → b < 128

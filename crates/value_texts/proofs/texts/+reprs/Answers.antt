@@ -1,8 +1,8 @@
 use Rattle.std.proofs.Common.{◌≡◌, ◌∙◌, sym, ap, ◌++◌, append_assoc, map, take, ◌+◌}
-use Rattle.value_operators.specs.Texts.{put, with_commas, comma_before, repr_text}
-use Rattle.value_operators.proofs.Commas.{commas_more}
-use Rattle.value_operators.proofs.Drafts.{put_put}
-use Rattle.value_operators.proofs.texts.+reprs.Goals as goal
+use Rattle.value_texts.specs.Texts.{put, with_commas, comma_before, repr_text}
+use Rattle.value_texts.proofs.Commas.{commas_more}
+use Rattle.value_texts.proofs.Drafts.{put_put}
+use Rattle.value_texts.proofs.texts.+reprs.Goals as goal
 
 pub put_items-loop-n-preserved : goal.put_items-loop-n-preserved
 put_items-loop-n-preserved t c =

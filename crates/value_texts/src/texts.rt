@@ -3,14 +3,14 @@ ghost use Rattle.std.specs.Fmt.{signed_decimal};
 ghost use Rattle.py_value.specs.Names.{kind_name};
 ghost use Rattle.py_value.specs.declared.value.Value.TheVariants as values;
 ghost use Rattle.value_operators.specs.Outcomes.{limited};
-ghost use Rattle.value_operators.specs.Texts as table;
+ghost use Rattle.value_texts.specs.Texts as table;
 
 use crate::draft::{Draft, finished, put};
-use crate::outcome::{MOST_TEXT, is_plain, not_in_profile, too_long_text};
 use crate::quoting::put_quoted;
 use base_types::{Exact, NoMemory, Text};
 use py_value::{Applied, Items, Kind, ModRef, Native, Place, Value};
 use std::alloc::Global;
+use value_operators::{MOST_TEXT, is_plain, not_in_profile, too_long_text};
 
 fn put_bool(draft: Draft, b: bool) -> Result<Draft, NoMemory>
     ensures { IfOk result (λ it. it ≡ table.put draft (table.bool_text b)) }

@@ -9,9 +9,9 @@ use Rattle.find_load.specs.Means.{GoesOn}
 use Rattle.find_load.specs.declared.words.In.{In}
 use Rattle.find_load.specs.declared.words.In.TheVariants as given
 use Rattle.find_load.specs.declared.words.Want.{Want}
-use Rattle.reload_lazy.specs.declared.rouser.RouseStage.{RouseStage}
-use Rattle.reload_lazy.specs.declared.rouser.RouseStage.TheVariants as stage
-use Rattle.reload_lazy.specs.declared.rouser.Rouser.{Rouser}
+use Rattle.run_module.specs.declared.rouser.RouseStage.{RouseStage}
+use Rattle.run_module.specs.declared.rouser.RouseStage.TheVariants as stage
+use Rattle.run_module.specs.declared.rouser.Rouser.{Rouser}
 
 -- from a stage on, by what is fed, where so many more turns may follow
 abbrev pub does : Body → ℕ → ModRef → RouseStage → In → Piece

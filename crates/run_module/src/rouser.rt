@@ -1,7 +1,7 @@
 //! The first use of a lazy module.
 ghost use Rattle.std.specs.Prelude.{◌≡◌};
 ghost use Rattle.meaning_script.specs.Pieces as pieces;
-ghost use Rattle.reload_lazy.specs.declared.rouser.RouseStage.TheVariants as stages;
+ghost use Rattle.run_module.specs.declared.rouser.RouseStage.TheVariants as stages;
 
 use find_load::most;
 use meaning_state::Flow;

@@ -3,9 +3,9 @@ use Rattle.meaning_script.specs.Pieces.{Piece}
 use Rattle.meaning_script.specs.Lazy.{rouses}
 use Rattle.meaning_script.specs.Imports.{Inside}
 use Rattle.find_load.specs.declared.words.In.{In}
-use Rattle.reload_lazy.specs.Rouse.{does}
-use Rattle.reload_lazy.specs.declared.rouser.RouseStage.{RouseStage}
-use Rattle.reload_lazy.specs.declared.rouser.Rouser.{Rouser}
+use Rattle.run_module.specs.Rouse.{does}
+use Rattle.run_module.specs.declared.rouser.RouseStage.{RouseStage}
+use Rattle.run_module.specs.declared.rouser.Rouser.{Rouser}
 
 -- what it does at a stage by what it is fed
 abbrev pub does_at : Rouser → RouseStage → In → Inside → Piece

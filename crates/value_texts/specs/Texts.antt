@@ -1,7 +1,8 @@
 -- `str` and `repr` (Library Reference, "Built-in Functions" and "Text Sequence Type").
-use Rattle.std.specs.Prelude.{ℕ, zero, suc, ◌+◌, ◌/◌, ◌%◌, List, [], ◌∷◌, ◌++◌, length, codes, Bool, true, false, nat_lt, ◌==◌, ◌&&◌, ◌||◌, not, if◌then◌else◌}
+use Rattle.std.specs.Prelude.{ℕ, zero, suc, ◌/◌, ◌%◌, List, [], ◌∷◌, ◌++◌, length, codes, Bool, true, false, nat_lt, ◌==◌, ◌&&◌, ◌||◌, not, if◌then◌else◌}
 use Rattle.std.specs.List.{flat_map, list_any, join_by}
 use Rattle.std.specs.Fmt.{signed_decimal}
+use Rattle.base_spelling.specs.Spelling.{hex_digit}
 use Rattle.py_value.specs.declared.kind.Native.{Native}
 use Rattle.py_value.specs.declared.kind.Native.TheVariants as natives
 use Rattle.py_value.specs.declared.value.Place.{Place}
@@ -13,10 +14,10 @@ use Rattle.py_value.specs.declared.value.Value.TheFolds.{fold-Value}
 use Rattle.py_value.specs.declared.operator.Applied.{Applied}
 use Rattle.py_value.specs.declared.operator.Applied.TheVariants as applied
 use Rattle.py_value.specs.Names.{kind_name, native_name}
-use Rattle.value_operators.specs.declared.draft.Draft.{Draft}
-use Rattle.value_operators.specs.declared.draft.Draft.TheVariants as drafts
-use Rattle.value_operators.specs.declared.quoting.Quote.{Quote}
-use Rattle.value_operators.specs.declared.quoting.Quote.TheVariants as quotes
+use Rattle.value_texts.specs.declared.draft.Draft.{Draft}
+use Rattle.value_texts.specs.declared.draft.Draft.TheVariants as drafts
+use Rattle.value_texts.specs.declared.quoting.Quote.{Quote}
+use Rattle.value_texts.specs.declared.quoting.Quote.TheVariants as quotes
 use Rattle.value_operators.specs.Outcomes.{not_in_profile, profile_error, is_plain, limited}
 
 -- whether the byte stands anywhere in the text
@@ -31,10 +32,6 @@ quote_byte quotes.Double = 34
 -- `"` where the text holds `'` and no `"`, and else `'`
 abbrev pub quote_of : List ℕ → Quote
 quote_of text = if has_byte 39 text && not (has_byte 34 text) then quotes.Double else quotes.Single
-
--- for a number below 16: 0 to 9, and a to f in lower case
-abbrev pub hex_digit : ℕ → ℕ
-hex_digit n = if nat_lt n 10 then 48 + n else 87 + n
 
 -- backslash, the quote, and the control characters of ASCII
 abbrev pub is_escaped : ℕ → ℕ → Bool
