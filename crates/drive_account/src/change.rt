@@ -51,7 +51,26 @@ pub fn change_of(event: &Event) -> Result<Change, NoMemory>
             mid: *mid,
             load: *load,
         })),
-        _ => Ok(Change::Nothing),
+        Event::Ask(_)
+        | Event::Wake
+        | Event::GetVar { .. }
+        | Event::SetVar { .. }
+        | Event::DelVar { .. }
+        | Event::Names(_)
+        | Event::Source(_)
+        | Event::Print(_)
+        | Event::PathGet
+        | Event::PathAdd { .. }
+        | Event::DirGet { .. }
+        | Event::DirSet { .. }
+        | Event::Invalidate
+        | Event::NsGet(_)
+        | Event::NsSet { .. }
+        | Event::TabGet(_)
+        | Event::TabSet { .. }
+        | Event::TabDel(_)
+        | Event::Main { .. }
+        | Event::End { .. } => Ok(Change::Nothing),
     }
 }
 

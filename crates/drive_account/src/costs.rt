@@ -46,6 +46,30 @@ pub fn reply_units(reply: &Reply) -> u64
         Reply::Ns(state, _) => {
             items_size(state.parent_path()).saturating_add(texts_size(state.portions()))
         }
-        _ => 0,
+        Reply::Module(_)
+        | Reply::Cycle(_)
+        | Reply::Halted
+        | Reply::Missing
+        | Reply::Deadlock
+        | Reply::Wait(_)
+        | Reply::Mine(_)
+        | Reply::Woken
+        | Reply::Load(_, _)
+        | Reply::Kept(_)
+        | Reply::Lost
+        | Reply::LostParent
+        | Reply::Unset(_)
+        | Reply::Sleeping
+        | Reply::Fixed
+        | Reply::Full
+        | Reply::Slot(_)
+        | Reply::Was(_)
+        | Reply::NotThere
+        | Reply::Busy(_)
+        | Reply::Begun(_)
+        | Reply::NoListing
+        | Reply::Listing(_, _, _)
+        | Reply::Ready
+        | Reply::Done => 0,
     }
 }

@@ -87,7 +87,35 @@ fn has_begun(reply: &Reply) -> bool
     match reply {
         Reply::Load(_, _) => true,
         Reply::Yours(_, _) => true,
-        _ => false,
+        Reply::Module(_)
+        | Reply::Cycle(_)
+        | Reply::Halted
+        | Reply::Missing
+        | Reply::Deadlock
+        | Reply::Wait(_)
+        | Reply::Mine(_)
+        | Reply::Woken
+        | Reply::Kept(_)
+        | Reply::Lost
+        | Reply::LostParent
+        | Reply::Value(_)
+        | Reply::Unset(_)
+        | Reply::Sleeping
+        | Reply::Fixed
+        | Reply::Names(_)
+        | Reply::Loaded(_, _)
+        | Reply::Path(_)
+        | Reply::Full
+        | Reply::Ns(_, _)
+        | Reply::Slot(_)
+        | Reply::Was(_)
+        | Reply::NotThere
+        | Reply::Busy(_)
+        | Reply::Begun(_)
+        | Reply::NoListing
+        | Reply::Listing(_, _, _)
+        | Reply::Ready
+        | Reply::Done => false,
     }
 }
 
@@ -97,7 +125,33 @@ fn is_end(event: &Event) -> bool
     match event {
         Event::Finish { .. } => true,
         Event::ReloadEnd { .. } => true,
-        _ => false,
+        Event::Ask(_)
+        | Event::Take(_)
+        | Event::Wake
+        | Event::Add { .. }
+        | Event::Release(_)
+        | Event::GetVar { .. }
+        | Event::SetVar { .. }
+        | Event::DelVar { .. }
+        | Event::Names(_)
+        | Event::Source(_)
+        | Event::Print(_)
+        | Event::PathGet
+        | Event::PathAdd { .. }
+        | Event::DirGet { .. }
+        | Event::DirSet { .. }
+        | Event::Invalidate
+        | Event::NsGet(_)
+        | Event::NsSet { .. }
+        | Event::TabGet(_)
+        | Event::TabSet { .. }
+        | Event::TabDel(_)
+        | Event::ReloadBegin { .. }
+        | Event::ReloadTake { .. }
+        | Event::AddLazy { .. }
+        | Event::Rouse(_)
+        | Event::Main { .. }
+        | Event::End { .. } => false,
     }
 }
 
@@ -144,6 +198,31 @@ pub(crate) fn begins(state: &State, event: &Event) -> Result<Option<Dotted>, NoM
         Event::Add { spec, .. } => some(spec.name()),
         Event::ReloadTake { spec, .. } => some(spec.name()),
         Event::Rouse(mid) => name_of(state, *mid),
-        _ => Ok(None),
+        Event::Ask(_)
+        | Event::Take(_)
+        | Event::Wake
+        | Event::Finish { .. }
+        | Event::Release(_)
+        | Event::GetVar { .. }
+        | Event::SetVar { .. }
+        | Event::DelVar { .. }
+        | Event::Names(_)
+        | Event::Source(_)
+        | Event::Print(_)
+        | Event::PathGet
+        | Event::PathAdd { .. }
+        | Event::DirGet { .. }
+        | Event::DirSet { .. }
+        | Event::Invalidate
+        | Event::NsGet(_)
+        | Event::NsSet { .. }
+        | Event::TabGet(_)
+        | Event::TabSet { .. }
+        | Event::TabDel(_)
+        | Event::ReloadBegin { .. }
+        | Event::ReloadEnd { .. }
+        | Event::AddLazy { .. }
+        | Event::Main { .. }
+        | Event::End { .. } => Ok(None),
     }
 }

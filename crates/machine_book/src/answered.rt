@@ -23,7 +23,27 @@ fn only_reads(event: &Event) -> bool
         | Event::DirGet { .. }
         | Event::NsGet(_)
         | Event::TabGet(_) => true,
-        _ => false,
+        Event::Ask(_)
+        | Event::Take(_)
+        | Event::Wake
+        | Event::Add { .. }
+        | Event::Finish { .. }
+        | Event::Release(_)
+        | Event::SetVar { .. }
+        | Event::DelVar { .. }
+        | Event::PathAdd { .. }
+        | Event::DirSet { .. }
+        | Event::Invalidate
+        | Event::NsSet { .. }
+        | Event::TabSet { .. }
+        | Event::TabDel(_)
+        | Event::ReloadBegin { .. }
+        | Event::ReloadTake { .. }
+        | Event::ReloadEnd { .. }
+        | Event::AddLazy { .. }
+        | Event::Rouse(_)
+        | Event::Main { .. }
+        | Event::End { .. } => false,
     }
 }
 

@@ -36,6 +36,31 @@ pub fn gives<'a>(machine: &'a State, event: &'a Event) -> Option<&'a Dotted>
         Event::Release(name) => Some(name),
         Event::AddLazy { spec, .. } => Some(spec.name()),
         Event::ReloadEnd { mid, load: Some(_) } => name_of(machine, *mid),
-        _ => None,
+        Event::Ask(_)
+        | Event::Take(_)
+        | Event::Wake
+        | Event::Add { .. }
+        | Event::GetVar { .. }
+        | Event::SetVar { .. }
+        | Event::DelVar { .. }
+        | Event::Names(_)
+        | Event::Source(_)
+        | Event::Print(_)
+        | Event::PathGet
+        | Event::PathAdd { .. }
+        | Event::DirGet { .. }
+        | Event::DirSet { .. }
+        | Event::Invalidate
+        | Event::NsGet(_)
+        | Event::NsSet { .. }
+        | Event::TabGet(_)
+        | Event::TabSet { .. }
+        | Event::TabDel(_)
+        | Event::ReloadBegin { .. }
+        | Event::ReloadTake { .. }
+        | Event::ReloadEnd { mid: _, load: None }
+        | Event::Rouse(_)
+        | Event::Main { .. }
+        | Event::End { .. } => None,
     }
 }

@@ -16,7 +16,35 @@ fn begins_body(reply: &Reply) -> bool
     match reply {
         Reply::Load(_, _) => true,
         Reply::Yours(_, _) => true,
-        _ => false,
+        Reply::Module(_)
+        | Reply::Cycle(_)
+        | Reply::Halted
+        | Reply::Missing
+        | Reply::Deadlock
+        | Reply::Wait(_)
+        | Reply::Mine(_)
+        | Reply::Woken
+        | Reply::Kept(_)
+        | Reply::Lost
+        | Reply::LostParent
+        | Reply::Value(_)
+        | Reply::Unset(_)
+        | Reply::Sleeping
+        | Reply::Fixed
+        | Reply::Names(_)
+        | Reply::Loaded(_, _)
+        | Reply::Path(_)
+        | Reply::Full
+        | Reply::Ns(_, _)
+        | Reply::Slot(_)
+        | Reply::Was(_)
+        | Reply::NotThere
+        | Reply::Busy(_)
+        | Reply::Begun(_)
+        | Reply::NoListing
+        | Reply::Listing(_, _, _)
+        | Reply::Ready
+        | Reply::Done => false,
     }
 }
 
