@@ -2,7 +2,6 @@
 //! wants.
 #![tactic(auto)]
 
-mod files;
 mod import;
 mod loads;
 mod locates;
@@ -12,7 +11,6 @@ mod steps;
 mod waits;
 mod words;
 
-pub use files::path_of;
 pub use import::{Importer, Stage, most};
 pub use raises::parent_of;
 pub use steps::next;

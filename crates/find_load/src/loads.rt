@@ -7,7 +7,6 @@ ghost use Rattle.find_load.specs.UnderWay.{again, does_at, within};
 ghost use Rattle.find_load.specs.declared.import.Stage.TheVariants as stages;
 ghost use Rattle.find_load.specs.declared.words.In.TheVariants as ins;
 
-use crate::files::path_of;
 use crate::import::{Importer, Stage};
 use crate::looks::{answer, ask};
 use crate::raises::{
@@ -18,7 +17,7 @@ use crate::words::Want;
 use base_types::{Exact, NoMemory, Seq, Texts, TreePath};
 use machine_events::{Event, Reply};
 use meaning_state::{Fault, Flow};
-use path_finder::Found;
+use path_finder::{Found, path_of};
 use py_value::{Items, NsState};
 use spec_core::{Spec, SpecKind};
 

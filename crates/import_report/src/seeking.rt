@@ -3,7 +3,6 @@ ghost use Rattle.std.specs.Prelude.{◌≡◌, ◌≤◌, IfOk, IsErrOf, OnOk, [
 ghost use Rattle.std.specs.Option.{ForSome};
 ghost use Rattle.tree_files.specs.Count.{Rose};
 ghost use Rattle.tree_files.specs.Files.{node_at, is_dir, is_file};
-ghost use Rattle.path_finder.specs.Entries.{path_of};
 ghost use Rattle.path_finder.specs.Find.{find, answer, module_file};
 ghost use Rattle.import_report.specs.Meanings.{entries};
 ghost use Rattle.path_finder.specs.declared.words.Found.{Found};
@@ -12,7 +11,7 @@ ghost use Rattle.import_report.specs.Seeking as spec;
 use crate::offers::{Offer, either};
 use crate::wanted::Wanted;
 use base_types::{Exact, NoMemory, Text, Texts, TreePath};
-use path_finder::Found;
+use path_finder::{Found, path_of};
 use spec_core::{Dotted, Spec, SpecKind};
 use tree_files::{Stamp, Tree, TreeFault};
 
@@ -196,13 +195,6 @@ fn offer_at<T: Tree>(
         }
         None => Ok(Offer::Nothing),
     }
-}
-
-/// The tree path that an entry of the path spells.
-fn path_of(entry: &Text) -> Result<Option<TreePath>, NoMemory>
-    ensures { IfOk result (λ it. it ≡ path_of entry.now) }
-{
-    TreePath::read(entry)
 }
 
 /// What an entry of the path has for what is wanted.

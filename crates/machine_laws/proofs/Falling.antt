@@ -4,6 +4,7 @@ use Rattle.std.specs.Prelude.{◌==◌, ◌↔◌, slice_get, IsTrue, option_and
 use Rattle.std.specs.Option.{option_map}
 use Rattle.std.specs.FinMap.{get}
 use Rattle.std.proofs.lemmas.Bool.{and_parts, false≢true, eqb-true}
+use Rattle.std.proofs.lemmas.Option.{same_Some}
 use Rattle.machine_events.specs.declared.event.Event.{Event}
 use Rattle.machine_events.specs.declared.event.Event.TheVariants as events
 use Rattle.machine_events.specs.declared.event.Entry.{Entry}
@@ -34,9 +35,6 @@ use Rattle.machine_laws.proofs.Same.{map_at}
 use Rattle.machine_laws.specs.Counts.{count_of, Falls}
 use Rattle.machine_laws.proofs.Tables.{count, given_here, given_falls}
 use Rattle.machine_laws.proofs.Rising.{quiet, asks, takes, begins_on, takes_again, rouses}
-
-same_some : {X : Type 0} (x y : X) → Some x ≡ Some y → x ≡ y
-same_some x y e = cc
 
 -- the name whose lock a load or a reload gives back at its end
 module _ (s : State) where
@@ -122,7 +120,7 @@ module _ (s : State) (sound : IsSound s) (t : ℕ) where
       → suc (count (finish_object s t load good l o).1.locks n) ≡ count s.locks n
   finish_object_by_one load good l None n is is_object can names = absurd (let none : name_of s l.mid ≡ None = ap (option_map (λ (x : Object). x.spec.name)) is_object in let e : None ≡ Some n = sym none ∙ names in cc)
   finish_object_by_one load good l (Some o) n is is_object can names =
-      let same : o.spec.name ≡ n = same_some o.spec.name n (sym (named s l.mid o is_object) ∙ names) in
+      let same : o.spec.name ≡ n = same_Some o.spec.name n (sym (named s l.mid o is_object) ∙ names) in
       let kept : (finish_entry s l.kind good o.spec.name).1.locks ≡ s.locks = ap (λ (b : Bones). b.locks) (finishes_entry s t l.kind good o.spec.name) in
       subst (λ z. suc (count (given z t o.spec.name) n) ≡ count s.locks n) (sym kept)
       (subst (λ k. suc (count (given s.locks t o.spec.name) k) ≡ count s.locks k) same
@@ -158,7 +156,7 @@ module _ (s : State) (sound : IsSound s) (t : ℕ) where
   leave_by_one mid load None n is h names = absurd (false≢true h)
   leave_by_one mid None (Some o) n is h names = absurd (cc names)
   leave_by_one mid (Some load) (Some o) n is h names =
-      let same : o.spec.name ≡ n = same_some o.spec.name n (sym (named s mid o is) ∙ names) in
+      let same : o.spec.name ≡ n = same_Some o.spec.name n (sym (named s mid o is) ∙ names) in
       subst (λ k. suc (count (given s.locks t o.spec.name) k) ≡ count s.locks k) same
       (given_here s.locks t o.spec.name (leave_holds mid o.spec.name load (get s.table.reloading o.spec.name) refl h))
 
@@ -169,9 +167,9 @@ module _ (s : State) (sound : IsSound s) (t : ℕ) where
 
   pub gives_one : (e : Event) (n : List ℕ) → IsTrue (allowed s t e) → gives s e ≡ Some n → suc (count_of (step s t e).1 n) ≡ count_of s n
   gives_one (events.Finish load good) n h names = finish_by_one load good (slice_get s.table.loads load) n refl (fitting s t (events.Finish load good) h refl) names
-  gives_one (events.Release m) n h names = spare_by_one m n (fitting s t (events.Release m) h refl) (same_some m n names)
+  gives_one (events.Release m) n h names = spare_by_one m n (fitting s t (events.Release m) h refl) (same_Some m n names)
   gives_one (events.AddLazy spec text) n h names =
-      spare_by_one spec.name n (and_parts (has_spare s t spec.name) (has_body spec.kind) (fitting s t (events.AddLazy spec text) h refl)).0 (same_some spec.name n names)
+      spare_by_one spec.name n (and_parts (has_spare s t spec.name) (has_body spec.kind) (fitting s t (events.AddLazy spec text) h refl)).0 (same_Some spec.name n names)
   gives_one (events.ReloadEnd mid load) n h names = leave_by_one mid load (slice_get s.table.objects mid) n refl (fitting s t (events.ReloadEnd mid load) h refl) names
   gives_one e n h names = absurd (cc names)
 

@@ -12,9 +12,9 @@ use crate::reloader::{Awaited, Finding, Reloader};
 use crate::takes::take_first;
 use crate::waits::wait_for;
 use base_types::{Exact, NoMemory, Seq, TreePath};
-use find_load::{Want, path_of};
+use find_load::Want;
 use meaning_state::Fault;
-use path_finder::Found;
+use path_finder::{Found, path_of};
 use py_value::Items;
 use spec_core::{Dotted, Spec, SpecKind};
 

@@ -12,10 +12,10 @@ use crate::raises::{absent, fail, package_as_main};
 use crate::start::{ModuleStart, Stage};
 use crate::waits::wait_for;
 use base_types::{Exact, NoMemory, Seq, Text, TreePath};
-use find_load::{Want, path_of};
+use find_load::Want;
 use machine_events::Event;
 use meaning_state::Fault;
-use path_finder::Found;
+use path_finder::{Found, path_of};
 use spec_core::{Dotted, KnownName, Spec, SpecKind};
 use std::mem;
 

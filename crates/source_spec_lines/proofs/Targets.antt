@@ -1,5 +1,6 @@
 -- Expressions that are spelled as targets.
 use Rattle.std.proofs.Common.{◌≡◌, ℕ, Bool, true, false, List, [], ◌∷◌, ◌++◌, Option, Some, None, refl, ap, sym, ◌∙◌, rules}
+use Rattle.std.proofs.lemmas.Option.{same_Some}
 use Rattle.py_syntax.specs.declared.lexeme.Lexeme.{Lexeme}
 use Rattle.py_syntax.specs.declared.lexeme.Lexeme.TheVariants as token
 use Rattle.py_syntax.specs.declared.expr.Expr.{Expr, the_lemmas}
@@ -9,9 +10,6 @@ use Rattle.py_syntax.specs.declared.expr.Spelled.{Spelled}
 use Rattle.py_syntax.specs.Expressions as grammar
 use Rattle.py_syntax.specs.Expressions.{IsChain, IsOperand, IsInversion, IsComparison, IsFactor, IsPrimary, IsExpr}
 use Rattle.source_spec_lines.specs.Expressions.{name_of}
-
-same_some : (m n : List ℕ) → Some m ≡ Some n → m ≡ n
-same_some m n e = cc
 
 none_is_not_some : (n : List ℕ) → None ≡ Some n → ⊥
 none_is_not_some n e = absurd cc
@@ -55,7 +53,7 @@ name_of_subscript e x = search (rules, the_lemmas)
 
 -- a target whose tree is a name is that name
 pub bare_name : {room : ℕ} {ts : List Lexeme} {e : Spelled} (n : List ℕ) → IsPrimary room ts e → e.is_target ≡ true → name_of e.tree ≡ Some n → ts ≡ token.Name n ∷ []
-bare_name n (grammar.name m) t k = ap (λ (l : List ℕ). token.Name l ∷ []) (same_some m n (sym (name_of_name m) ∙ k))
+bare_name n (grammar.name m) t k = ap (λ (l : List ℕ). token.Name l ∷ []) (same_Some m n (sym (name_of_name m) ∙ k))
 bare_name n (grammar.number m) t k = absurd cc
 bare_name n (grammar.string s) t k = absurd cc
 bare_name n grammar.none t k = absurd cc
