@@ -1,8 +1,9 @@
 //! What `clap` found, as texts of their own.
-ghost use Rattle.std.specs.Prelude.{◌≡◌, IfOk, None, codes, map, option_map};
+ghost use Rattle.std.specs.Prelude.{◌≡◌, IfOk, None, codes, option_map};
 ghost use Rattle.clap.specs.Words.{found_of, first_value, one_text, rows_of};
 ghost use Rattle.import_words.specs.Finds.{IsFlag, words_in, Finds};
 
+use crate::texts::owned;
 use base_types::{NoMemory, Text, Texts};
 use clap::ArgMatches;
 use std::alloc::Global;
@@ -37,16 +38,6 @@ fn flag_of(matches: &ArgMatches<'_>, name: &str) -> bool
     ensures { IsFlag (one_text (found_of matches.now) name.now) result }
 {
     matches.get_flag(name)
-}
-
-fn owned(alloc: Global, words: &[&str]) -> Result<Texts, NoMemory>
-    ensures { IfOk result (λ it. it ≡ map (λ word. word.now) words.now) }
-{
-    let mut texts = Texts::new(alloc);
-    for word in words {
-        texts.push(Text::from_str(alloc, word)?)?;
-    }
-    Ok(texts)
 }
 
 fn others_of(alloc: Global, matches: &ArgMatches<'_>) -> Result<Texts, NoMemory>

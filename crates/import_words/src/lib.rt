@@ -11,6 +11,7 @@ mod plan;
 mod read;
 mod run;
 mod take;
+mod texts;
 
 pub use clap_command::Command;
 pub use command::usage_line;

@@ -3,6 +3,7 @@ ghost use Rattle.std.specs.Prelude.{◌≡◌, ◌==◌, false, IfOk, map, Match
 ghost use Rattle.std.specs.List.{slice_split, All};
 ghost use Rattle.import_words.specs.Plans.{path_of, folder_of, few_entries};
 
+use crate::texts::owned;
 use base_types::{Exact, NoMemory, Text, Texts};
 use std::alloc::{AllocError, Global};
 
@@ -11,16 +12,6 @@ fn entries_of(alloc: Global, list: &str) -> Result<Vec<&str>, AllocError>
     ensures { IfOk result (λ v. map (λ x. x.now) v.items ≡ slice_split (λ b. b == 58) list.now) }
 {
     list.split(':').collect(alloc)
-}
-
-fn owned_entries(alloc: Global, entries: &[&str]) -> Result<Texts, NoMemory>
-    ensures { IfOk result (λ t. t ≡ map (λ x. x.now) entries.now) }
-{
-    let mut texts = Texts::new(alloc);
-    for entry in entries {
-        texts.push(Text::from_str(alloc, entry)?)?;
-    }
-    Ok(texts)
 }
 
 /// The entries that `--path` gives, or the one that stands for it.
@@ -39,7 +30,7 @@ pub(crate) fn path_of(list: &Option<Text>, entry: &Text) -> Result<Option<Texts>
             if entries.len() > 4096 {
                 return Ok(None);
             }
-            Ok(Some(owned_entries(alloc, entries.as_slice())?))
+            Ok(Some(owned(alloc, entries.as_slice())?))
         }
     }
 }

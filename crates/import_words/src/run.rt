@@ -22,8 +22,8 @@ pub(crate) fn is_dashed(word: &str) -> bool
     }
 }
 
-/// The words as texts of their own.
-fn owned(alloc: Global, words: &[Text]) -> Result<Texts, NoMemory>
+/// The words once more.
+fn copied(alloc: Global, words: &[Text]) -> Result<Texts, NoMemory>
     ensures { IfOk result (λ it. it ≡ words.now) }
 {
     let mut texts = Texts::new(alloc);
@@ -112,7 +112,7 @@ pub(crate) fn run_of(
                 return Ok(None);
             }
             let folder = folder_of(script)?;
-            let all = owned(alloc, scripts)?;
+            let all = copied(alloc, scripts)?;
             run_with(settings, &folder, all)
         }
     }
