@@ -1,6 +1,5 @@
 -- Lists, and pieces in order, from a place on.
-use Rattle.std.proofs.Common.{◌≡◌, refl, ℕ, zero, suc, ◌+◌, ◌<◌, List, [], ◌∷◌, length, map, drop, slice_get, get_or, add-one, drop-cons, Some, None}
-use Rattle.std.proofs.lemmas.Option.{slice_get_within, get_or_from_slice_get}
+use Rattle.std.proofs.Common.{◌≡◌, refl, ℕ, zero, suc, ◌+◌, List, [], ◌∷◌, map, drop, slice_get, add-one, Some, None}
 use Rattle.meaning_state.specs.declared.thread.State.{State}
 use Rattle.meaning_script.specs.Pieces.{Piece, Onward, on_value, passes, in_order}
 
@@ -10,11 +9,15 @@ drop_none [] (suc at) h = refl
 drop_none (x ∷ xs) zero h = absurd cc
 drop_none (x ∷ xs) (suc at) h = drop_none xs at h
 
-pub drop_some : {T : Type 0} (xs : List T) (at : ℕ) (x : T) → slice_get xs at ≡ Some x → drop at xs ≡ x ∷ drop (at + 1) xs
-drop_some xs at x h =
-    let within : at < length xs = slice_get_within xs at x h in
-    let item : get_or xs at x ≡ x = get_or_from_slice_get xs at x x h in
-    rw (add-one, drop-cons xs at x) (rw item refl)
+pub drop_some : {T : Type 0} (xs : List T) (at : ℕ) (x : T) → slice_get xs at ≡ Some x → drop at xs ≡ x ∷ drop (suc at) xs
+drop_some [] zero x h = cc
+drop_some [] (suc at) x h = cc
+drop_some (y ∷ xs) zero x h = cc
+drop_some (y ∷ xs) (suc at) x h = drop_some xs at x h
+
+-- the same with the next place as a sum
+pub drop_past : {T : Type 0} (xs : List T) (at : ℕ) (x : T) → slice_get xs at ≡ Some x → drop at xs ≡ x ∷ drop (at + 1) xs
+drop_past xs at x h = rw add-one (drop_some xs at x h)
 
 -- ---- pieces in order
 
@@ -24,4 +27,4 @@ order_ends p xs at s k h = rw (drop_none xs at h) refl
 
 pub order_goes : {T : Type 0} (p : T → Piece) (xs : List T) (at : ℕ) (x : T) (s : State) (k : Onward) → slice_get xs at ≡ Some x
     → p x s (on_value k (λ _ s. in_order (map p (drop (at + 1) xs)) s k)) ≡ in_order (map p (drop at xs)) s k
-order_goes p xs at x s k h = rw (drop_some xs at x h) refl
+order_goes p xs at x s k h = rw (drop_past xs at x h) refl

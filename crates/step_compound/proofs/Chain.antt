@@ -1,5 +1,5 @@
 -- The handlers of an error, one by one.
-use Rattle.std.proofs.Common.{◌≡◌, ◌∙◌, refl, sym, ap, ℕ, zero, suc, ◌+◌, List, [], ◌∷◌, drop, slice_get, Option, Some, None, true, arith}
+use Rattle.std.proofs.Common.{◌≡◌, ◌∙◌, refl, sym, ap, ℕ, suc, ◌+◌, List, slice_get, Option, Some, None, true, arith}
 use Rattle.py_value.specs.declared.value.Raised.{Raised as Error}
 use Rattle.py_syntax.specs.declared.expr.Expr.{Expr}
 use Rattle.py_syntax.specs.declared.stmt.Handler.{Handler, fold-roll-Handler}
@@ -10,19 +10,8 @@ use Rattle.meaning_script.specs.Pieces.{Piece, Onward, on_value, listed}
 use Rattle.meaning_script.specs.Operators.{Around, eval}
 use Rattle.meaning_script.specs.Statements.{BranchPiece, DefPiece, HandlerPiece, stmt_at, branch_at, def_at, handler_at, leaves, handling, handled, takes, catches, tries_handler, binds_error, unbinds, eval_some, handler, run_all}
 use Rattle.py_frames.specs.Does.{handlers, binds_some, handles_some, chosen_some, catches_from}
+use Rattle.py_frames.proofs.Places.{drop_none, drop_some}
 use Rattle.step_compound.specs.Parts.{chosen_at, handles_by}
-
-drop_none : {X : Type 0} (xs : List X) (n : ℕ) → slice_get xs n ≡ None → drop n xs ≡ []
-drop_none [] zero h = refl
-drop_none [] (suc n) h = refl
-drop_none (x ∷ xs) zero h = cc
-drop_none (x ∷ xs) (suc n) h = drop_none xs n h
-
-drop_some : {X : Type 0} (xs : List X) (n : ℕ) (x : X) → slice_get xs n ≡ Some x → drop n xs ≡ x ∷ drop (suc n) xs
-drop_some [] zero x h = cc
-drop_some [] (suc n) x h = cc
-drop_some (y ∷ xs) zero x h = cc
-drop_some (y ∷ xs) (suc n) x h = drop_some xs n x h
 
 handler_is : (a : Around) (h : Handler) → handler a h ≡ record { kinds = eval_some a h.kinds; bound = h.bound; body = run_all a h.body }
 handler_is a h =

@@ -6,7 +6,7 @@ use Rattle.meaning_script.specs.Pieces.{Piece, Onward, on_value, passes, in_orde
 use Rattle.meaning_script.specs.Operators.{Around, eval}
 use Rattle.meaning_script.specs.Statements.{BranchPiece, tests, run_all}
 use Rattle.py_frames.specs.Does.{branches, decides_some}
-use Rattle.py_frames.proofs.Places.{drop_none, drop_some}
+use Rattle.py_frames.proofs.Places.{drop_none, drop_past}
 use Rattle.step_compound.proofs.Forms.{branch_is}
 
 -- the pieces from a place on, where there is none
@@ -36,7 +36,7 @@ tests_first a bs at b otherwise s k h =
     ap (λ (o : Option Branch). eval a b.test s (on_value k (λ v s. decides_some a o v (tests (branches a (drop (suc at) bs)) otherwise) s k))) h
     ∙ ap (λ (n : ℕ). eval a b.test s (on_value k (λ v s. decides v (run_all a b.body) (tests (branches a (drop n bs)) otherwise) s k))) next
     ∙ ap (λ (p : BranchPiece). p.test s (on_value k (λ v s. decides v p.body (tests (branches a (drop (at + 1) bs)) otherwise) s k))) (sym (branch_is a b))
-    ∙ ap (λ (ys : List Branch). tests (branches a ys) otherwise s k) (sym (drop_some bs at b h))
+    ∙ ap (λ (ys : List Branch). tests (branches a ys) otherwise s k) (sym (drop_past bs at b h))
 
 pub tests_last : (a : Around) (bs : List Branch) (at : ℕ) (otherwise : Piece) → slice_get bs at ≡ None → otherwise ≡ tests (branches a (drop at bs)) otherwise
 tests_last a bs at otherwise h = ap (λ (ys : List Branch). tests (branches a ys) otherwise) (sym (drop_none bs at h))

@@ -1,11 +1,6 @@
 -- The operands from a place on.
-use Rattle.std.proofs.Common.{◌≡◌, ℕ, zero, suc, List, [], ◌∷◌, ◌++◌, ◌+◌, drop, length, length-append, slice_get, Some, refl, ap, ◌∙◌, arith}
-
-pub drop_some : {X : Type 0} (xs : List X) (n : ℕ) (x : X) → slice_get xs n ≡ Some x → drop n xs ≡ x ∷ drop (suc n) xs
-drop_some [] zero x h = cc
-drop_some [] (suc n) x h = cc
-drop_some (y ∷ xs) zero x h = cc
-drop_some (y ∷ xs) (suc n) x h = drop_some xs n x h
+use Rattle.std.proofs.Common.{◌≡◌, ℕ, suc, List, [], ◌∷◌, ◌++◌, ◌+◌, drop, length, length-append, ap, ◌∙◌, arith}
+pub use Rattle.py_frames.proofs.Places.{drop_some}
 
 grown : (n : ℕ) → n + 1 ≡ suc n
 grown n = omega arith

@@ -15,7 +15,7 @@ use Rattle.meaning_state.specs.declared.thread.Thread.{Thread}
 use Rattle.meaning_script.specs.Meaning.{World}
 use Rattle.py_frames.specs.declared.want.Want.{Want}
 use Rattle.py_frames.specs.Does.{Does, Rest, fronts_parts, fronts_some, binds_parts, binds_some_import, follows_some}
-use Rattle.py_frames.proofs.Places.{drop_none, drop_some}
+use Rattle.py_frames.proofs.Places.{drop_none, drop_past}
 use Rattle.step_imports.specs.Parts.{front_of}
 
 -- ---- pieces in order
@@ -97,7 +97,7 @@ pub follows_goes : (a : Around) (parts : List (List ℕ)) (at : ℕ) (x bound : 
     → with_module v (λ m s' k'. name_of a last m x s' (on_value k (λ v s. follows_parts a (drop (at + 1) parts) bound v s k))) s k
     ≡ follows_parts a (drop at parts) bound v s k
 follows_goes a parts at x bound last v s k h is =
-    rw (drop_some parts at x h, is)
+    rw (drop_past parts at x h, is)
     (module_then (out-Value v) (λ m. name_of a (is_last (drop (at + 1) parts)) m x) (λ k. on_value k (λ v s. follows_parts a (drop (at + 1) parts) bound v s k)) s k)
 
 pub binds_nothing : (a : Around) (o : Option Alias) (v : Value) (s : State) (k : Onward) → o ≡ None → fails fault.NotInProfile s k ≡ binds_some_import a o v s k
