@@ -59,6 +59,11 @@ use Rattle.py_frames.specs.declared.want.Want.TheVariants as want
 abbrev pub Rest : Type 0
 Rest = ℕ → Onward
 
+-- what is done with a part that may be missing; where it is, ProfileError is raised
+abbrev pub or_fails : {X : Type 0} → (X → Piece) → Option X → Piece
+or_fails go None = fails fault.NotInProfile
+or_fails go (Some x) = go x
+
 -- ---- parts of trees
 
 -- the statement at a place of a block, where there is one
@@ -68,8 +73,7 @@ operands_of_stmt (Some s) = stmt_operands_at (out-Stmt s)
 
 -- that statement on the values of its operands; where none stands there, ProfileError is raised
 abbrev pub performs : Around → Option Stmt → List Value → Piece
-performs around None vs = fails fault.NotInProfile
-performs around (Some s) vs = performs_at around.access (out-Stmt s) vs
+performs around o vs = or_fails (λ (s : Stmt). performs_at around.access (out-Stmt s) vs) o
 
 -- the arguments of a call, and the attribute that it names
 abbrev pub arguments_at : Expr-F Expr → List Expr
@@ -150,8 +154,7 @@ aliases_of (Some s) = aliases_at (out-Stmt s)
 
 -- one module of an `import`, with its binding (Language Reference 7.11); where it is missing, ProfileError is raised
 abbrev pub imports_some : Around → Option Alias → Piece
-imports_some around None = fails fault.NotInProfile
-imports_some around (Some a) = imports_one around a
+imports_some around o = or_fails (imports_one around) o
 
 -- `import a.b.c` behind the import of the whole name, and then behind that of its first part
 abbrev pub fronts_parts : Around → List (List ℕ) → Option (List ℕ) → Piece
@@ -160,8 +163,7 @@ fronts_parts around (x ∷ cs) bound = imports_front around x cs bound
 
 -- the same of one module of an `import`; where it is missing, ProfileError is raised
 abbrev pub fronts_some : Around → Option Alias → Piece
-fronts_some around None = fails fault.NotInProfile
-fronts_some around (Some a) = fronts_parts around a.parts a.bound
+fronts_some around o = or_fails (λ (a : Alias). fronts_parts around a.parts a.bound) o
 
 -- the value of the first part is bound to that part, or, with `as`,
 -- followed to its last part, which is bound (Language Reference 7.11)
@@ -171,18 +173,15 @@ binds_parts around (x ∷ cs) bound v = binds_import around x cs bound v
 
 -- the same of one module of an `import`; where it is missing, ProfileError is raised
 abbrev pub binds_some_import : Around → Option Alias → Value → Piece
-binds_some_import around None v = fails fault.NotInProfile
-binds_some_import around (Some a) v = binds_parts around a.parts a.bound v
+binds_some_import around o v = or_fails (λ (a : Alias). binds_parts around a.parts a.bound v) o
 
 -- the parts from one on, where they are bound to a name of their own
 abbrev pub follows_bound : Around → List (List ℕ) → Option (List ℕ) → Value → Piece
-follows_bound around parts None v = fails fault.NotInProfile
-follows_bound around parts (Some x) v = follows_parts around parts x v
+follows_bound around parts o v = or_fails (λ (x : List ℕ). follows_parts around parts x v) o
 
 -- the same of one module of an `import`; where it is missing, or has no `as`, ProfileError is raised
 abbrev pub follows_some : Around → ℕ → Option Alias → Value → Piece
-follows_some around part None v = fails fault.NotInProfile
-follows_some around part (Some a) v = follows_bound around (drop part a.parts) a.bound v
+follows_some around part o v = or_fails (λ (a : Alias). follows_bound around (drop part a.parts) a.bound v) o
 
 -- a `from` statement
 abbrev pub from_at : Around → Stmt-F Stmt Branch FuncDef Handler → Piece
@@ -191,8 +190,7 @@ from_at around stmt = fails fault.NotInProfile
 
 -- the same of a statement that may be missing; where it is, ProfileError is raised
 abbrev pub from_some : Around → Option Stmt → Piece
-from_some around None = fails fault.NotInProfile
-from_some around (Some s) = from_at around (out-Stmt s)
+from_some around o = or_fails (λ (s : Stmt). from_at around (out-Stmt s)) o
 
 -- what it does with its module
 abbrev pub names_at : Around → Stmt-F Stmt Branch FuncDef Handler → ModRef → Piece
@@ -201,8 +199,7 @@ names_at around stmt m = fails fault.NotInProfile
 
 -- the same of a statement that may be missing; where it is, ProfileError is raised
 abbrev pub names_some : Around → Option Stmt → ModRef → Piece
-names_some around None m = fails fault.NotInProfile
-names_some around (Some s) m = names_at around (out-Stmt s) m
+names_some around o m = or_fails (λ (s : Stmt). names_at around (out-Stmt s) m) o
 
 -- the package of its own module was read
 abbrev pub relative_at : Around → Stmt-F Stmt Branch FuncDef Handler → Reply → Piece
@@ -212,8 +209,7 @@ relative_at around stmt reply = fails fault.NotInProfile
 
 -- the same of a statement that may be missing; where it is, ProfileError is raised
 abbrev pub relative_some : Around → Option Stmt → Reply → Piece
-relative_some around None reply = fails fault.NotInProfile
-relative_some around (Some s) reply = relative_at around (out-Stmt s) reply
+relative_some around o reply = or_fails (λ (s : Stmt). relative_at around (out-Stmt s) reply) o
 
 -- the items that are listed behind `import`; a star lists none
 abbrev pub listed_in : ImportedNames → List Alias
@@ -232,8 +228,7 @@ items_of (Some s) = items_at (out-Stmt s)
 
 -- one item of a `from` statement is bound from the module; where it is missing, ProfileError is raised
 abbrev pub binds_some_item : Around → ModRef → Option Alias → Piece
-binds_some_item around m None = fails fault.NotInProfile
-binds_some_item around m (Some a) = binds_item around m a
+binds_some_item around m o = or_fails (binds_item around m) o
 
 -- the branches of an `if`, in order: of each its test and its block
 abbrev pub branches : Around → List Branch → List BranchPiece
@@ -250,8 +245,7 @@ tries_at around stmt = fails fault.NotInProfile
 
 -- the same of a statement that may be missing; where it is, ProfileError is raised
 abbrev pub tries_some : Around → Option Stmt → Piece
-tries_some around None = fails fault.NotInProfile
-tries_some around (Some s) = tries_at around (out-Stmt s)
+tries_some around o = or_fails (λ (s : Stmt). tries_at around (out-Stmt s)) o
 
 -- behind the first block of a `try`
 abbrev pub tried_at : Around → Stmt-F Stmt Branch FuncDef Handler → Onward → Onward
@@ -275,13 +269,11 @@ begun_at around stmt = gathers (map (eval around) (stmt_operands_at stmt)) [] (p
 
 -- the same of a statement that may be missing; where it is, ProfileError is raised
 abbrev pub begun : Around → Option Stmt → Piece
-begun around None = fails fault.NotInProfile
-begun around (Some s) = begun_at around (out-Stmt s)
+begun around o = or_fails (λ (s : Stmt). begun_at around (out-Stmt s)) o
 
 -- a whole statement, with its own units; where it is missing, ProfileError is raised
 abbrev pub runs_some : Around → Option Stmt → Piece
-runs_some around None = fails fault.NotInProfile
-runs_some around (Some s) = run around s
+runs_some around o = or_fails (run around) o
 
 -- the handlers from a place on
 abbrev pub catches_from : Around → List Handler → ℕ → Error → Piece
@@ -290,25 +282,21 @@ catches_from around hs at error = catches (handlers around (drop at hs)) error
 -- a handler that takes the error: its name, where it has one, is bound to the error, and then its block runs
 -- (Language Reference 8.4.1); where no handler is there, ProfileError is raised
 abbrev pub binds_some : Around → Option Handler → Error → Piece
-binds_some around None error = fails fault.NotInProfile
-binds_some around (Some h) error = binds_error (handler around h) error h.bound
+binds_some around o error = or_fails (λ (h : Handler). binds_error (handler around h) error h.bound) o
 
 -- the block of a handler, with the error, and then its name is unset; where no handler is there, ProfileError is raised
 abbrev pub handles_some : Around → Option Handler → Error → Piece
-handles_some around None error = fails fault.NotInProfile
-handles_some around (Some h) error = handles (handler around h) error
+handles_some around o error = or_fails (λ (h : Handler). handles (handler around h) error) o
 
 -- by whether a handler's kinds take the error: this handler, else the others; TypeError where it names what is no kind,
 -- and ProfileError where the handler is missing
 abbrev pub chosen_some : Around → Option Handler → Error → Piece → Option Bool → Piece
-chosen_some around None error others taken = fails fault.NotInProfile
-chosen_some around (Some h) error others taken = chosen (handler around h) error others taken
+chosen_some around o error others taken = or_fails (λ (h : Handler). chosen (handler around h) error others taken) o
 
 -- behind a branch's test: its block where the value counts as true, else the others (Language Reference 8.1); where the
 -- branch is missing, ProfileError is raised
 abbrev pub decides_some : Around → Option Branch → Value → Piece → Piece
-decides_some around None v others = fails fault.NotInProfile
-decides_some around (Some b) v others = decides v (run_all around b.body) others
+decides_some around o v others = or_fails (λ (b : Branch). decides v (run_all around b.body) others) o
 
 -- ---- procedures, and the depth of calls
 

@@ -18,6 +18,7 @@ use Rattle.meaning_script.specs.Entries.{sets_entry, deletes_entry}
 use Rattle.meaning_script.specs.Names.{stores, deletes, sets_member, deletes_member}
 use Rattle.meaning_script.specs.Operators.{Around}
 use Rattle.meaning_script.specs.Statements.{refuses_item, augments, returns, raises_at, raises_again, leaves}
+use Rattle.py_frames.specs.Does.{or_fails}
 use Rattle.py_frames.specs.Few.{is_cache}
 use Rattle.py_frames.specs.Listing.{is_listed}
 
@@ -100,8 +101,7 @@ performs around s vs = performs_known around (out-Stmt s) vs
 
 -- the same of the statement at a place of a block, where there is one
 abbrev pub performs_some : Around → Option Stmt → List Value → Piece
-performs_some around None vs = fails fault.NotInProfile
-performs_some around (Some s) vs = performs around s vs
+performs_some around o vs = or_fails (λ (s : Stmt). performs around s vs) o
 
 -- ---- the place of the operand in whose place a list comes, or which is none
 
