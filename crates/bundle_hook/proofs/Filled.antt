@@ -1,5 +1,5 @@
 -- The files that are read in the bytes of a bundle are those of which it is one.
-use Rattle.std.proofs.Common.{◌≡◌, ◌∙◌, refl, sym, ap, subst, ℕ, ◌+◌, ◌-◌, ◌≤◌, List, [], ◌∷◌, ◌++◌, length, take, drop, min, eqb, Bool, true, false, cond, Some, None, Option, arith, length-append, length-take, length-drop}
+use Rattle.std.proofs.Common.{◌≡◌, ◌∙◌, refl, sym, ap, subst, ℕ, ◌+◌, ◌-◌, List, [], ◌∷◌, length, take, drop, min, eqb, Some, None, Option, arith, length-take, length-drop}
 use Rattle.std.proofs.Math.Seq.{take-append_seam, drop-append_seam}
 use Rattle.std.proofs.lemmas.Bool.{cond-true, eqb-true, eq-eqb}
 use Rattle.std.specs.Option.{option_and_then, option_map}
@@ -11,7 +11,7 @@ use Rattle.bundle_hook.specs.Bundle.{IsBundle, IsFrontOf, Lists, Reads, sizes, e
 use Rattle.bundle_hook.specs.Reading.{front_in}
 use Rattle.bundle_hook.specs.Files.{cut_up, filling, behind, files_in, index_in}
 use Rattle.bundle_hook.proofs.Cuts.{if_some, then_some}
-use Rattle.bundle_hook.proofs.Indexed.{begun, left_within, is_index, one_list, sizes_are}
+use Rattle.bundle_hook.proofs.Indexed.{begun, is_index, sizes_are}
 
 cut_again : (files : List Packed) → cut_up (entries_of files) (data_of files) ≡ files
 cut_again [] = refl

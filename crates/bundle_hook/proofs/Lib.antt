@@ -17,3 +17,4 @@ pub mod Told
 pub mod Slices
 pub mod Ascending
 pub mod Answered
+pub mod Above

@@ -1,7 +1,8 @@
 -- The indexes that are kept of a tree's bundles.
-use Rattle.std.specs.Prelude.{◌≡◌, ◌∷◌, ◌++◌, ◌<◌, ◌^◌, [], ℕ, List, length, take, slice_get, Option, Some, None, is_some, IsTrue}
+use Rattle.std.specs.Prelude.{◌≡◌, ◌∷◌, ◌++◌, ◌<◌, ◌^◌, [], ℕ, List, length, take, slice_get, Option, Some, None, is_some, IsTrue, true}
 use Rattle.std.specs.Option.{ForSome, option_and_then}
 use Rattle.std.specs.List.{All}
+use Rattle.std.proofs.Props.{props}
 use Rattle.base_types.specs.Path.{Path}
 use Rattle.tree_files.specs.Files.{Files, IsDirAt, node_at, stamp_of, bytes_of}
 use Rattle.tree_files.specs.declared.tree.Stamp.TheVariants as stamp
@@ -10,15 +11,23 @@ use Rattle.bundle_hook.specs.declared.bundle.Index.{Index}
 use Rattle.bundle_hook.specs.Bundle.{entries_of, index_of}
 use Rattle.bundle_hook.specs.Files.{index_in}
 use Rattle.bundle_hook.specs.declared.kept.Kept.{Kept}
-use Rattle.bundle_hook.specs.Expand.{bundle_at}
+use Rattle.bundle_hook.specs.Expand.{names_bundle, bundle_at}
 
--- the index is that of the file, as long as a file of this size stands there
-abbrev pub IsRight : Files → Kept → Type 0
-IsRight f kept = stamp_of (node_at f kept.path) ≡ stamp.File kept.size → kept.index ≡ index_in (bytes_of (node_at f kept.path))
+-- a file of this size stands there, whose name is that of a bundle, and the index is that of the file; its size is a u64
+pub record IsRight (f : Files) (kept : Kept) : Type 0 where
+  pub stamp : stamp_of (node_at f kept.path) ≡ stamp.File kept.size
+  pub named : names_bundle kept.path ≡ true
+  pub fits : kept.size < 2 ^ 64
+  pub index : kept.index ≡ index_in (bytes_of (node_at f kept.path))
 
 -- where files are told, each index is right
-abbrev pub AreRight : Option Files → List Kept → Type 0
+unfoldable pub AreRight : Option Files → List Kept → Type 0
 AreRight told kept = ForSome told (λ f. All (IsRight f) kept)
+
+-- whether the indexes are right is a fact: no two proofs of it differ
+pub AreRight-prop : (told : Option Files) (kept : List Kept) → IsProp (AreRight told kept)
+unfolding AreRight
+AreRight-prop told kept = Prim.hlevel props
 
 -- what `IsTree` says of files, in the words of a field that is kept
 abbrev pub StandAsTree : Files → Type 0

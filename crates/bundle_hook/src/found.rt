@@ -75,15 +75,16 @@ pub fn names_at(kept: &Seq<Kept>, found: &Found, path: &TreePath) -> Result<Text
     }
 }
 
-/// Reads bytes of a file of a bundle, from the place `at` of the file on.
-pub fn read_stored<T: Tree>(
+/// Reads bytes of a file of a bundle, from the place `at` of the file on, where it has some.
+fn read_stored<T: Tree>(
     tree: &mut T,
     bundle: &TreePath,
     item: &Item,
     at: u64,
     into: &mut [u8],
 ) -> Result<usize, TreeFault>
-    requires { ForSome (T.files tree.old) (λ f. IsFileAt f bundle.now) }
+    requires file { ForSome (T.files tree.old) (λ f. IsFileAt f bundle.now) }
+    requires some { at < item.now.size }
     ensures told { IfOk result (λ n. IfSome (T.files tree.old) (λ f.
         item.now.at + item.now.size ≤ length (bytes_of (node_at f bundle.now))
         → length (bytes_of (node_at f bundle.now)) < 2 ^ 64
@@ -95,9 +96,6 @@ pub fn read_stored<T: Tree>(
     ensures faults_grow { T.faults tree.old ≤ T.faults tree.new }
     ensures lists_stay { T.lists tree.new ≡ T.lists tree.old }
 {
-    if at >= item.size {
-        return Ok(0);
-    }
     let room = (item.size - at).min(into.len() as u64) as usize;
     let count = tree.read(bundle, item.at.saturating_add(at), &mut into[..room])?;
     Ok(count)
@@ -127,6 +125,9 @@ pub fn read_at<T: Tree>(
     let Inner::File(item) = inner_at(kept, found, file) else {
         return Ok(0);
     };
+    if at >= item.size {
+        return Ok(0);
+    }
     let bundle = file.front(found.parts)?;
     read_stored(tree, &bundle, item, at, into)
 }

@@ -106,6 +106,7 @@ pub fn read_kept<T: Tree>(
     ensures index { IfOk result (λ it. IfSome (T.files tree.old) (λ f.
         it.index ≡ index_in (bytes_of (node_at f file.now)))) }
     ensures path { IfOk result (λ it. it.path ≡ file.now) }
+    ensures size { IfOk result (λ it. it.size ≡ size) }
     ensures failed { IsErrOf result TreeFault.Failed → Rose (T.faults tree.old) (T.faults tree.new) }
     ensures faults_stay { OnOk result (T.faults tree.new ≡ T.faults tree.old) }
     ensures files_stay { T.files tree.new ≡ T.files tree.old }

@@ -7,7 +7,7 @@ ghost use Rattle.bundle_hook.specs.Expand.{is_bundle_name, names_bundle, bundle_
 ghost use Rattle.bundle_hook.specs.Indexes.{AreRight, HasAnswered, IsKeptAt, HasNoBundle};
 ghost use Rattle.bundle_hook.specs.Places.{Leads, IsAlong};
 
-use crate::indexes::{index_at, kept_at};
+use crate::indexes::{bundle_above, forget, index_at, kept_at};
 use crate::kept::Kept;
 use base_types::{Seq, Text, TreePath};
 use tree_files::{Stamp, Tree, TreeFault};
@@ -36,6 +36,36 @@ fn is_bundle_name(name: &Text) -> bool
     name.as_bytes().ends_with(b".pyb".as_slice())
 }
 
+/// The place of the index of the bundle that stands at a path. What was kept of it is forgotten where no file stands
+/// there any more.
+fn bundle_of<T: Tree>(
+    tree: &mut T,
+    kept: &mut Seq<Kept>,
+    file: &TreePath,
+) -> Result<Option<usize>, TreeFault>
+    requires named { names_bundle file.now ≡ true }
+    requires right { AreRight (T.files tree.old) kept.old }
+    ensures right { AreRight (T.files tree.old) kept.new }
+    ensures told { IfOk result (λ o. IfSome (T.files tree.old) (λ f. MatchOption o
+        (bundle_at f file.now ≡ None) (λ at. IsKeptAt f kept.new at file.now))) }
+    ensures failed { IsErrOf result TreeFault.Failed → Rose (T.faults tree.old) (T.faults tree.new) }
+    ensures faults_stay { OnOk result (T.faults tree.new ≡ T.faults tree.old) }
+    ensures files_stay { T.files tree.new ≡ T.files tree.old }
+    ensures faults_grow { T.faults tree.old ≤ T.faults tree.new }
+    ensures lists_stay { T.lists tree.new ≡ T.lists tree.old }
+{
+    let Stamp::File(size) = tree.stamp(file)? else {
+        forget(kept, file);
+        return Ok(None);
+    };
+    let at = kept_at(tree, kept, file, size)?;
+    if index_at(kept, at).is_some() {
+        Ok(Some(at))
+    } else {
+        Ok(None)
+    }
+}
+
 /// The place of the index of the bundle that stands at the first parts of a path.
 fn bundle_at<T: Tree>(
     tree: &mut T,
@@ -55,16 +85,11 @@ fn bundle_at<T: Tree>(
     ensures faults_grow { T.faults tree.old ≤ T.faults tree.new }
     ensures lists_stay { T.lists tree.new ≡ T.lists tree.old }
 {
-    let file = path.front(parts)?;
-    let Stamp::File(size) = tree.stamp(&file)? else {
-        return Ok(None);
-    };
-    let at = kept_at(tree, kept, &file, size)?;
-    if index_at(kept, at).is_some() {
-        Ok(Some(at))
-    } else {
-        Ok(None)
+    if parts == path.parts().len() {
+        return bundle_of(tree, kept, path);
     }
+    let file = path.front(parts)?;
+    bundle_of(tree, kept, &file)
 }
 
 /// The place of the index of the bundle that the first parts of a path name, where they name one.
@@ -172,8 +197,9 @@ fn place_by_bundles<T: Tree>(
     }
 }
 
-/// Where a path leads. As long as nothing is kept, what stands at the path is asked first. Where something is kept, the
-/// tree has answered before, and a path into a bundle costs one question about the bundle.
+/// Where a path leads. Below a bundle that is kept, no question is asked: whether it has changed is asked where a call is
+/// about the bundle itself, as each search asks about a folder before it looks into it. As long as nothing is kept, what
+/// stands at the path is asked first. Where something is kept, the tree has answered before.
 pub fn place_of<T: Tree>(
     tree: &mut T,
     kept: &mut Seq<Kept>,
@@ -192,6 +218,9 @@ pub fn place_of<T: Tree>(
     ensures faults_grow { T.faults tree.old ≤ T.faults tree.new }
     ensures lists_stay { T.lists tree.new ≡ T.lists tree.old }
 {
+    if let Some(found) = bundle_above(kept, path) {
+        return Ok(Place::Inside(found));
+    }
     if kept.is_empty() {
         place_by_stamp(tree, kept, path)
     } else {

@@ -4,7 +4,7 @@ ghost use Rattle.std.specs.Option.{ForSome};
 ghost use Rattle.tree_files.specs.Count.{Rose, raised};
 ghost use Rattle.tree_files.specs.Files.{IsTree, IsDirAt, IsFileAt, IsListing, IsRead, node_at, stamp_of, bytes_of};
 ghost use Rattle.bundle_hook.specs.Expand.{expand_told};
-ghost use Rattle.bundle_hook.specs.Indexes.{AreRight, HasAnswered};
+ghost use Rattle.bundle_hook.specs.Indexes.{AreRight, AreRight-prop, HasAnswered};
 
 use crate::found::{inner_at, names_at, read_at, stamp_of};
 use crate::kept::Kept;
@@ -15,7 +15,8 @@ use tree_files::{Grove, Stamp, Tree, TreeFault};
 
 /// A tree whose files are those of another one, in which each bundle stands as the folder that it lists.
 ///
-/// The index of a bundle is read once, and kept while its size stays the same. A file's bytes are read at their place.
+/// The index of a bundle is read once, and kept while its size stays the same, which is asked where a call is about the
+/// bundle itself. A call on a path below it is answered by the kept index, and a file's bytes are read at their place.
 #[derive(Drop)]
 pub struct BundleTree<T: Tree> {
     alloc: Global,
@@ -23,7 +24,7 @@ pub struct BundleTree<T: Tree> {
     kept: Seq<Kept>,
     /// How many lists were of folders in bundles, which stops at the greatest u64.
     more: u64,
-    ghost right: { AreRight (T.files tree) kept },
+    ghost right: { AreRight (T.files tree) kept } by { AreRight-prop (T.files tree) kept },
     ghost answered: { HasAnswered (T.files tree) kept },
 }
 
