@@ -17,7 +17,11 @@ use std::rt::Files;
 use std::{fs, io};
 use tree_files::{Grove, Stamp, Tree, TreeFault};
 
-/// An open file, with its size when it was opened, and the place of the byte that a read gives next.
+/// An open file, with its size when it was last looked at, and the place of the byte that a read gives next.
+///
+/// The size saves the read that would find the end, and decides no more than that. A file that has grown or shrunk since
+/// brings a read that comes short of its buffer at another place, or one that fills it; then it is read on until a read
+/// gives no byte. So it is read whole, whatever its size was.
 #[derive(Drop)]
 struct OpenFile<F> {
     name: Text,
@@ -48,19 +52,29 @@ impl<F: Read + Seek> OpenFile<F> {
     }
 }
 
+/// A regular file that a call found, and its size then.
+#[derive(Drop)]
+struct FoundFile {
+    name: Text,
+    size: u64,
+    // Whether its stamp was asked for again, and answered by this.
+    repeated: bool,
+}
+
 /// A folder of the system, whose files it does not tell. A path of the wrong kind makes `list` and
 /// `read` fail.
 ///
 /// The file that was read last stays open until a read finds its end or another file is read, so a
-/// file that is read in pieces from its front is opened once. A file that is looked at twice in a row, as a search finds
-/// it and a load reads it, is asked for once.
+/// file that is read in pieces from its front is opened once. A file that is looked at twice in a row and then read, as a
+/// search finds it and a load reads it, is looked at once: the opening trusts that look. Only a file that the call just
+/// before did not find is looked at when it is opened.
 #[derive(Drop)]
 pub struct RealTree<R: Files> {
     rt: R,
     root: Text,
     open: Option<OpenFile<R::File>>,
-    // The file that the last call found, and its stamp.
-    found: Option<(Text, Stamp)>,
+    // The file that the last call was about, where it found one and read none.
+    found: Option<FoundFile>,
     faults: u64,
     lists: u64,
 }
@@ -97,17 +111,21 @@ impl<R: Files + AllocGlobal + Clone + Drop> RealTree<R> {
     }
 
     /// The file of a name, to be read at a place: the one that is open where it is read on, and else
-    /// a regular file that is opened now.
+    /// a regular file that is opened now. One that the last call found regular is not looked at again.
     fn opened(&mut self, name: Text, at: u64) -> io::Result<OpenFile<R::File>>
         ensures faults_stay { self.new.faults ≡ self.old.faults }
         ensures lists_stay { self.new.lists ≡ self.old.lists }
     {
+        let found = self.size_found(&name);
         if let Some(open) = self.open.take() {
             if at > 0 && open.name.as_str() == name.as_str() {
                 return Ok(open);
             }
         }
-        let (file, size) = open_regular(&self.rt, name.as_str())?;
+        let (file, size) = match found {
+            Some(size) => (fs::open(&self.rt, name.as_str())?, size),
+            None => open_regular(&self.rt, name.as_str())?,
+        };
         Ok(OpenFile {
             name,
             file,
@@ -117,27 +135,50 @@ impl<R: Files + AllocGlobal + Clone + Drop> RealTree<R> {
         })
     }
 
-    /// The stamp of a name, where the last call found a file of that name. It answers once.
+    /// The size of the file of a name, where the last call found it. It answers once.
+    fn size_found(&mut self, name: &Text) -> Option<u64>
+        ensures faults_stay { self.new.faults ≡ self.old.faults }
+        ensures lists_stay { self.new.lists ≡ self.old.lists }
+    {
+        match self.found.take() {
+            Some(found) if found.name.as_str() == name.as_str() => Some(found.size),
+            _ => None,
+        }
+    }
+
+    /// The stamp of a name, where the last call found a file of that name. It answers once; the file is then still known
+    /// to a read.
     fn found_just_now(&mut self, name: &Text) -> Option<Stamp>
         ensures faults_stay { self.new.faults ≡ self.old.faults }
         ensures lists_stay { self.new.lists ≡ self.old.lists }
         ensures root_stays { self.new.root ≡ self.old.root }
     {
         match self.found.take() {
-            Some((found, stamp)) if found.as_str() == name.as_str() => Some(stamp),
+            Some(found) if !found.repeated && found.name.as_str() == name.as_str() => {
+                let size = found.size;
+                self.found = Some(FoundFile {
+                    repeated: true,
+                    ..found
+                });
+                Some(Stamp::File(size))
+            }
             _ => None,
         }
     }
 
-    /// The stamp of a name, which is kept for one call more where it is that of a file.
+    /// The stamp of a name, which is kept for the next calls where it is that of a file.
     fn look_at(&mut self, name: Text) -> io::Result<Stamp>
         ensures faults_stay { self.new.faults ≡ self.old.faults }
         ensures lists_stay { self.new.lists ≡ self.old.lists }
         ensures root_stays { self.new.root ≡ self.old.root }
     {
         let stamp = stamp_at(&self.rt, name.as_str())?;
-        if let Stamp::File(_) = stamp {
-            self.found = Some((name, stamp));
+        if let Stamp::File(size) = stamp {
+            self.found = Some(FoundFile {
+                name,
+                size,
+                repeated: false,
+            });
         }
         Ok(stamp)
     }
@@ -188,7 +229,6 @@ impl<R: Files + AllocGlobal + Clone + Drop> Tree for RealTree<R> {
     }
 
     fn read(&mut self, file: &TreePath, at: u64, into: &mut [u8]) -> Result<usize, TreeFault> {
-        self.found = None;
         let name = system_name(&self.root, file)?;
         match self.read_at(name, at, into) {
             Ok(count) => Ok(count),
@@ -337,8 +377,8 @@ fn refuse_irregular(found: &Metadata) -> io::Result<()>
     }
 }
 
-/// Opens a regular file. To open a pipe would wait for a writer, so what stands at the name is looked
-/// at right before, and what was opened is looked at too. The file comes with its size.
+/// Opens a regular file that was not found just now. To open a pipe would wait for a writer, so what stands at the name is
+/// looked at right before, and what was opened is looked at too. The file comes with its size.
 fn open_regular<R: Files>(rt: &R, name: &str) -> io::Result<(R::File, u64)> {
     refuse_irregular(&fs::metadata(rt, name)?)?;
     let file = fs::open(rt, name)?;
