@@ -1,53 +1,17 @@
 -- What is kept stays right where an index is put, added or taken out, and a path may lead into a bundle that is kept.
-use Rattle.std.proofs.Common.{◌≡◌, ◌∙◌, refl, sym, ap, subst, ℕ, zero, suc, ◌≤◌, ◌<◌, ◌^◌, List, [], ◌∷◌, ◌++◌, length, take, true, Option, Some, None, is_some, IfSome, if◌then◌else◌, arith, slice_get, slice_set}
+use Rattle.std.proofs.Common.{◌≡◌, ◌∙◌, refl, sym, ap, subst, ℕ, zero, suc, ◌≤◌, ◌<◌, ◌^◌, List, [], ◌∷◌, ◌++◌, length, take, true, Option, Some, None, IfSome, arith, slice_get, slice_set}
 use Rattle.std.specs.List.{All, remove}
-use Rattle.std.specs.Option.{ForSome, option_map, option_and_then}
+use Rattle.std.specs.Option.{ForSome}
 use Rattle.base_types.specs.Path.{Path}
 use Rattle.tree_files.specs.Files.{Files, node_at, stamp_of, bytes_of}
-use Rattle.tree_files.specs.declared.tree.Node.{Node}
-use Rattle.tree_files.specs.declared.tree.Node.TheVariants.{File, Dir}
 use Rattle.tree_files.specs.declared.tree.Stamp.TheVariants as stamp
-use Rattle.bundle_hook.specs.declared.bundle.Packed.{Packed}
-use Rattle.bundle_hook.specs.declared.bundle.Index.{Index}
 use Rattle.bundle_hook.specs.declared.kept.Kept.{Kept}
 use Rattle.bundle_hook.specs.declared.place.Found.{Found}
 use Rattle.bundle_hook.specs.declared.place.Place.TheVariants.{Inside}
 use Rattle.bundle_hook.specs.Places.{Leads}
-use Rattle.bundle_hook.specs.Bundle.{entries_of, index_of}
-use Rattle.bundle_hook.specs.Files.{files_in, index_in}
-use Rattle.bundle_hook.specs.Expand.{names_bundle, bundle_in, bundle_at}
+use Rattle.bundle_hook.specs.Files.{index_in}
+use Rattle.bundle_hook.specs.Expand.{names_bundle}
 use Rattle.bundle_hook.specs.Indexes.{IsRight, AreRight, IsKeptAt, index_at}
-
--- what a right index says of the file
-record Bundled (q : Path) (n : Option Node) (size : ℕ) (i : Option Index) : Type 0 where
-  pub files : List Packed
-  pub is : bundle_in q n ≡ Some files
-  pub index : i ≡ Some (index_of (entries_of files))
-  pub long : length (bytes_of n) ≡ size
-
-bundled : (q : Path) (n : Option Node) (size : ℕ) (i : Option Index) → stamp_of n ≡ stamp.File size → names_bundle q ≡ true → i ≡ index_in (bytes_of n) → is_some i ≡ true → Bundled q n size i
-bundled q None size i is named found some = cc
-bundled q (Some (Dir time)) size i is named found some = cc
-bundled q (Some (File bytes)) size i is named found some = by (files_in bytes) refl
-  where
-    by : (o : Option (List Packed)) → files_in bytes ≡ o → Bundled q (Some (File bytes)) size i
-    by None e = let none : i ≡ None = found ∙ ap (option_map (λ files. index_of (entries_of files))) e in cc
-    by (Some files) e = record {
-      files = files;
-      is = ap (λ b. if b then files_in bytes else None) named ∙ e;
-      index = found ∙ ap (option_map (λ files. index_of (entries_of files))) e;
-      long = cc;
-    }
-
--- a right index is that of the bundle that stands there
-pub kept_there : (f : Files) (kept : List Kept) (at : ℕ) (k : Kept) (path : Path) → slice_get kept at ≡ Some k → IsRight f k → is_some k.index ≡ true → k.path ≡ path → IsKeptAt f kept at path
-kept_there f kept at k path there right some same =
-    let b = bundled k.path (node_at f k.path) k.size k.index right.stamp right.named right.index some in (
-      b.files,
-      ap (bundle_at f) (sym same) ∙ b.is,
-      ap (option_and_then (λ (k : Kept). k.index)) there ∙ b.index,
-      subst (λ p. length (bytes_of (node_at f p)) < 2 ^ 64) same (subst (λ n. n < 2 ^ 64) (sym b.long) right.fits),
-    )
 
 -- a path that leads to something in a bundle that is kept
 pub above_leads : (told : Option Files) (kept : List Kept) (path : Path) (found : Found) → AreRight told kept → found.parts ≤ length path → ((f : Files) → All (IsRight f) kept → IsKeptAt f kept found.at (take found.parts path))

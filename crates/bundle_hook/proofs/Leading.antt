@@ -12,7 +12,7 @@ use Rattle.bundle_hook.specs.declared.kept.Kept.{Kept}
 use Rattle.bundle_hook.specs.Expand.{is_bundle_name, names_bundle, bundle_in, bundle_at, expand}
 use Rattle.bundle_hook.specs.declared.place.Found.{Found}
 use Rattle.bundle_hook.specs.declared.place.Place.TheVariants.{Outside}
-use Rattle.bundle_hook.specs.Places.{Leads}
+use Rattle.bundle_hook.specs.Places.{Leads, LeadsInto}
 use Rattle.bundle_hook.specs.Indexes.{IsKeptAt, HasNoBundle}
 use Rattle.bundle_hook.proofs.Expanding.{above_is_dir, node_at-outside}
 
@@ -99,3 +99,10 @@ none_leads (Some f) after kept p s (Some found) same is none was = cc
 none_leads (Some f) after kept p s None same is none was =
     let here : HasNoBundle f p (length p + 1) = subst (λ t. IfSome t (λ f. HasNoBundle f p (length p + 1))) same none in
     (outside_told f p here, was)
+
+-- what stands at the path is not needed to say where it leads
+pub on_leads : (told : Option Files) (kept : List Kept) (p : Path) (o : Option Found) → IfSome told (λ f. MatchOption o (HasNoBundle f p (length p + 1)) (λ found. (found.parts ≤ length p) × IsKeptAt f kept found.at (take found.parts p)))
+    → IfSome told (λ f. LeadsInto f kept p o)
+on_leads None kept p o on = tt
+on_leads (Some f) kept p None on = outside_told f p on
+on_leads (Some f) kept p (Some found) on = on

@@ -20,7 +20,7 @@ use Rattle.bundle_hook.specs.Bundle.{StandIn, entries_of, data_of, items_from, i
 use Rattle.bundle_hook.proofs.Listed.{stand_in}
 use Rattle.bundle_hook.specs.declared.kept.Kept.{Kept}
 use Rattle.bundle_hook.specs.declared.place.Found.{Found}
-use Rattle.bundle_hook.specs.declared.place.Place.TheVariants.{Outside, Inside}
+use Rattle.bundle_hook.specs.declared.place.Place.TheVariants.{Inside}
 use Rattle.bundle_hook.specs.Expand.{expand, expand_told}
 use Rattle.bundle_hook.specs.Inside.{node_among, node_inside}
 use Rattle.bundle_hook.specs.Indexes.{index_at}
@@ -126,33 +126,33 @@ list_inside_told (Some f) kept found p names t leads dir by = listing_here f t k
 
 -- ---- outside of all bundles
 
-pub test_outside : (test : Option Node → Bool) (told after : Option Files) (kept : List Kept) (p : Path) (s : Stamp) → after ≡ told → IfSome told (λ f. Leads f kept p (Outside s)) → ForSome (expand_told told) (λ g. IsTrue (test (node_at g p)))
+pub test_outside : (test : Option Node → Bool) (told after : Option Files) (p : Path) → after ≡ told → IfSome told (λ f. node_at (expand f) p ≡ node_at f p) → ForSome (expand_told told) (λ g. IsTrue (test (node_at g p)))
     → ForSome after (λ f. IsTrue (test (node_at f p)))
-test_outside test told after kept p s same leads asked = subst (λ o. ForSome o (λ f. IsTrue (test (node_at f p)))) (sym same) (inner told leads asked)
+test_outside test told after p same leads asked = subst (λ o. ForSome o (λ f. IsTrue (test (node_at f p)))) (sym same) (inner told leads asked)
   where
-    inner : (o : Option Files) → IfSome o (λ f. Leads f kept p (Outside s)) → ForSome (expand_told o) (λ g. IsTrue (test (node_at g p))) → ForSome o (λ f. IsTrue (test (node_at f p)))
+    inner : (o : Option Files) → IfSome o (λ f. node_at (expand f) p ≡ node_at f p) → ForSome (expand_told o) (λ g. IsTrue (test (node_at g p))) → ForSome o (λ f. IsTrue (test (node_at f p)))
     inner None l a = λ f e. cc
     inner (Some g) l a = λ f e.
-        let here : IsTrue (test (node_at g p)) = subst (λ n. IsTrue (test n)) l.0 (a (expand g) refl) in
+        let here : IsTrue (test (node_at g p)) = subst (λ n. IsTrue (test n)) l (a (expand g) refl) in
         let equal : g ≡ f = cc in
         subst (λ h. IsTrue (test (node_at h p))) equal here
 
-pub list_outside_told : (told after : Option Files) (kept : List Kept) (p : Path) (s : Stamp) (names : List (List ℕ)) → IfSome told IsTree → after ≡ told → IfSome told (λ f. Leads f kept p (Outside s)) → ForSome (expand_told told) (λ g. IsDirAt g p)
+pub list_outside_told : (told after : Option Files) (p : Path) (names : List (List ℕ)) → IfSome told IsTree → after ≡ told → IfSome told (λ f. node_at (expand f) p ≡ node_at f p) → ForSome (expand_told told) (λ g. IsDirAt g p)
     → IfSome after (λ f. IsListing f p names) → IfSome (expand_told told) (λ g. IsListing g p names)
-list_outside_told None after kept p s names t same leads asked there = tt
-list_outside_told (Some f) after kept p s names t same leads asked there =
+list_outside_told None after p names t same leads asked there = tt
+list_outside_told (Some f) after p names t same leads asked there =
     let here : IsListing f p names = subst (λ o. IfSome o (λ f. IsListing f p names)) same there in
-    let dir : IsDirAt f p = subst (λ n. IsTrue (is_dir n)) leads.0 (asked (expand f) refl) in
+    let dir : IsDirAt f p = subst (λ n. IsTrue (is_dir n)) leads (asked (expand f) refl) in
     record {
       ordered = here.ordered;
       exact = λ name. here.exact name ∙ sym (child_stays f t p name (none_above f t p dir));
     }
 
-pub read_outside_told : (P : List ℕ → Type 0) (told after : Option Files) (kept : List Kept) (p : Path) (s : Stamp) → after ≡ told → IfSome told (λ f. Leads f kept p (Outside s)) → IfSome after (λ f. P (bytes_of (node_at f p))) → IfSome (expand_told told) (λ g. P (bytes_of (node_at g p)))
-read_outside_told P None after kept p s same leads read = tt
-read_outside_told P (Some f) after kept p s same leads read =
+pub read_outside_told : (P : List ℕ → Type 0) (told after : Option Files) (p : Path) → after ≡ told → IfSome told (λ f. node_at (expand f) p ≡ node_at f p) → IfSome after (λ f. P (bytes_of (node_at f p))) → IfSome (expand_told told) (λ g. P (bytes_of (node_at g p)))
+read_outside_told P None after p same leads read = tt
+read_outside_told P (Some f) after p same leads read =
     let here : P (bytes_of (node_at f p)) = subst (λ o. IfSome o (λ f. P (bytes_of (node_at f p)))) same read in
-    subst (λ n. P (bytes_of n)) (sym leads.0) here
+    subst (λ n. P (bytes_of n)) (sym leads) here
 
 -- ---- reading in a bundle
 

@@ -5,7 +5,7 @@ ghost use Rattle.tree_files.specs.Count.{Rose};
 ghost use Rattle.tree_files.specs.Files.{IsTree, node_at};
 ghost use Rattle.bundle_hook.specs.Expand.{is_bundle_name, names_bundle, bundle_at};
 ghost use Rattle.bundle_hook.specs.Indexes.{AreRight, HasAnswered, IsKeptAt, HasNoBundle};
-ghost use Rattle.bundle_hook.specs.Places.{Leads, IsAlong};
+ghost use Rattle.bundle_hook.specs.Places.{Leads, LeadsInto, IsAlong};
 
 use crate::indexes::{bundle_above, forget, index_at, kept_at};
 use crate::kept::Kept;
@@ -225,5 +225,38 @@ pub fn place_of<T: Tree>(
         place_by_stamp(tree, kept, path)
     } else {
         place_by_bundles(tree, kept, path)
+    }
+}
+
+/// The bundle that a path leads into. None where it leads into none, which costs no question about the path itself once
+/// something is kept: a call that goes on to the tree inside asks enough.
+pub fn bundle_for<T: Tree>(
+    tree: &mut T,
+    kept: &mut Seq<Kept>,
+    path: &TreePath,
+) -> Result<Option<Found>, TreeFault>
+    requires right { AreRight (T.files tree.old) kept.old }
+    requires answered { HasAnswered (T.files tree.old) kept.old }
+    ensures right { AreRight (T.files tree.old) kept.new }
+    ensures answered { HasAnswered (T.files tree.old) kept.new }
+    ensures along { IfOk result (λ o. IfSome o (λ found. found.parts ≤ length path.now)) }
+    ensures told { IfOk result (λ o. IfSome (T.files tree.old) (λ f. LeadsInto f kept.new path.now o)) }
+    ensures is_tree { IfSome (T.files tree.old) IsTree }
+    ensures failed { IsErrOf result TreeFault.Failed → Rose (T.faults tree.old) (T.faults tree.new) }
+    ensures faults_stay { OnOk result (T.faults tree.new ≡ T.faults tree.old) }
+    ensures files_stay { T.files tree.new ≡ T.files tree.old }
+    ensures faults_grow { T.faults tree.old ≤ T.faults tree.new }
+    ensures lists_stay { T.lists tree.new ≡ T.lists tree.old }
+{
+    if let Some(found) = bundle_above(kept, path) {
+        return Ok(Some(found));
+    }
+    if !kept.is_empty() {
+        let found = bundle_on(tree, kept, path)?;
+        return Ok(found);
+    }
+    match place_by_stamp(tree, kept, path)? {
+        Place::Outside(_) => Ok(None),
+        Place::Inside(found) => Ok(Some(found)),
     }
 }

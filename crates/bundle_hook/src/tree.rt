@@ -8,7 +8,7 @@ ghost use Rattle.bundle_hook.specs.Indexes.{AreRight, AreRight-prop, HasAnswered
 
 use crate::found::{inner_at, names_at, read_at, stamp_of};
 use crate::kept::Kept;
-use crate::place::{Place, place_of};
+use crate::place::{Place, bundle_for, place_of};
 use base_types::{NoMemory, Seq, Texts, TreePath};
 use std::alloc::Global;
 use tree_files::{Grove, Stamp, Tree, TreeFault};
@@ -70,12 +70,12 @@ impl<T: Tree> Tree for BundleTree<T> {
     }
 
     fn list(&mut self, dir: &TreePath) -> Result<Texts, TreeFault> {
-        match place_of(&mut self.tree, &mut self.kept, dir)? {
-            Place::Outside(_) => {
+        match bundle_for(&mut self.tree, &mut self.kept, dir)? {
+            None => {
                 let names = self.tree.list(dir)?;
                 Ok(names)
             }
-            Place::Inside(found) => {
+            Some(found) => {
                 let names = names_at(&self.kept, &found, dir)?;
                 self.more = self.more.saturating_add(1);
                 Ok(names)
@@ -84,12 +84,12 @@ impl<T: Tree> Tree for BundleTree<T> {
     }
 
     fn read(&mut self, file: &TreePath, at: u64, into: &mut [u8]) -> Result<usize, TreeFault> {
-        match place_of(&mut self.tree, &mut self.kept, file)? {
-            Place::Outside(_) => {
+        match bundle_for(&mut self.tree, &mut self.kept, file)? {
+            None => {
                 let count = self.tree.read(file, at, into)?;
                 Ok(count)
             }
-            Place::Inside(found) => {
+            Some(found) => {
                 let count = read_at(&mut self.tree, &self.kept, &found, file, at, into)?;
                 Ok(count)
             }
