@@ -20,14 +20,33 @@ fn set_of(names: &Texts) -> Result<IndexSet<Text>, NoMemory>
     Ok(set)
 }
 
+/// So many names are looked through one by one, which takes less time than a hash.
+const FEW: usize = 4;
+
+/// Whether a name is one of others, which are looked through.
+fn stands_among(names: &[Text], name: &Text) -> bool
+    ensures { result ≡ is_among name.now names.now }
+{
+    for other in names {
+        if name == other {
+            return true;
+        }
+    }
+    false
+}
+
 fn has(names: &IndexSet<Text>, name: &Text) -> bool
     ensures { result ≡ is_among name.now names.now.keys }
 {
-    names.contains(name)
+    if names.len() > FEW {
+        return names.contains(name);
+    }
+    stands_among(names.as_slice(), name)
 }
 
 /// A function of a script (Language Reference 8.7) with the names that are local in it (4.2.1), which contracts see as the
-/// function. Whether a name is local is answered by a hash, so it takes a time that does not grow with the body.
+/// function. Whether a name is local takes a time that does not grow with the body: few names are looked through, and of
+/// more one is found by a hash.
 pub struct Function {
     def: Shared<FuncDef>,
     bound: IndexSet<Text>,
