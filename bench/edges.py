@@ -6,8 +6,7 @@
 PROGRAM is the path of the program: `pyimport` at the top, once it is built, or `out/pyimport_main` below its crate. Each case
 makes files in a folder of its own, runs the program there, and says what must come. Where this script is run as root, the
 program is run as nobody, so that permissions count. Prints the cases that came otherwise, with `--show` all, and how many
-there were. Exit status 1 where one came otherwise. Needs a C compiler, which builds a library that puts a pipe into the place
-of a file between two calls of the system.
+there were. Exit status 1 where one came otherwise. Needs Python 3 alone.
 """
 import argparse
 import os
@@ -15,7 +14,6 @@ import pathlib
 import resource
 import shutil
 import signal
-import stat
 import subprocess
 import sys
 import tempfile
@@ -24,31 +22,6 @@ import preload
 
 SECONDS = 600
 NOBODY = 65534
-
-# Behind so many looks at the files whose names end as `SWAPPED` says, a pipe stands in the place of the one looked at.
-SWAPS = r"""
-#define _GNU_SOURCE
-#include <dlfcn.h>
-#include <stdlib.h>
-#include <string.h>
-#include <sys/stat.h>
-#include <unistd.h>
-
-static int looks;
-
-int statx(int dir, const char *path, int flags, unsigned mask, struct statx *found) {
-    static int (*real)(int, const char *, int, unsigned, struct statx *);
-    if (!real) real = dlsym(RTLD_NEXT, "statx");
-    int answer = real(dir, path, flags, mask, found);
-    const char *end = getenv("SWAPPED"), *after = getenv("AFTER");
-    size_t whole = strlen(path), last = end ? strlen(end) : 0;
-    if (last && whole >= last && !strcmp(path + whole - last, end) && ++looks == atoi(after)) {
-        unlink(path);
-        mkfifo(path, 0666);
-    }
-    return answer;
-}
-"""
 
 
 def used():
@@ -80,7 +53,7 @@ class Room:
     def at(self, path):
         return os.path.join(self.folder, path)
 
-    def run(self, *words, limits=None, env=None, out=None, is_ignored=False):
+    def run(self, *words, limits=None, out=None, is_ignored=False):
         """What comes of the program with these words, under limits of the system."""
 
         def before():
@@ -91,7 +64,7 @@ class Room:
 
         who = {"user": NOBODY, "group": NOBODY, "extra_groups": []} if os.geteuid() == 0 else {}
         earlier = used()
-        process = subprocess.Popen([self.program, *words], cwd=self.folder, env=env or {}, stdin=subprocess.DEVNULL,
+        process = subprocess.Popen([self.program, *words], cwd=self.folder, env={}, stdin=subprocess.DEVNULL,
                                    stdout=out or subprocess.PIPE, stderr=subprocess.PIPE, preexec_fn=before,
                                    restore_signals=not is_ignored, **who)
         try:
@@ -162,20 +135,6 @@ def shut_module(room):
     os.chmod(room.at("a.py"), 0)
     came = room.run("run", "main.py")
     return [came], came.status == 4 and came.err == "main.py: file fault\n" and came.out == "1\n"
-
-
-def swapped(room, looks):
-    room.files({"main.py": "print(1)\nimport a\n", "a.py": "print('a')\n"})
-    os.chmod(room.folder, 0o777)
-    env = {"LD_PRELOAD": room.swaps, "SWAPPED": "a.py", "AFTER": str(looks)}
-    came = room.run("run", "main.py", env=env)
-    return [came], stat.S_ISFIFO(os.stat(room.at("a.py")).st_mode) and came
-
-
-def pipe_behind_stamp(room):
-    """A file that becomes a pipe behind the look of the search is a fault of a file, and is not waited for."""
-    shown, came = swapped(room, 1)
-    return shown, came and came.status == 4 and came.err == "main.py: file fault\n" and came.out == "1\n"
 
 
 def pipe_as_script(room):
@@ -327,7 +286,7 @@ def nested_namespaces(room):
 
 CASES = [
     *[old_folder, shut_folder, unsearched_folder, unread_folder, shut_package, shut_script, shut_module],
-    *[pipe_behind_stamp, pipe_as_script, device_as_script, linked_ring, bytes_as_name],
+    *[pipe_as_script, device_as_script, linked_ring, bytes_as_name],
     *[error_of_two_lines, limit_on_files, limit_on_files_told, full_device, closed_reader],
     *[little_memory, no_threads, little_stack],
     *[long_name_of_nothing, long_name_of_module, long_name_again, nested_packages, nested_namespaces],
@@ -346,13 +305,10 @@ def main():
         os.chmod(room, 0o755)
         program = shutil.copy(given.program, os.path.join(room, "program"))
         os.chmod(program, 0o755)
-        swaps = preload.build(room, "swaps", SWAPS)
         for case in chosen:
             folder = os.path.join(room, case.__name__)
             os.mkdir(folder)
-            here = Room(program, folder)
-            here.swaps = swaps
-            shown, is_right = case(here)
+            shown, is_right = case(Room(program, folder))
             wrong += not is_right
             if given.show or not is_right:
                 print(f"{'as it must' if is_right else 'OTHERWISE'}: {case.__name__}: {case.__doc__}")
