@@ -14,6 +14,7 @@ use Rattle.meaning_state.specs.declared.flow.Flow.TheVariants.{Left, Went}
 use Rattle.meaning_state.specs.declared.flow.Leave.TheVariants.{Return}
 use Rattle.meaning_state.specs.declared.thread.State.{State}
 use Rattle.meaning_script.specs.Meaning.{around_at}
+use Rattle.meaning_script.specs.Names.{member}
 use Rattle.meaning_script.specs.Operators.{Around, applies_at, calls_first, eval, operands_at}
 use Rattle.meaning_script.specs.Pieces.{Piece, Onward, applied_on, gathers, in_order, on_value, operates, passes, pay, sized}
 use Rattle.meaning_script.specs.Statements.{BranchPiece, DefPiece, HandlerPiece, branch_at, def_at, handler_at, looped, returns, run, run_all, stmt_at, tests, turns}
@@ -46,7 +47,7 @@ use Rattle.step_straight.specs.Comes.{Comes, Gives, Resumes}
 use Rattle.step_straight.specs.declared.given.Given.{Given}
 use Rattle.step_straight.specs.declared.given.Given.TheVariants as given
 use Rattle.step_straight.specs.declared.given.Priced.{Priced}
-use Rattle.drive_straight.specs.Remains.{Affords, Due, IsIf, Leads, Moves, Returns, comes, first_operand, gives, goes_on, is_attribute, is_left, is_left_at, is_operated, operand_at, remains, returned_at, returned_of}
+use Rattle.drive_straight.specs.Remains.{Affords, Due, IsIf, Leads, Moves, Returns, attribute_name, comes, first_operand, gives, goes_on, is_attribute, is_left, is_left_at, is_operated, operand_at, remains, returned_at, returned_of}
 use Rattle.drive_straight.specs.declared.course.Course.{Course}
 use Rattle.drive_straight.specs.declared.next.Next.{Next}
 use Rattle.drive_straight.proofs.AtOnce.{decided, moves_paid, operands_begin, runs_rolled, test_comes}
@@ -323,6 +324,26 @@ call_applied c c' e vs others v h first behind is =
     let a = around_at sources c.thread.left in
     let k = sized (rest sources c.work c.thread.left) in
     rw is (ap (λ (vs : List Value). applies_at a (out-Expr e) vs s k) (first_and_rest vs others v first behind) ∙ ap (λ (p : Piece). p s k) (call_layer a (out-Expr e) v others h))
+
+-- ---- attributes
+
+attribute_layer : (a : Around) (d : Expr-F Expr) (x : List ℕ) (v : Value) → attribute_name d ≡ Some x → applies_at a d (v ∷ []) ≡ member a.access v x
+attribute_layer a (Expr-F.Attribute e y) x v h = ap (λ (z : List ℕ). member a.access v z) (some_same h)
+attribute_layer a d x v h = absurd (cc h)
+
+only : (vs : List Value) (v : Value) → length vs ≡ 1 → slice_get vs 0 ≡ Some v → vs ≡ v ∷ []
+only [] v one h = absurd (cc h)
+only (u ∷ []) v one h = ap (λ (x : Value). x ∷ []) (some_same h)
+only (u ∷ w ∷ vs) v one h = absurd (omega (arith, one))
+
+-- the attribute of the one value is read
+pub member_applied : (c c' : Course) (e : Expr) (vs : List Value) (v : Value) (x : List ℕ) → attribute_name (out-Expr e) ≡ Some x → length vs ≡ 1 → slice_get vs 0 ≡ Some v
+    → c' ≡ record { purse = c.purse; held = c.held; thread = c.thread; work = frame.Sized ∷ c.work } → remains c (want.Then (it.Apply e vs)) ≡ remains c' (want.Then (it.Member v x))
+member_applied c c' e vs v x name one first is =
+    let s = c.thread.state in
+    let a = around_at sources c.thread.left in
+    let k = sized (rest sources c.work c.thread.left) in
+    rw is (ap (λ (vs : List Value). applies_at a (out-Expr e) vs s k) (only vs v one first) ∙ ap (λ (p : Piece). p s k) (attribute_layer a (out-Expr e) x v name))
 
 -- ---- work that begins with an expression
 

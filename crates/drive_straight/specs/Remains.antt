@@ -3,6 +3,7 @@ use Rattle.std.specs.Prelude.{◌≡◌, ℕ, ◌+◌, List, [], Option, Some, N
 use Rattle.base_types.specs.declared.no_memory.NoMemory.{NoMemory}
 use Rattle.tree_files.specs.Files.{Files}
 use Rattle.py_value.specs.declared.value.Value.{Value}
+use Rattle.py_value.specs.declared.value.Value.TheVariants as values
 use Rattle.machine_events.specs.declared.event.Event.{Event}
 use Rattle.machine_events.specs.declared.event.Reply.{Reply}
 use Rattle.meaning_runs.specs.Runs.{Run}
@@ -78,9 +79,9 @@ due (next.Evaluate e) c = begins (it.Eval e) c
 due (next.Block stmts) c = begins (it.Block stmts 0) c
 due (next.ReadGlobal x) c = begins (it.ReadGlobal x) c
 due (next.Store x v) c = begins (it.Store x v) c
+due (next.Member m x) c = begins (it.Member (values.Module m) x) c
 due (next.Call callee arguments) c = begins (it.Call callee arguments) c
 due (next.Apply e vs) c = begins (it.Apply e vs) c
-due (next.Branches bs otherwise) c = begins (it.Branches bs 0 otherwise) c
 due (next.Begun stmts at) c = begins (it.Begun stmts at) c
 due (next.Piece item) c = begins item c
 due (next.Frame waiting) c = goes_on waiting.0 waiting.1 c
@@ -208,6 +209,11 @@ pub record IsIf (stmts : List Stmt) (at : ℕ) (bs : List Branch) (otherwise : L
 abbrev pub is_attribute : Expr-F Expr → Bool
 is_attribute (Expr-F.Attribute object x) = true
 is_attribute form = false
+
+-- the name of an attribute
+abbrev pub attribute_name : Expr-F Expr → Option (List ℕ)
+attribute_name (Expr-F.Attribute object x) = Some x
+attribute_name form = None
 
 -- an expression begins with its first operand; but a call of an attribute begins with the object of that, and `and` and
 -- `or` may leave out an operand

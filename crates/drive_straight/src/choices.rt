@@ -32,10 +32,12 @@ fn begin_if(
     let count = stmts.get().len();
     prove!(at < count);
     course.work.push(Frame::Block { stmts, at: at + 1 })?;
-    Ok(Next::Branches {
+    let item = Item::Branches {
         branches,
+        at: 0,
         otherwise,
-    })
+    };
+    Ok(Next::Piece(Boxed::new(alloc, item)?))
 }
 
 /// The branches of an `if`, and its block behind `else`.

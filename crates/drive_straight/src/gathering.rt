@@ -1,11 +1,11 @@
 //! Operands of an expression, for as long as they have values at once.
-ghost use Rattle.std.specs.Prelude.{◌≡◌, None, length, slice_get, true};
+ghost use Rattle.std.specs.Prelude.{◌≡◌, None, Some, length, slice_get, true};
 ghost use Rattle.std.specs.Option.{option_copied};
 ghost use Rattle.py_syntax.specs.declared.expr.Expr.{out-Expr};
 ghost use Rattle.meaning_script.specs.Operators.{operands_at};
 ghost use Rattle.py_frames.specs.declared.work.Form.TheVariants.{Expression};
 ghost use Rattle.py_frames.specs.declared.work.Item.TheVariants as items;
-ghost use Rattle.drive_straight.specs.Remains.{Leads, begins};
+ghost use Rattle.drive_straight.specs.Remains.{Leads, attribute_name, begins};
 ghost use Rattle.step_expressions.specs.OperatorForms.{is_call};
 
 use crate::course::Course;
@@ -13,7 +13,7 @@ use crate::names::reach;
 use crate::next::Next;
 use crate::paying::afford;
 use base_owners::{Boxed, Shared};
-use base_types::{NoMemory, Seq};
+use base_types::{Exact, NoMemory, Seq, Text};
 use py_frames::{Form, Frame, Item};
 use py_syntax::Expr;
 use py_value::Value;
@@ -67,6 +67,38 @@ fn is_call(expr: &Expr) -> bool
     }
 }
 
+/// The name of an attribute.
+fn attribute_name(expr: &Expr) -> Option<&Text>
+    ensures { option_copied result ≡ attribute_name (out-Expr expr.now) }
+{
+    match expr {
+        Expr::Attribute(_, name) => Some(name),
+        _ => None,
+    }
+}
+
+/// An attribute whose object has a value, and whose unit is paid. That of a module is asked for.
+fn member(
+    course: &mut Course,
+    expr: Shared<Expr>,
+    name: Text,
+    values: Seq<Value>,
+) -> Result<Next, NoMemory>
+    requires form { attribute_name (out-Expr expr) ≡ Some name }
+    ensures moves { Leads course.old (begins (items.Apply expr values)) course.new result }
+    ensures held { course.new.held ≡ course.old.held }
+{
+    if values.len() != 1 {
+        return Ok(Next::Apply { expr, values });
+    }
+    let module = match values.get(0) {
+        Some(Value::Module(module)) => module.copy()?,
+        _ => return Ok(Next::Apply { expr, values }),
+    };
+    course.work.push(Frame::Sized)?;
+    Ok(Next::Member(module, name))
+}
+
 /// All operands have values: the unit of the expression is paid, and it is applied to them.
 fn apply(
     alloc: Global,
@@ -85,7 +117,13 @@ fn apply(
     if is_call(expr.get()) {
         return call(course, expr, values);
     }
-    Ok(Next::Apply { expr, values })
+    match attribute_name(expr.get()) {
+        None => Ok(Next::Apply { expr, values }),
+        Some(name) => {
+            let name = name.copy()?;
+            member(course, expr, name, values)
+        }
+    }
 }
 
 /// The operands of an expression that have no values yet, for as long as they have some at once, and then the

@@ -22,4 +22,5 @@ pub use deciding::decide;
 pub use expressions::evaluate;
 pub use loops::turn;
 pub use next::Next;
-pub use resuming::{is_in_place, resume_block, resume_loop, resume_operand, resume_sized};
+pub use paying::spend;
+pub use resuming::{resume_block, resume_loop, resume_operand, resume_sized};

@@ -17,8 +17,8 @@ use py_value::{Value, truth};
 use std::alloc::Global;
 use step_straight::Priced;
 
-/// A turn whose test has no value at once: its unit is paid, and then the test comes, of which it was found what it comes
-/// to at once, if it comes to anything.
+/// A turn whose test has no value at once: its unit is paid, and then the test comes, of which it was found what it
+/// comes to at once, if it comes to anything.
 fn begin_test(
     alloc: Global,
     course: &mut Course,

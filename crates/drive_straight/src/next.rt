@@ -3,8 +3,8 @@ use base_owners::{Boxed, Shared};
 use base_types::{Seq, Text};
 use meaning_state::{Flow, Leave};
 use py_frames::{Frame, Item, Want};
-use py_syntax::{Branch, Expr, Stmt};
-use py_value::Value;
+use py_syntax::{Expr, Stmt};
+use py_value::{ModRef, Value};
 
 /// What comes next. It is small, since it is moved at each return: what is rare is on the heap.
 #[derive(Drop)]
@@ -21,6 +21,8 @@ pub enum Next {
     ReadGlobal(Text),
     /// A name is bound to a value.
     Store(Text, Value),
+    /// An attribute of a module is read.
+    Member(ModRef, Text),
     /// A call, piece by piece.
     Call {
         callee: Value,
@@ -30,11 +32,6 @@ pub enum Next {
     Apply {
         expr: Shared<Expr>,
         values: Seq<Value>,
-    },
-    /// The branches of an `if`, piece by piece.
-    Branches {
-        branches: Shared<Seq<Branch>>,
-        otherwise: Shared<Seq<Stmt>>,
     },
     /// A statement of a block, once its unit is paid, piece by piece.
     Begun {

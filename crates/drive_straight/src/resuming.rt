@@ -152,15 +152,3 @@ pub fn resume_sized(alloc: Global, course: &mut Course, value: Value) -> Result<
     }
     give_operand(alloc, course, value)
 }
-
-/// Whether what follows is done in place where a value comes to the frame. Else the frame goes on piece by piece.
-pub fn is_in_place(frame: &Frame) -> bool {
-    match frame {
-        Frame::Sized
-        | Frame::Block { .. }
-        | Frame::Loop { .. }
-        | Frame::Operands { .. }
-        | Frame::Decide { .. } => true,
-        _ => false,
-    }
-}

@@ -1,60 +1,68 @@
 -- What is done in place, one piece behind the other.
-use Rattle.std.proofs.Common.{◌≡◌, ℕ, List, [], ◌∷◌, Option, Result, subst, sym, ◌∙◌}
+use Rattle.std.proofs.Common.{◌≡◌, ℕ, List, [], ◌∷◌, Option, Result, IfOk, ap, subst, sym}
 use Rattle.std.proofs.lemmas.Result.{IfOk-weaker}
 use Rattle.base_types.specs.declared.no_memory.NoMemory.{NoMemory}
 use Rattle.tree_files.specs.Files.{Files}
-use Rattle.py_value.specs.declared.value.Value.{Value}
 use Rattle.machine_events.specs.declared.event.Event.{Event}
 use Rattle.machine_events.specs.declared.event.Reply.{Reply}
 use Rattle.meaning_runs.specs.Runs.{Run}
+use Rattle.py_value.specs.declared.value.Value.{Value}
+use Rattle.meaning_state.specs.declared.flow.Flow.{Flow}
 use Rattle.meaning_state.specs.declared.flow.Flow.TheVariants.{Went}
+use Rattle.meaning_state.specs.declared.thread.State.{State}
+use Rattle.meaning_script.specs.Meaning.{ends}
 use Rattle.step_calls.specs.Sources.{sources}
-use Rattle.py_frames.specs.Does.{rest}
+use Rattle.py_frames.specs.Does.{frame_does, rest}
 use Rattle.py_frames.specs.declared.want.Want.{Want}
 use Rattle.py_frames.specs.declared.want.Want.TheVariants as want
 use Rattle.py_frames.specs.declared.work.Frame.{Frame}
 use Rattle.drive_account.specs.At.{At}
+use Rattle.drive_account.specs.declared.port.Halt.{Halt}
 use Rattle.drive_account.specs.declared.purse.Purse.{Purse}
-use Rattle.drive_straight.specs.Remains.{Due, Leads, LeadsTo, Moves, due, gives, goes_on}
+use Rattle.drive_straight.specs.Remains.{Due, Leads, LeadsTo, due, remains}
 use Rattle.drive_straight.specs.declared.course.Course.{Course}
 use Rattle.drive_straight.specs.declared.next.Next.{Next}
 use Rattle.drive_straight.specs.declared.next.Next.TheVariants as nexts
-use Rattle.py_run.specs.Turns.{Wants}
+use Rattle.py_run.specs.Turns.{Stepped}
+use Rattle.py_run.specs.declared.course.Turn.{Turn}
+use Rattle.py_run.specs.declared.course.Turn.TheVariants as turn
 
 -- whatever script stood at the first run stands at the other
 abbrev pub Reaches : Purse → Run → Purse → Run → Type 0
 Reaches p run q next = (files : Option Files) (whole : Run) (fuel : ℕ) (mine : List (Event × Reply)) → At files whole fuel mine p run → At files whole fuel mine q next
 
--- what is wanted behind a way that was gone
-pub wants_behind : (old mid new : Course) (was between : Due) (r : Result Want NoMemory) → Reaches old.purse (was old) mid.purse (between mid) → Wants mid between new r → Wants old was new r
-wants_behind old mid new was between r first = IfOk-weaker r _ _ (λ w second files whole fuel mine a. second files whole fuel mine (first files whole fuel mine a))
-
 -- what comes next is known
 pub known : (old c : Course) (was : Due) (next next' : Next) → next ≡ next' → LeadsTo old was c next → Reaches old.purse (was old) c.purse (due next' c)
 known old c was next next' is leads = subst (λ (n : Next). LeadsTo old was c n) is leads
 
--- a value comes to a frame that was taken off
-pub comes_by : (old c : Course) (was : Due) (next : Next) (v : Value) (f : Frame) (frames : List Frame) → next ≡ nexts.Went v → c.work ≡ f ∷ frames → LeadsTo old was c next
-    → Reaches old.purse (was old) c.purse (goes_on f (Went v) (record { purse = c.purse; held = c.held; thread = c.thread; work = frames }))
-comes_by old c was next v f frames is work leads files whole fuel mine a =
-    subst (λ (fs : List Frame). At files whole fuel mine c.purse (rest sources fs c.thread.left (Went v) c.thread.state)) work
-    (known old c was next (nexts.Went v) is leads files whole fuel mine a)
-
--- or to one that is put back
-pub comes_back : (c : Course) (f : Frame) (frames : List Frame) (v : Value) → frames ≡ f ∷ c.work
-    → Reaches c.purse (goes_on f (Went v) c) c.purse (gives v (record { purse = c.purse; held = c.held; thread = c.thread; work = frames }))
-comes_back c f frames v is files whole fuel mine a =
-    subst (λ (fs : List Frame). At files whole fuel mine c.purse (rest sources fs c.thread.left (Went v) c.thread.state)) (sym is) a
-
--- a value comes where no frame is left
-pub none_left : (old c : Course) (was : Due) (next : Next) (v : Value) (frames : List Frame) → next ≡ nexts.Went v → (c.work ≡ []) × (frames ≡ []) → LeadsTo old was c next
-    → Moves old.purse (was old) (record { purse = c.purse; held = c.held; thread = c.thread; work = frames }) (want.Go (Went v))
-none_left old c was next v frames is none leads files whole fuel mine a =
-    subst (λ (fs : List Frame). At files whole fuel mine c.purse (rest sources fs c.thread.left (Went v) c.thread.state)) (none.0 ∙ sym none.1)
-    (known old c was next (nexts.Went v) is leads files whole fuel mine a)
+-- what is wanted is known
+pub known_want : (old c : Course) (was : Run) (w w' : Want) → w ≡ w' → Reaches old.purse was c.purse (remains c w) → Reaches old.purse was c.purse (remains c w')
+known_want old c was w w' is moves = subst (λ (w : Want). Reaches old.purse was c.purse (remains c w)) is moves
 
 -- what comes next behind a way that was gone
+pub led_behind : (old mid new : Course) (was between : Due) (r : Result Next NoMemory) → Reaches old.purse (was old) mid.purse (between mid) → Leads mid between new r → Leads old was new r
+led_behind old mid new was between r first = IfOk-weaker r _ _ (λ next second files whole fuel mine a. second files whole fuel mine (first files whole fuel mine a))
+
 pub led_by : (old mid new : Course) (was between : Due) (r r' : Result Next NoMemory) → Reaches old.purse (was old) mid.purse (between mid) → r ≡ r' → Leads mid between new r' → Leads old was new r
-led_by old mid new was between r r' first is leads =
-    subst (λ (r : Result Next NoMemory). Leads old was new r) (sym is)
-    (IfOk-weaker r' _ _ (λ next second files whole fuel mine a. second files whole fuel mine (first files whole fuel mine a)) leads)
+led_by old mid new was between r r' first is leads = subst (λ (r : Result Next NoMemory). Leads old was new r) (sym is) (led_behind old mid new was between r' first leads)
+
+-- what is wanted is handed on
+pub led_wanted : (old c : Course) (was : Due) (w : Want) (r : Result Next NoMemory) → Reaches old.purse (was old) c.purse (remains c w) → (IfOk r (λ next. next ≡ nexts.Wanted w)) → Leads old was c r
+led_wanted old c was w r first = IfOk-weaker r _ _ (λ next is files whole fuel mine a. subst (λ (n : Next). At files whole fuel mine c.purse (due n c)) (sym is) (first files whole fuel mine a))
+
+-- a way on comes where no frame is left
+pub over_here : (c : Course) (flow : Flow) (frames : List Frame) → ((d : ℕ) (s : State) → rest sources c.work d flow s ≡ ends flow s) → frames ≡ []
+    → Reaches c.purse (remains c (want.Go flow)) c.purse (remains (record { purse = c.purse; held = c.held; thread = c.thread; work = frames }) (want.Go flow))
+over_here c flow frames comes none files whole fuel mine a =
+    rw none (subst (λ (run : Run). At files whole fuel mine c.purse run) (comes c.thread.left c.thread.state) a)
+
+-- a value comes to the first frame
+pub came_to : (c : Course) (v : Value) (f : Frame) (frames : List Frame) → c.work ≡ f ∷ frames → (d : ℕ) (s : State) → rest sources c.work d (Went v) s ≡ frame_does sources d f (rest sources frames) (Went v) s
+came_to c v f frames is d s = ap (λ (fs : List Frame). rest sources fs d (Went v) s) is
+
+-- a turn behind a way that was gone
+pub stepped_behind : (purse : Purse) (run between : Run) (mid after : Course) (r : Result Turn Halt) → Reaches purse run mid.purse between → (IfOk r (λ t. Stepped mid.purse after between t)) → IfOk r (λ t. Stepped purse after run t)
+stepped_behind purse run between mid after r first = IfOk-weaker r _ _ (λ t step files faults mine. record {
+  moves = λ whole fuel a. (step files faults mine).moves whole fuel (first files whole fuel mine a);
+  counts = (step files faults mine).counts;
+})

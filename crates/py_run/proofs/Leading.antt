@@ -8,6 +8,7 @@ use Rattle.machine_events.specs.declared.event.Event.{Event}
 use Rattle.machine_events.specs.declared.event.Reply.{Reply}
 use Rattle.machine_events.specs.declared.event.Reply.TheVariants as kinds
 use Rattle.machine_shown.specs.Shown.{is_namespace_path}
+use Rattle.py_value.specs.declared.value.ModRef.{ModRef}
 use Rattle.py_value.specs.declared.value.Value.{Value}
 use Rattle.meaning_runs.specs.Runs.{Run}
 use Rattle.meaning_runs.specs.Costs.{after_reply}
@@ -40,16 +41,6 @@ LeadsOn purse run c r = IfOk r (λ next. Moves purse run c next)
 pub wanted : (purse : Purse) (run : Run) (c : Course) (w w' : Want) → w ≡ w' → Moves purse run c w → Moves purse run c w'
 wanted purse run c w w' is moves = subst (λ (w : Want). Moves purse run c w) is moves
 
-pub over_course : (purse : Purse) (run : Run) (r : Result Want NoMemory) (c c' : Course) → c ≡ c' → LeadsOn purse run c' r → LeadsOn purse run c r
-over_course purse run r c c' is leads = subst (λ (c : Course). LeadsOn purse run c r) (sym is) leads
-
--- a step, behind a payment or none
-pub leads : (purse : Purse) (run : Run) (c c' : Course) (w : Want) (next : Run) (r r' : Result Want NoMemory) → Moves purse run c w → r ≡ r'
-    → ((files : Option Files) (whole : Run) (fuel : ℕ) (mine : List (Event × Reply)) → At files whole fuel mine c.purse (remains c w) → At files whole fuel mine c'.purse next)
-    → IfOk r' (λ w'. remains c' w' ≡ next) → LeadsOn purse run c' r
-leads purse run c c' w next r r' moves is pays means =
-    rw is (IfOk-weaker r' _ _ (λ w' m. λ files whole fuel mine a. rw m (pays files whole fuel mine (moves files whole fuel mine a))) means)
-
 -- what was due is done as far as it can be
 pub leads_by : (purse : Purse) (run : Run) (c mid after : Course) (w : Want) (was : Due) (r r' : Result Want NoMemory) → Moves purse run c w
     → ((files : Option Files) (whole : Run) (fuel : ℕ) (mine : List (Event × Reply)) → At files whole fuel mine c.purse (remains c w) → At files whole fuel mine mid.purse (was mid))
@@ -62,18 +53,6 @@ pub comes_on : (c : Course) (flow : Flow) (frame : Frame) (frames : List Frame) 
     → (files : Option Files) (whole : Run) (fuel : ℕ) (mine : List (Event × Reply)) → At files whole fuel mine c.purse (remains c (want.Go flow))
     → At files whole fuel mine c.purse (goes_on frame flow (record { purse = c.purse; held = c.held; thread = c.thread; work = frames }))
 comes_on c flow frame frames comes files whole fuel mine a = subst (λ (r : Run). At files whole fuel mine c.purse r) (comes c.thread.left c.thread.state) a
-
--- a reply that was paid for comes to what waits for it
-pub leads_replied : (purse : Purse) (run : Run) (c c' : Course) (paid : Purse) (on : OnReply) (reply : Reply) (thread : Thread) (r r' : Result Want NoMemory)
-    → Moves purse run c (want.Replied on reply)
-    → ((files : Option Files) (whole : Run) (fuel : ℕ) (mine : List (Event × Reply)) (next : Run) → At files whole fuel mine c.purse (after_reply reply next) → At files whole fuel mine paid next)
-    → c' ≡ record { purse = paid; held = c.held; thread = thread; work = c.work } → r ≡ r'
-    → IfOk r' (DoesIn sources thread (replies on reply c.thread sources)) → LeadsOn purse run c' r
-leads_replied purse run c c' paid on reply thread r r' moves pays is same does =
-    let after : Course = record { purse = paid; held = c.held; thread = thread; work = c.work } in
-    let next : Run = reply_does sources c.thread.left on (rest sources c.work) c.thread.state reply in
-    over_course purse run r c' after is (leads purse run c after (want.Replied on reply) next r r' moves same (λ files whole fuel mine a. pays files whole fuel mine next a)
-    (IfOk-weaker r' (DoesIn sources thread (replies on reply c.thread sources)) (λ w. remains after w ≡ next) (λ w d. d.does (rest sources c.work)) does))
 
 -- the same of one whose cost is paid, where it leads to what is wanted
 pub replied_on : (old after : Course) (on : OnReply) (reply : Reply) (thread : Thread) (r : Result Want NoMemory) (w : Want)
@@ -104,14 +83,6 @@ hands_next purse run c next moves files faults mine = record {
   counts = refl;
 }
 
--- what is wanted comes next
-pub handed : (old c : Course) (was : Due) (w : Want) (r : Result Next NoMemory) → Moves old.purse (was old) c w → IfOk r (λ next. (c : Course) → due next c ≡ remains c w) → Leads old was c r
-handed old c was w r moves = IfOk-weaker r _ _ (λ next is files whole fuel mine a. subst (λ (run : Run). At files whole fuel mine c.purse run) (sym (is c)) (moves files whole fuel mine a))
-
--- what is wanted is handed on
-pub hands_on : (purse : Purse) (run : Run) (c : Course) (w : Want) (r : Result Turn Halt) → Moves purse run c w → IfOk r (λ t. (c : Course) → Stepped c.purse c (remains c w) t) → IfOk r (Stepped purse c run)
-hands_on purse run c w r moves = IfOk-weaker r _ _ (λ t step. comes_to purse run c c w t moves (step c))
-
 -- the same turn from a run in other words
 pub stepped_as : (purse : Purse) (after : Course) (t : Turn) (run run' : Run) → run ≡ run' → Stepped purse after run' t → Stepped purse after run t
 stepped_as purse after t run run' is step = subst (λ (run : Run). Stepped purse after run t) (sym is) step
@@ -131,6 +102,11 @@ followed old new paid on on' reply reply' r is same pays = IfOk-weaker r _ _ (λ
 -- a variable of the module has a value that is no path of a namespace
 pub global_came : (c : Course) (x : List ℕ) (v : Value) → is_namespace_path v ≡ false → replied_at (on.Global x) (kinds.Value v) c ≡ remains c (want.Go (Went v))
 global_came c x v plain = rw plain refl
+
+-- and so has an attribute
+pub member_came : (c : Course) (m : ModRef) (x : List ℕ) (raw : Bool) (v : Value) → is_namespace_path v ≡ false → replied_at (on.Member m x raw) (kinds.Value v) c ≡ remains c (want.Go (Went v))
+member_came c m x true v plain = rw plain refl
+member_came c m x false v plain = rw plain refl
 
 pub negated : (b : Bool) → not b ≡ true → b ≡ false
 negated true h = absurd (false≢true h)

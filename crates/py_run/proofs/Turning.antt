@@ -12,8 +12,14 @@ use Rattle.drive_account.specs.declared.port.Halt.{Halt}
 use Rattle.py_frames.specs.declared.want.Want.{Want}
 use Rattle.py_frames.specs.declared.want.Want.TheVariants as want
 use Rattle.py_frames.specs.declared.replies.OnReply.TheVariants as on
-use Rattle.py_value.specs.declared.value.Value.{Value}
-use Rattle.meaning_script.specs.Names.{is_local_name}
+use Rattle.py_value.specs.declared.value.ModRef.{ModRef}
+use Rattle.py_value.specs.declared.value.Value.{Value, out-Value, out-roll-Value}
+use Rattle.py_value.specs.declared.value.Value.TheOpen.{Value-F}
+use Rattle.py_value.specs.declared.value.Value.TheVariants.{rolls-Module}
+use Rattle.meaning_script.specs.Meaning.{around_at}
+use Rattle.step_calls.specs.Sources.{sources}
+use Rattle.py_frames.specs.Does.{rest}
+use Rattle.meaning_script.specs.Names.{is_local_name, member_at}
 use Rattle.machine_events.specs.declared.event.Event.TheVariants as e
 use Rattle.drive_account.specs.declared.held.Held.{Held}
 use Rattle.drive_account.specs.Ending.{Holds}
@@ -99,6 +105,11 @@ due_wanted c next w w' is same = due_as c next (nexts.Wanted w) is ∙ ap (λ (w
 -- the event by which a variable of the module is read, and by which it is bound
 pub reads_by : (c : Course) (x y : List ℕ) → y ≡ x → due (nexts.ReadGlobal x) c ≡ remains c (want.Call (e.GetVar c.thread.state.scope.mid y true) (on.Global x))
 reads_by c x y same = rw same refl
+
+pub member_by : (c : Course) (m : ModRef) (x y : List ℕ) (k : ℕ) → y ≡ x → k ≡ m.mid → due (nexts.Member m x) c ≡ remains c (want.Call (e.GetVar k y false) (on.Member m x false))
+member_by c m x y k same is =
+    rw (same, is) (ap (λ (layer : Value-F Value). member_at (around_at sources c.thread.left).access layer x c.thread.state (rest sources c.work c.thread.left))
+    (ap out-Value (sym (rolls-Module m)) ∙ out-roll-Value (Value-F.Module m)))
 
 pub binds_by : (c : Course) (x : List ℕ) (v : Value) → is_local_name c.thread.state x ≡ false → due (nexts.Store x v) c ≡ remains c (want.Call (e.SetVar c.thread.state.scope.mid x v true) on.Stored)
 binds_by c x v plain = rw plain refl

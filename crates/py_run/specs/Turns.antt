@@ -1,5 +1,5 @@
 -- What a turn of the driver does.
-use Rattle.std.specs.Prelude.{◌≡◌, ℕ, List, Option, Some, None, Result, IfOk}
+use Rattle.std.specs.Prelude.{◌≡◌, ℕ, List, Option, Some, None, Result, IfOk, false}
 use Rattle.base_types.specs.declared.no_memory.NoMemory.{NoMemory}
 use Rattle.tree_files.specs.Files.{Files}
 use Rattle.tree_files.specs.Count.{Rose}
@@ -8,7 +8,7 @@ use Rattle.tree_files.specs.declared.tree.Stamp.TheVariants as stamps
 use Rattle.machine_events.specs.declared.event.Event.{Event}
 use Rattle.machine_events.specs.declared.event.Reply.{Reply}
 use Rattle.machine_events.specs.declared.event.Reply.TheVariants as replies
-use Rattle.machine_shown.specs.Shown.{shown}
+use Rattle.machine_shown.specs.Shown.{is_namespace_path, shown}
 use Rattle.meaning_runs.specs.Runs.{Run, Over, Ended, IsUnread, Safe}
 use Rattle.drive_account.specs.View.{View}
 use Rattle.drive_account.specs.declared.held.Held.{Held}
@@ -32,7 +32,9 @@ use Rattle.py_run.specs.declared.course.Turn.{Turn}
 use Rattle.py_run.specs.declared.course.Turn.TheVariants as turn
 use Rattle.drive_account.specs.declared.purse.Purse.{Purse}
 pub use Rattle.drive_straight.specs.Remains.{remains}
-use Rattle.drive_straight.specs.Remains.{Due, Moves, due}
+use Rattle.drive_straight.specs.Remains.{Due, LeadsTo, Moves, due}
+use Rattle.py_run.specs.declared.working.Begun.{Begun}
+use Rattle.py_run.specs.declared.working.Begun.TheVariants as begun
 
 -- what remains where a procedure is fed
 abbrev pub feeds : Course → Procedure → In → Run
@@ -46,6 +48,12 @@ replied_at on reply c = reply_does sources c.thread.left on (rest sources c.work
 abbrev pub brought : Reply → Value
 brought (replies.Value v) = v
 brought reply = values.Nothing
+
+-- the reply brings a value that is no path of a namespace
+pub record HasPlainValue (reply : Reply) : Type 0 where
+  pub value : Value
+  pub is : reply ≡ replies.Value value
+  pub plain : is_namespace_path value ≡ false
 
 -- such a reply brings its value, and nothing else is to be done
 abbrev pub IsPlain : OnReply → Reply → Type 0
@@ -105,3 +113,8 @@ pub record Stood {S : Type 0} (v : View S) (held : Held) (run : Run) : Type 0 wh
 -- whatever script stood at what was due stands at what is wanted, if memory was not wanted
 abbrev pub Wants : Course → Due → Course → Result Want NoMemory → Type 0
 Wants old was new r = IfOk r (λ want. Moves old.purse (was old) new want)
+
+-- whatever script stood at what was due stands at what the piece of work comes to that begins
+abbrev pub BegunAt : Course → Due → Course → Begun → Type 0
+BegunAt old was new (begun.Next next) = LeadsTo old was new next
+BegunAt old was new (begun.Wants w) = Moves old.purse (was old) new w

@@ -11,7 +11,7 @@ ghost use Rattle.py_run.specs.Starts.{started};
 use crate::course::Turn;
 use crate::start::{Start, first_want};
 use crate::turn::give;
-use crate::working::hand_on;
+use crate::working::wanted;
 use drive_account::{Halt, Port};
 use drive_straight::Course;
 use meaning_state::Flow;
@@ -61,7 +61,7 @@ pub fn run<P: Port, T: Tree>(
         Ok(want) => want,
         Err(_) => return Err(Halt::NoMemory),
     };
-    let mut next = match hand_on(alloc, first) {
+    let mut next = match wanted(alloc, first) {
         Ok(next) => next,
         Err(_) => return Err(Halt::NoMemory),
     };

@@ -13,7 +13,7 @@ ghost use Rattle.drive_account.specs.Asking.{Parted, Refused, Asked, AllKept};
 ghost use Rattle.py_run.specs.Turns.{Stood, Turned, After, Counts, remains, feeds};
 
 use crate::course::Turn;
-use crate::steps::feed;
+use crate::working::feed;
 use drive_account::{Halt, Port, Sought, seek};
 use drive_straight::Course;
 use find_load::In;

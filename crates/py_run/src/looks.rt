@@ -11,7 +11,7 @@ ghost use Rattle.drive_account.specs.Asking.{Asked};
 ghost use Rattle.py_run.specs.Turns.{Looked, IsFileStamp, remains, feeds};
 
 use crate::course::Turn;
-use crate::steps::feed;
+use crate::working::feed;
 use base_types::TreePath;
 use drive_account::Halt;
 use drive_straight::Course;

@@ -12,13 +12,13 @@ ghost use Rattle.drive_straight.specs.declared.next.Next.TheVariants as nexts;
 ghost use Rattle.py_run.specs.Turns.{Stood, Made, made, remains};
 
 use crate::course::Turn;
-use crate::working::{follow, turn_on};
+use crate::working::{follow, lead_on};
 use base_types::{Exact, Text};
 use drive_account::{Halt, Port, change_of};
 use drive_straight::Course;
 use machine_events::{Event, Reply};
 use py_frames::{Item, OnReply, Want};
-use py_value::Value;
+use py_value::{ModRef, Value};
 use std::alloc::Global;
 
 /// An event is made, for a unit, and its reply comes. None where the unit is not there.
@@ -132,6 +132,45 @@ pub fn read<P: Port>(
     call(alloc, port, course, event, OnReply::Global(name))
 }
 
+/// An attribute of a module is read.
+pub fn read_member<P: Port>(
+    alloc: Global,
+    port: &mut P,
+    course: &mut Course,
+    module: ModRef,
+    name: Text,
+) -> Result<Turn, Halt>
+    requires stood { Stood (P.view port.old) course.old.held (due (nexts.Member «module» name)
+        course.old) }
+    ensures stays { Stays (P.view port.old) (P.view port.new) }
+    ensures turned { IfOk result (Made (P.view port.old).mine (P.view port.new).mine course.old.purse course.new
+        (due (nexts.Member «module» name) course.old)) }
+    ensures grows { OnOk result (lists_in (P.view port.old).mine ≤ lists_in (P.view port.new).mine) }
+    ensures holds { OnOk result (Holds (P.view port.new) course.new.held) }
+    ensures part { OnErr result ((files : Option Files) → Parted files (P.view port.old).mine
+        (P.view port.new).mine course.old.purse (due (nexts.Member «module» name) course.old)) }
+    ensures refused { IsErrOf result Halt.Refused → (files : Option Files)
+        → Refused (P.view port.new) files (P.view port.old).mine course.old.purse
+        (due (nexts.Member «module» name) course.old) }
+{
+    let copied = match name.copy() {
+        Ok(copied) => copied,
+        Err(_) => return Err(Halt::NoMemory),
+    };
+    let event = Event::GetVar {
+        mid: module.mid(),
+        name: copied,
+        raw: false,
+    };
+    let is_raw = false;
+    let on = OnReply::Member {
+        module,
+        name,
+        is_raw,
+    };
+    call(alloc, port, course, event, on)
+}
+
 /// A variable of the module is bound to a value.
 pub fn bind<P: Port>(
     alloc: Global,
@@ -185,7 +224,7 @@ pub fn wait<P: Port>(
     match port.wait() {
         Ok(reply) => {
             drop(reply);
-            turn_on(alloc, Want::Then(item))
+            lead_on(alloc, course, Want::Then(item))
         }
         Err(halt) => {
             drop(item);

@@ -1,20 +1,12 @@
-//! What turns are made of that see neither a port nor a tree.
-ghost use Rattle.std.specs.Prelude.{◌≡◌, ℕ, IfOk, IsErrOf, MatchOption};
+//! What waits for a way on.
+ghost use Rattle.std.specs.Prelude.{◌≡◌, ℕ, MatchOption};
 ghost use Rattle.meaning_script.specs.Meaning.{ends};
 ghost use Rattle.step_calls.specs.Sources.{sources};
 ghost use Rattle.meaning_state.specs.declared.thread.State.{State};
 ghost use Rattle.py_frames.specs.Does.{rest, frame_does};
-ghost use Rattle.py_run.specs.Turns.{Stepped, feeds};
 
-use crate::course::Turn;
-use crate::working::turn_on;
-use drive_account::Halt;
-use drive_straight::Course;
-use find_load::In;
 use meaning_state::Flow;
-use py_frames::{Frame, Procedure, Work};
-use std::alloc::Global;
-use step_dispatch::fed;
+use py_frames::{Frame, Work};
 
 /// What waits for a way on: no frame, or the first one that it does not pass.
 pub fn next_frame(work: &mut Work, flow: &Flow) -> Option<Frame>
@@ -25,22 +17,5 @@ pub fn next_frame(work: &mut Work, flow: &Flow) -> Option<Frame>
     match flow {
         Flow::Left(leave) => work.unwind(leave),
         Flow::Went(_) => work.pop(),
-    }
-}
-
-/// A procedure is fed.
-pub fn feed(
-    alloc: Global,
-    course: &mut Course,
-    procedure: Procedure,
-    input: In,
-) -> Result<Turn, Halt>
-    ensures turned { IfOk result (Stepped course.old.purse course.new (feeds course.old procedure input)) }
-    ensures held { course.new.held ≡ course.old.held }
-    ensures refused { IsErrOf result Halt.Refused → ⊥ }
-{
-    match fed(alloc, procedure, input, &mut course.thread) {
-        Ok(want) => turn_on(alloc, want),
-        Err(_) => Err(Halt::NoMemory),
     }
 }

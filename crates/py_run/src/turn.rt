@@ -9,8 +9,8 @@ ghost use Rattle.py_run.specs.Turns.{Stepped, Stood, Turned, remains};
 use crate::course::Turn;
 use crate::find::find;
 use crate::looks::file;
-use crate::makes::{bind, call, read, wait};
-use crate::working::{next_piece, work_on};
+use crate::makes::{bind, call, read, read_member, wait};
+use crate::working::{go_straight, work_on};
 use drive_account::{Halt, Port};
 use drive_straight::{Course, Next};
 use py_frames::Want;
@@ -52,18 +52,6 @@ fn give_wanted<P: Port, T: Tree>(
     }
 }
 
-/// What comes next, piece by piece, for as long as that needs neither a port nor a tree.
-fn piece(alloc: Global, course: &mut Course, next: Next) -> Result<Turn, Halt>
-    ensures turned { IfOk result (Stepped course.old.purse course.new (due next course.old)) }
-    ensures held { course.new.held ≡ course.old.held }
-    ensures refused { IsErrOf result Halt.Refused → ⊥ }
-{
-    match next_piece(alloc, course, next) {
-        Ok(want) => work_on(alloc, course, want),
-        Err(_) => Err(Halt::NoMemory),
-    }
-}
-
 /// Gives what comes next.
 pub fn give<P: Port, T: Tree>(
     alloc: Global,
@@ -90,10 +78,11 @@ pub fn give<P: Port, T: Tree>(
         Next::Wanted(want) => give_wanted(alloc, port, tree, course, want.into_inner()),
         Next::Store(name, value) => {
             if is_local_name(&course.thread, &name) {
-                return piece(alloc, course, Next::Store(name, value));
+                return go_straight(alloc, course, Next::Store(name, value));
             }
             bind(alloc, port, course, name, value)
         }
-        next => piece(alloc, course, next),
+        Next::Member(module, name) => read_member(alloc, port, course, module, name),
+        next => go_straight(alloc, course, next),
     }
 }

@@ -1,8 +1,14 @@
-use Rattle.std.proofs.Common.{refl, rules}
+use Rattle.std.proofs.Common.{refl, rules, subst, sym}
+use Rattle.py_frames.specs.declared.want.Want.TheVariants as want
+use Rattle.py_frames.specs.declared.work.Item.{Item}
+use Rattle.drive_account.specs.At.{At}
+use Rattle.drive_straight.specs.Remains.{remains}
+use Rattle.drive_straight.specs.declared.course.Course.{Course}
 use Rattle.drive_straight.proofs.Operands.{if_begins}
 use Rattle.drive_straight.proofs.choices.begin_if.Goals as goal
 
 pub returns-clause-moves : goal.returns-clause-moves
-returns-clause-moves c =
-    if_begins c.args.course.now (record { purse = c.afford.new.purse; held = c.args.course.now.held; thread = c.args.course.now.thread; work = c.push.new.self })
-    c.args.stmts c.args.at c.args.branches c.args.otherwise c.afford.new.purse c.requires.form (c.if-not-afford.ensures.paid refl) (search rules)
+returns-clause-moves c = λ files whole fuel mine a.
+    let mid : Course = record { purse = c.afford.new.purse; held = c.args.course.now.held; thread = c.args.course.now.thread; work = c.push.new.self } in
+    subst (λ (item : Item). At files whole fuel mine c.afford.new.purse (remains mid (want.Then item))) (sym c.in_ok-new-2.ensures)
+    (if_begins c.args.course.now mid c.args.stmts c.args.at c.args.branches c.args.otherwise c.afford.new.purse c.requires.form (c.if-not-afford.ensures.paid refl) (search rules) files whole fuel mine a)

@@ -13,7 +13,14 @@ returns-then-is_call-clause-moves c =
     leads_behind old paid c.call.new.course (begins (it.Operands (Expression c.args.expr) c.args.values)) (begins (it.Apply c.args.expr c.args.values)) c.call.result
     (applied old paid c.args.expr c.args.values c.afford.new.purse c.requires.all (c.if-not-afford.ensures.paid refl) refl) c.call.ensures.moves
 
-pub returns-clause-moves : goal.returns-clause-moves
-returns-clause-moves c =
+pub returns-in_ok-name-in-Some-clause-moves : goal.returns-in_ok-name-in-Some-clause-moves
+returns-in_ok-name-in-Some-clause-moves c =
+    let old = c.args.course.now in
+    let paid : Course = record { purse = c.afford.new.purse; held = old.held; thread = old.thread; work = old.work } in
+    leads_behind old paid c.member.new.course (begins (it.Operands (Expression c.args.expr) c.args.values)) (begins (it.Apply c.args.expr c.args.values)) c.member.result
+    (applied old paid c.args.expr c.args.values c.afford.new.purse c.requires.all (c.if-not-afford.ensures.paid refl) refl) c.member.ensures.moves
+
+pub returns-in-None-clause-moves : goal.returns-in-None-clause-moves
+returns-in-None-clause-moves c =
     applied c.args.course.now (record { purse = c.afford.new.purse; held = c.args.course.now.held; thread = c.args.course.now.thread; work = c.args.course.now.work })
     c.args.expr c.args.values c.afford.new.purse c.requires.all (c.if-not-afford.ensures.paid refl) refl

@@ -5,6 +5,8 @@ use Rattle.meaning_runs.proofs.Stand.{in_some}
 use Rattle.drive_account.specs.At.{At}
 use Rattle.drive_account.specs.declared.port.Halt.TheVariants.{Refused}
 use Rattle.drive_account.proofs.Staying.{stays_refl, stays_trans}
+use Rattle.drive_straight.specs.Remains.{due}
+use Rattle.drive_straight.specs.declared.next.Next.{Next}
 use Rattle.py_run.specs.Turns.{After, Counts}
 use Rattle.py_run.specs.Starts.{started}
 use Rattle.py_run.specs.declared.course.Turn.{Turn}
@@ -16,7 +18,7 @@ pub turns-init : goal.turns-init
 turns-init g c = record {
   stays = stays_refl _;
   holds = holds_first (g.P.Port.view c.args.port.now) c.args.script c.args.fuel c.args.course.now c.requires.begun.first c.requires.fresh;
-  at = subst (λ (run : Run). At (g.T.Tree.files c.args.tree.now) (started c.args.script c.args.start) c.args.fuel (g.P.Port.view c.args.port.now).mine c.args.course.now.purse run) (sym (c.in-Ok-hand_on.ensures c.args.course.now))
+  at = subst (λ (run : Run). At (g.T.Tree.files c.args.tree.now) (started c.args.script c.args.start) c.args.fuel (g.P.Port.view c.args.port.now).mine c.args.course.now.purse run) (sym (ap (λ (n : Next). due n c.args.course.now) c.in-Ok-wanted.ensures))
       (begins (g.T.Tree.files c.args.tree.now) c.args.script c.args.fuel (started c.args.script c.args.start) c.in-Ok.want (g.P.Port.view c.args.port.now).mine c.args.course.now c.requires.begun.first c.requires.fresh c.in-Ok.ensures);
   unfailed = refl;
   asked = asked_refl _ _;
@@ -106,12 +108,12 @@ pub returns-in-Err-clause-part : goal.returns-in-Err-clause-part
 returns-in-Err-clause-part g c =
     stands_first (g.T.Tree.files c.args.tree.now) (started c.args.script c.args.start) c.args.fuel (g.P.Port.view c.args.port.now).mine c.requires.begun.first
 
-pub returns-in-Err-hand_on-clause-stays : goal.returns-in-Err-hand_on-clause-stays
-returns-in-Err-hand_on-clause-stays g c = stays_refl _
+pub returns-in-Err-wanted-clause-stays : goal.returns-in-Err-wanted-clause-stays
+returns-in-Err-wanted-clause-stays g c = stays_refl _
 
-pub returns-in-Err-hand_on-clause-asked : goal.returns-in-Err-hand_on-clause-asked
-returns-in-Err-hand_on-clause-asked g c = asked_refl _ _
+pub returns-in-Err-wanted-clause-asked : goal.returns-in-Err-wanted-clause-asked
+returns-in-Err-wanted-clause-asked g c = asked_refl _ _
 
-pub returns-in-Err-hand_on-clause-part : goal.returns-in-Err-hand_on-clause-part
-returns-in-Err-hand_on-clause-part g c =
+pub returns-in-Err-wanted-clause-part : goal.returns-in-Err-wanted-clause-part
+returns-in-Err-wanted-clause-part g c =
     stands_first (g.T.Tree.files c.args.tree.now) (started c.args.script c.args.start) c.args.fuel (g.P.Port.view c.args.port.now).mine c.requires.begun.first

@@ -30,6 +30,27 @@ returns-in-ReadGlobal-clause-refused g c = λ is whole fuel a.
     c.read.ensures.refused is files whole fuel
     (subst (λ (run : Run). At files whole fuel (g.P.Port.view c.args.port.now).mine c.args.course.now.purse run) (due_as c.args.course.now c.args.next (nexts.ReadGlobal c.in-ReadGlobal.name) c.in-ReadGlobal.is) a)
 
+pub read_member-requires : goal.read_member-requires
+read_member-requires g c = record { stood = stood_as _ _ _ _ (due_as c.args.course.now c.args.next (nexts.Member c.in-Member.«module» c.in-Member.name) c.in-Member.is) c.requires.stood }
+
+pub returns-in-Member-clause-turned : goal.returns-in-Member-clause-turned
+returns-in-Member-clause-turned g c =
+    let files = g.T.Tree.files c.args.tree.now in
+    let faults = g.T.Tree.faults c.args.tree.now in
+    turned_if files faults faults _ _ _ _ _ _ c.read_member.result (due_as c.args.course.now c.args.next (nexts.Member c.in-Member.«module» c.in-Member.name) c.in-Member.is)
+    (IfOk-weaker c.read_member.result _ _ (λ t made. made files faults) c.read_member.ensures.turned)
+
+pub returns-in-Member-clause-part : goal.returns-in-Member-clause-part
+returns-in-Member-clause-part g c =
+    parted_as c.read_member.result (g.T.Tree.files c.args.tree.now) _ _ _ _ _ (due_as c.args.course.now c.args.next (nexts.Member c.in-Member.«module» c.in-Member.name) c.in-Member.is)
+    (on_err_then c.read_member.result c.read_member.ensures.part (λ parted. parted (g.T.Tree.files c.args.tree.now)))
+
+pub returns-in-Member-clause-refused : goal.returns-in-Member-clause-refused
+returns-in-Member-clause-refused g c = λ is whole fuel a.
+    let files = g.T.Tree.files c.args.tree.now in
+    c.read_member.ensures.refused is files whole fuel
+    (subst (λ (run : Run). At files whole fuel (g.P.Port.view c.args.port.now).mine c.args.course.now.purse run) (due_as c.args.course.now c.args.next (nexts.Member c.in-Member.«module» c.in-Member.name) c.in-Member.is) a)
+
 pub give_wanted-requires : goal.give_wanted-requires
 give_wanted-requires g c = record { stood = stood_as _ _ _ _ (due_wanted c.args.course.now c.args.next c.in-Wanted.want c.into_inner.result c.in-Wanted.is c.into_inner.ensures) c.requires.stood }
 
@@ -75,23 +96,23 @@ pub returns-then-is_local_name-clause-turned : goal.returns-then-is_local_name-c
 returns-then-is_local_name-clause-turned g c =
     let files = g.T.Tree.files c.args.tree.now in
     let faults = g.T.Tree.faults c.args.tree.now in
-    turned_if files faults faults _ _ _ _ _ _ c.piece.result (due_as c.args.course.now c.args.next (nexts.Store c.in-Store.name c.in-Store.value) c.in-Store.is)
-    (IfOk-weaker c.piece.result _ _ (λ t step. step files faults (g.P.Port.view c.args.port.now).mine) c.piece.ensures.turned)
+    turned_if files faults faults _ _ _ _ _ _ c.go_straight.result (due_as c.args.course.now c.args.next (nexts.Store c.in-Store.name c.in-Store.value) c.in-Store.is)
+    (IfOk-weaker c.go_straight.result _ _ (λ t step. step files faults (g.P.Port.view c.args.port.now).mine) c.go_straight.ensures.turned)
 
 pub returns-then-is_local_name-clause-holds : goal.returns-then-is_local_name-clause-holds
-returns-then-is_local_name-clause-holds g c = if_ok c.piece.result (λ _. rw c.piece.ensures.held c.requires.stood.holds)
+returns-then-is_local_name-clause-holds g c = if_ok c.go_straight.result (λ _. rw c.go_straight.ensures.held c.requires.stood.holds)
 
 pub returns-then-is_local_name-clause-part : goal.returns-then-is_local_name-clause-part
-returns-then-is_local_name-clause-part g c = if_err c.piece.result (λ _. parted_here c.args.course.now.purse (due c.args.next c.args.course.now))
+returns-then-is_local_name-clause-part g c = if_err c.go_straight.result (λ _. parted_here c.args.course.now.purse (due c.args.next c.args.course.now))
 
 pub returns-in_default-clause-turned : goal.returns-in_default-clause-turned
 returns-in_default-clause-turned g c =
     let files = g.T.Tree.files c.args.tree.now in
     let faults = g.T.Tree.faults c.args.tree.now in
-    IfOk-weaker c.piece-in_default.result _ _ (λ t step. step files faults (g.P.Port.view c.args.port.now).mine) c.piece-in_default.ensures.turned
+    IfOk-weaker c.go_straight-in_default.result _ _ (λ t step. step files faults (g.P.Port.view c.args.port.now).mine) c.go_straight-in_default.ensures.turned
 
 pub returns-in_default-clause-holds : goal.returns-in_default-clause-holds
-returns-in_default-clause-holds g c = if_ok c.piece-in_default.result (λ _. rw c.piece-in_default.ensures.held c.requires.stood.holds)
+returns-in_default-clause-holds g c = if_ok c.go_straight-in_default.result (λ _. rw c.go_straight-in_default.ensures.held c.requires.stood.holds)
 
 pub returns-in_default-clause-part : goal.returns-in_default-clause-part
-returns-in_default-clause-part g c = if_err c.piece-in_default.result (λ _. parted_here c.args.course.now.purse (due c.args.next c.args.course.now))
+returns-in_default-clause-part g c = if_err c.go_straight-in_default.result (λ _. parted_here c.args.course.now.purse (due c.args.next c.args.course.now))

@@ -5,11 +5,11 @@ use Rattle.py_frames.specs.Does.{rest}
 use Rattle.drive_straight.specs.declared.course.Course.{Course}
 use Rattle.py_run.specs.Turns.{feeds, remains}
 use Rattle.py_run.proofs.Leading.{stepped_as}
-use Rattle.py_run.proofs.steps.feed.Goals as goal
+use Rattle.py_run.proofs.working.feed.Goals as goal
 
 pub returns-in-Ok-clause-turned : goal.returns-in-Ok-clause-turned
 returns-in-Ok-clause-turned c =
     let old = c.args.course.now in
     let after : Course = record { purse = old.purse; held = old.held; thread = c.fed.new.thread; work = old.work } in
-    IfOk-weaker c.turn_on.result _ _ (λ t step. stepped_as old.purse after t (feeds old c.args.procedure c.args.input) (remains after c.in-Ok.want)
-    (sym (c.in-Ok.ensures.does (rest sources old.work))) (step after)) c.turn_on.ensures.turned
+    IfOk-weaker c.lead_on.result _ _ (λ t step. stepped_as old.purse c.lead_on.new.course t (feeds old c.args.procedure c.args.input) (remains after c.in-Ok.want)
+    (sym (c.in-Ok.ensures.does (rest sources old.work))) step) c.lead_on.ensures.turned

@@ -1,0 +1,85 @@
+use Rattle.std.proofs.Common.{◌≡◌, ℕ, List, Option, Result, refl, rules, ap, subst, sym, ◌∙◌}
+use Rattle.meaning_runs.specs.Runs.{Run}
+use Rattle.py_frames.specs.declared.want.Want.{Want}
+use Rattle.py_frames.specs.declared.want.Want.TheVariants as wants
+use Rattle.drive_account.specs.At.{At}
+use Rattle.drive_straight.specs.Remains.{begins, remains}
+use Rattle.drive_straight.specs.declared.course.Course.{Course}
+use Rattle.py_run.specs.Turns.{BegunAt}
+use Rattle.py_run.specs.declared.working.Begun.{Begun}
+use Rattle.py_run.specs.declared.working.Begun.TheVariants as variants
+use Rattle.py_run.proofs.InPlace.{Reaches, known_want, led_wanted}
+use Rattle.py_run.proofs.Leading.{begins_pushed}
+use Rattle.py_run.proofs.working.lead.Goals as goal
+use Rattle.py_run.proofs.working.lead.Goals.{in-Then, in-Both+in_ok-push-in-Both, in-Pay+else-not-spend}
+
+pub pieces-init : goal.pieces-init
+pieces-init c = record {
+  moves = λ files whole fuel mine a. a;
+  held = refl;
+}
+
+pub returns-then-pieces-clause-moves : goal.returns-then-pieces-clause-moves
+returns-then-pieces-clause-moves c =
+    led_wanted c.args.course.now c.pieces.course (λ here. remains here c.args.first) c.pieces.want c.wanted.result c.pieces.invariant.moves c.wanted.ensures
+
+pub returns-in-Go-clause-moves : goal.returns-in-Go-clause-moves
+returns-in-Go-clause-moves c files whole fuel mine a =
+    subst (λ (run : Run). At files whole fuel mine c.pieces.course.purse run) (sym (c.passing.ensures c.pieces.course))
+    (known_want c.args.course.now c.pieces.course (remains c.args.course.now c.args.first) c.pieces.want (wants.Go c.in-Go.flow) c.in-Go.is c.pieces.invariant.moves files whole fuel mine a)
+
+pub returns-in_default-clause-moves : goal.returns-in_default-clause-moves
+returns-in_default-clause-moves c =
+    led_wanted c.args.course.now c.pieces.course (λ here. remains here c.args.first) c.pieces.want c.wanted-in_default.result c.pieces.invariant.moves c.wanted-in_default.ensures
+
+pub returns-then-not-spend-clause-moves : goal.returns-then-not-spend-clause-moves
+returns-then-not-spend-clause-moves c =
+    let old = c.args.course.now in
+    let here : Course = c.pieces.course in
+    let unpaid : Course = record { purse = c.spend.new.purse; held = here.held; thread = here.thread; work = here.work } in
+    let want = wants.Pay c.in-Pay.of_tree c.in-Pay.units c.in-Pay.item in
+    led_wanted old unpaid (λ here. remains here c.args.first) want c.wanted-then-not-spend.result
+    (λ files whole fuel mine a. rw (c.if-not-spend.ensures.unpaid refl) (known_want old here (remains old c.args.first) c.pieces.want want c.in-Pay.is c.pieces.invariant.moves files whole fuel mine a)) c.wanted-then-not-spend.ensures
+
+pub returns-in-Next-clause-moves : goal.returns-in-Next-clause-moves
+returns-in-Next-clause-moves c =
+    let old = c.args.course.now in
+    let here : Course = c.pieces.course in
+    let came = c.pieces.invariant.moves in
+    let begun : Reaches old.purse (remains old c.args.first) c.match-want.course.purse (begins c.match-want.item c.match-want.course) = elim c.match-want.branch [
+      | in-Then w ↦ λ files whole fuel mine a. rw (w.course-is, w.item-is) (known_want old here (remains old c.args.first) c.pieces.want (wants.Then w.in-Then.item) w.in-Then.is came files whole fuel mine a)
+      | in-Both+in_ok-push-in-Both w ↦ λ files whole fuel mine a.
+          rw (w.course-is, w.item-is) (begins_pushed here w.push.new.self w.in-Both.item w.in-Both.frame (search rules) files whole fuel mine
+          (known_want old here (remains old c.args.first) c.pieces.want (wants.Both w.in-Both.item w.in-Both.frame) w.in-Both.is came files whole fuel mine a))
+      | in-Pay+else-not-spend w ↦ λ files whole fuel mine a.
+          rw (w.course-is, w.item-is) (w.if-not-spend.ensures.paid refl files whole fuel mine _
+          (known_want old here (remains old c.args.first) c.pieces.want (wants.Pay w.in-Pay.of_tree w.in-Pay.units w.in-Pay.item) w.in-Pay.is came files whole fuel mine a))
+    ] in
+    λ files whole fuel mine a.
+    let behind : BegunAt c.match-want.course (begins c.match-want.item) c.begin_in_place.new.course (variants.Next c.in-Next.next) = subst (λ (b : Begun). BegunAt c.match-want.course (begins c.match-want.item) c.begin_in_place.new.course b) c.in-Next.is c.in_ok-next.ensures.moves in
+    behind files whole fuel mine (begun files whole fuel mine a)
+
+pub pieces-preserved : goal.pieces-preserved
+pieces-preserved c =
+    let old = c.args.course.now in
+    let here : Course = c.pieces.course in
+    let came = c.pieces.invariant.moves in
+    let begun : Reaches old.purse (remains old c.args.first) c.match-want.course.purse (begins c.match-want.item c.match-want.course) = elim c.match-want.branch [
+      | in-Then w ↦ λ files whole fuel mine a. rw (w.course-is, w.item-is) (known_want old here (remains old c.args.first) c.pieces.want (wants.Then w.in-Then.item) w.in-Then.is came files whole fuel mine a)
+      | in-Both+in_ok-push-in-Both w ↦ λ files whole fuel mine a.
+          rw (w.course-is, w.item-is) (begins_pushed here w.push.new.self w.in-Both.item w.in-Both.frame (search rules) files whole fuel mine
+          (known_want old here (remains old c.args.first) c.pieces.want (wants.Both w.in-Both.item w.in-Both.frame) w.in-Both.is came files whole fuel mine a))
+      | in-Pay+else-not-spend w ↦ λ files whole fuel mine a.
+          rw (w.course-is, w.item-is) (w.if-not-spend.ensures.paid refl files whole fuel mine _
+          (known_want old here (remains old c.args.first) c.pieces.want (wants.Pay w.in-Pay.of_tree w.in-Pay.units w.in-Pay.item) w.in-Pay.is came files whole fuel mine a))
+    ] in
+    let behind : BegunAt c.match-want.course (begins c.match-want.item) c.begin_in_place.new.course (variants.Wants c.in-Wants.more) = subst (λ (b : Begun). BegunAt c.match-want.course (begins c.match-want.item) c.begin_in_place.new.course b) c.in-Wants.is c.in_ok-next.ensures.moves in
+    let kept : c.match-want.course.held ≡ here.held = elim c.match-want.branch [
+      | in-Then w ↦ ap (λ (c : Course). c.held) w.course-is
+      | in-Both+in_ok-push-in-Both w ↦ ap (λ (c : Course). c.held) w.course-is
+      | in-Pay+else-not-spend w ↦ ap (λ (c : Course). c.held) w.course-is
+    ] in
+    record {
+      moves = λ files whole fuel mine a. behind files whole fuel mine (begun files whole fuel mine a);
+      held = c.in_ok-next.ensures.held ∙ kept ∙ c.pieces.invariant.held;
+    }

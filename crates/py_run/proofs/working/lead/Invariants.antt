@@ -1,0 +1,12 @@
+use Rattle.std.proofs.Common.{◌≡◌, ◌-◌, ◌^◌}
+use Rattle.drive_straight.specs.Remains.{Moves, remains}
+use Rattle.py_run.proofs.working.lead.Given as goal
+
+abbrev pub invariant-pieces : goal.invariant-pieces
+invariant-pieces l = record {
+  moves : Moves l.fn.course.purse (remains l.fn.course l.fn.first) l.course l.want;
+  held : l.course.held ≡ l.fn.course.held;
+}
+
+abbrev pub decreases-pieces : goal.decreases-pieces
+decreases-pieces l = 2 ^ 64 - l.pieces
