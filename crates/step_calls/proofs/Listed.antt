@@ -21,6 +21,7 @@ use Rattle.py_frames.specs.Listing.{is_listed_at, is_listed, first_listed}
 use Rattle.step_calls.specs.Around.{loading_at}
 use Rattle.py_frames.specs.Does.{Does, pieces}
 use Rattle.py_frames.specs.declared.want.Want.{Want}
+use Rattle.py_frames.proofs.Options.{some_same}
 
 unlisted_at : (v : Value) (d : Value-F Value) (go : Value → Piece) → is_listed_at d ≡ false → lists_at v d go ≡ go v
 unlisted_at v Value-F.SysPath go other = absurd (false≢true (sym other))
@@ -94,16 +95,13 @@ pub record At (vs : List Value) (at : ℕ) : Type 0 where
   pub is : (v : Value) → slice_get vs at ≡ Some v → is_listed v ≡ true
   pub again : (v : Value) (go : List Value → Piece) → slice_get vs at ≡ Some v → listed v (λ u. all_listed (slice_set vs at u) go) ≡ all_listed vs go
 
-same_some : {X : Type 0} (x y : X) → Some x ≡ Some y → x ≡ y
-same_some x y same = cc
-
 first_here : (v : Value) (vs : List Value) → is_listed v ≡ true → At (v ∷ vs) 0
 first_here v vs is =
     record {
       within = omega arith;
-      is = λ u got. ap is_listed (same_some u v (sym got)) ∙ is;
+      is = λ u got. ap is_listed (some_same (sym got)) ∙ is;
       again = λ u go got.
-          ap (λ x. listed x (λ u. all_listed (u ∷ vs) go)) (same_some u v (sym got)) ∙ listed_again v (λ u. all_listed vs (λ us. go (u ∷ us))) is;
+          ap (λ x. listed x (λ u. all_listed (u ∷ vs) go)) (some_same (sym got)) ∙ listed_again v (λ u. all_listed vs (λ us. go (u ∷ us))) is;
     }
 
 first_behind : (v : Value) (vs : List Value) (at : ℕ) → is_listed v ≡ false → At vs at → At (v ∷ vs) (suc at)
@@ -121,9 +119,9 @@ first_behind v vs at other behind =
 -- the first of a list with a head
 first_of : (v : Value) (vs : List Value) (b : Bool) (o : Option ℕ) (at : ℕ) → is_listed v ≡ b → first_listed vs ≡ o
     → (if b then Some 0 else option_map suc o) ≡ Some at → ((n : ℕ) → first_listed vs ≡ Some n → At vs n) → At (v ∷ vs) at
-first_of v vs true o at is rest first others = rw (same_some at 0 (sym first)) (first_here v vs is)
+first_of v vs true o at is rest first others = rw (some_same (sym first)) (first_here v vs is)
 first_of v vs false None at is rest first others = cc
-first_of v vs false (Some n) at is rest first others = rw (same_some at (suc n) (sym first)) (first_behind v vs n is (others n rest))
+first_of v vs false (Some n) at is rest first others = rw (some_same (sym first)) (first_behind v vs n is (others n rest))
 
 pub first_at : (vs : List Value) (at : ℕ) → first_listed vs ≡ Some at → At vs at
 first_at [] at first = cc
