@@ -1,5 +1,5 @@
 -- A procedure that is fed goes on by what it wants then.
-use Rattle.std.proofs.Common.{◌≡◌, ◌∙◌, ap, ℕ, Bool, Result, Ok, Err, IfOk}
+use Rattle.std.proofs.Common.{◌≡◌, ◌∙◌, ap, subst, ℕ, Bool, Result, Ok, Err, IfOk}
 use Rattle.find_load.specs.Means.{GoesOn, wants}
 use Rattle.find_load.specs.declared.words.In.{In}
 use Rattle.find_load.specs.declared.words.Want.{Want as Wanted}
@@ -10,7 +10,7 @@ use Rattle.meaning_script.specs.Meaning.{World}
 use Rattle.py_frames.specs.Does.{Does, pieces, fed}
 use Rattle.py_frames.specs.declared.procedures.Procedure.{Procedure}
 use Rattle.py_frames.specs.declared.want.Want.{Want}
-use Rattle.step_imports.specs.Waiting.{inside_by}
+use Rattle.step_imports.specs.Waiting.{inside_by, lifts}
 
 -- what an open procedure of a kind means is what it means by itself, whatever it is fed
 abbrev IsFed : {P : Type 0} → Bool → (Inside → P → In → Piece) → (P → Procedure) → Type 0
@@ -32,3 +32,9 @@ step_fed is_parent means held th owned before after input wanted (Ok r) is_fed s
           ∙ ap (λ p. means (inside_by w th.left is_parent) p input th.state (next th.left)) same;
     }
 step_fed is_parent means held th owned before after input wanted (Err e) is_fed same goes lifted = tt
+
+-- what is lifted of equal procedures
+pub lifted_as : {E : Type 0} (th : Thread) (wanted : Wanted) (result : Result Want E) (b b' : Bool) (p p' : Procedure) → b ≡ b' → p ≡ p'
+    → IfOk result (Does th (pieces (λ w d. lifts w d b wanted p) th)) → IfOk result (Does th (pieces (λ w d. lifts w d b' wanted p') th))
+lifted_as th wanted result b b' p p' same is =
+    subst (λ (at : Bool × Procedure). IfOk result (Does th (pieces (λ w d. lifts w d at.0 wanted at.1) th))) (λ i. (same i, is i))

@@ -107,27 +107,7 @@ fn lift(
     }
 }
 
-/// What a procedure of a kind wants, wanted by the work.
-fn lift_step<P: Steps>(
-    alloc: Global,
-    procedure: P,
-    want: Wanted,
-    thread: &Thread,
-) -> Result<Want, NoMemory>
-    ensures { IfOk result (Does thread.now (pieces (λ w d.
-        lifts w d P.imports_parent want (P.held procedure)) thread.now)) }
-{
-    let is_parent = procedure.is_parent();
-    match procedure.hold(alloc) {
-        Ok(procedure) => lift(alloc, is_parent, procedure, want, thread),
-        Err(_) => {
-            drop(want);
-            Err(NoMemory)
-        }
-    }
-}
-
-/// A procedure of a kind is fed.
+/// A procedure of a kind is fed where it lies.
 fn step<P: Steps>(
     alloc: Global,
     procedure: Boxed<P>,
@@ -137,9 +117,10 @@ fn step<P: Steps>(
     ensures { IfOk result (Does thread.now (pieces (λ w d.
         P.means (inside_by w d P.imports_parent) procedure input) thread.now)) }
 {
-    let mut procedure = procedure.into_inner();
-    match procedure.step(input) {
-        Ok(want) => lift_step(alloc, procedure, want, thread),
+    let mut procedure = procedure;
+    let is_parent = procedure.get().is_parent();
+    match procedure.get_mut().step(input) {
+        Ok(want) => lift(alloc, is_parent, P::hold(procedure), want, thread),
         Err(_) => {
             drop(procedure);
             Err(NoMemory)

@@ -21,7 +21,6 @@ use find_load::{Importer, In, Want, next};
 use py_frames::Procedure;
 use reload_lazy::{Reloader, next_of_reload};
 use run_module::{ModuleStart, Rouser, next as next_of_program, next_of_rouse};
-use std::alloc::Global;
 use step_package_path::{PathReader, next as next_of_path};
 
 /// A procedure that says what it wants by what it is fed.
@@ -42,9 +41,9 @@ pub(crate) trait Steps: Drop {
     fn step(&mut self, input: In) -> Result<Want, NoMemory>
         ensures { IfOk result (GoesOn (λ inside. means inside self.old input) (λ inside. means inside self.new)) };
 
-    /// It among all procedures.
-    fn hold(self, alloc: Global) -> Result<Procedure, NoMemory>
-        ensures { IfOk result (λ procedure. procedure ≡ held self) };
+    /// It among all procedures, where it lies.
+    fn hold(procedure: Boxed<Self>) -> Procedure
+        ensures { result ≡ held procedure };
 
     // Fed by the work it does just that.
     ghost is_fed: { (w : World) (d : ℕ) (it : Self) (input : Input)
@@ -68,8 +67,10 @@ impl Steps for Importer {
         next(self, input)
     }
 
-    fn hold(self, alloc: Global) -> Result<Procedure, NoMemory> {
-        Ok(Procedure::Import(Boxed::new(alloc, self)?))
+    fn hold(procedure: Boxed<Self>) -> Procedure
+        ensures { result ≡ procedures.Import procedure }
+    {
+        Procedure::Import(procedure)
     }
 }
 
@@ -90,8 +91,10 @@ impl Steps for PathReader {
         next_of_path(self, input)
     }
 
-    fn hold(self, alloc: Global) -> Result<Procedure, NoMemory> {
-        Ok(Procedure::Path(Boxed::new(alloc, self)?))
+    fn hold(procedure: Boxed<Self>) -> Procedure
+        ensures { result ≡ procedures.Path procedure }
+    {
+        Procedure::Path(procedure)
     }
 }
 
@@ -112,8 +115,10 @@ impl Steps for Rouser {
         next_of_rouse(self, input)
     }
 
-    fn hold(self, alloc: Global) -> Result<Procedure, NoMemory> {
-        Ok(Procedure::Rouse(Boxed::new(alloc, self)?))
+    fn hold(procedure: Boxed<Self>) -> Procedure
+        ensures { result ≡ procedures.Rouse procedure }
+    {
+        Procedure::Rouse(procedure)
     }
 }
 
@@ -134,8 +139,10 @@ impl Steps for Reloader {
         next_of_reload(self, input)
     }
 
-    fn hold(self, alloc: Global) -> Result<Procedure, NoMemory> {
-        Ok(Procedure::Reload(Boxed::new(alloc, self)?))
+    fn hold(procedure: Boxed<Self>) -> Procedure
+        ensures { result ≡ procedures.Reload procedure }
+    {
+        Procedure::Reload(procedure)
     }
 }
 
@@ -156,7 +163,9 @@ impl Steps for ModuleStart {
         next_of_program(self, input)
     }
 
-    fn hold(self, alloc: Global) -> Result<Procedure, NoMemory> {
-        Ok(Procedure::Program(Boxed::new(alloc, self)?))
+    fn hold(procedure: Boxed<Self>) -> Procedure
+        ensures { result ≡ procedures.Program procedure }
+    {
+        Procedure::Program(procedure)
     }
 }
