@@ -25,7 +25,6 @@ use Rattle.drive_straight.specs.declared.next.Next.{Next}
 use Rattle.drive_straight.specs.declared.next.Next.TheVariants as nexts
 use Rattle.py_run.specs.Turns.{Stepped}
 use Rattle.py_run.specs.declared.course.Turn.{Turn}
-use Rattle.py_run.specs.declared.course.Turn.TheVariants as turn
 
 -- whatever script stood at the first run stands at the other
 abbrev pub Reaches : Purse → Run → Purse → Run → Type 0

@@ -17,7 +17,7 @@ use Rattle.meaning_state.specs.declared.flow.Flow.TheVariants.{Went}
 use Rattle.meaning_state.specs.declared.thread.State.{State}
 use Rattle.meaning_state.specs.declared.thread.Thread.{Thread}
 use Rattle.step_calls.specs.Sources.{sources}
-use Rattle.py_frames.specs.Does.{DoesIn, rest, replies, frame_does, reply_does}
+use Rattle.py_frames.specs.Does.{DoesIn, rest, replies, frame_does}
 use Rattle.py_frames.specs.declared.replies.OnReply.{OnReply}
 use Rattle.py_frames.specs.declared.replies.OnReply.TheVariants as on
 use Rattle.py_frames.specs.declared.want.Want.{Want}
@@ -26,7 +26,7 @@ use Rattle.py_frames.specs.declared.work.Frame.{Frame}
 use Rattle.py_frames.specs.declared.work.Item.{Item}
 use Rattle.drive_account.specs.At.{At}
 use Rattle.drive_account.specs.declared.port.Halt.{Halt}
-use Rattle.drive_straight.specs.Remains.{Due, Leads, Moves, begins, due, goes_on}
+use Rattle.drive_straight.specs.Remains.{Due, Moves, begins, due, goes_on}
 use Rattle.drive_straight.specs.declared.next.Next.{Next}
 use Rattle.py_run.specs.Turns.{Stepped, Wants, remains, replied_at}
 use Rattle.drive_straight.specs.declared.course.Course.{Course}

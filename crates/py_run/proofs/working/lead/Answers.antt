@@ -1,6 +1,5 @@
-use Rattle.std.proofs.Common.{◌≡◌, ℕ, List, Option, Result, refl, rules, ap, subst, sym, ◌∙◌}
+use Rattle.std.proofs.Common.{◌≡◌, refl, rules, ap, subst, sym, ◌∙◌}
 use Rattle.meaning_runs.specs.Runs.{Run}
-use Rattle.py_frames.specs.declared.want.Want.{Want}
 use Rattle.py_frames.specs.declared.want.Want.TheVariants as wants
 use Rattle.drive_account.specs.At.{At}
 use Rattle.drive_straight.specs.Remains.{begins, remains}

@@ -1,5 +1,4 @@
-use Rattle.std.proofs.Common.{◌≡◌, []}
-use Rattle.std.proofs.Common.{None, Some, rules}
+use Rattle.std.proofs.Common.{◌≡◌, [], rules}
 use Rattle.meaning_state.specs.declared.flow.Flow.TheVariants.{Left}
 use Rattle.py_frames.specs.declared.want.Want.TheVariants as want
 use Rattle.drive_straight.specs.Remains.{due, goes_on}

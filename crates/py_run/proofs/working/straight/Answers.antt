@@ -1,7 +1,6 @@
 use Rattle.std.proofs.Common.{◌≡◌, Result, ap, refl, subst, ◌∙◌}
 use Rattle.base_types.specs.declared.no_memory.NoMemory.{NoMemory}
-use Rattle.py_frames.specs.declared.work.Item.TheVariants as it
-use Rattle.drive_straight.specs.Remains.{Leads, begins, due}
+use Rattle.drive_straight.specs.Remains.{Leads, due}
 use Rattle.drive_straight.specs.declared.course.Course.{Course}
 use Rattle.drive_straight.specs.declared.next.Next.{Next}
 use Rattle.drive_straight.specs.declared.next.Next.TheVariants as nexts
