@@ -1,6 +1,5 @@
 -- Turns that see neither a port nor a tree, one after another.
-use Rattle.std.proofs.Common.{◌≡◌, ℕ, List, ◌∷◌, Bool, true, false, not, Option, Result, Ok, IfOk, refl, subst, sym}
-use Rattle.std.proofs.lemmas.Bool.{false≢true}
+use Rattle.std.proofs.Common.{◌≡◌, ℕ, List, ◌∷◌, Bool, true, false, Option, Result, Ok, IfOk, refl, subst, sym}
 use Rattle.std.proofs.lemmas.Result.{IfOk-weaker}
 use Rattle.base_types.specs.declared.no_memory.NoMemory.{NoMemory}
 use Rattle.tree_files.specs.Files.{Files}
@@ -107,7 +106,3 @@ global_came c x v plain = rw plain refl
 pub member_came : (c : Course) (m : ModRef) (x : List ℕ) (raw : Bool) (v : Value) → is_namespace_path v ≡ false → replied_at (on.Member m x raw) (kinds.Value v) c ≡ remains c (want.Go (Went v))
 member_came c m x true v plain = rw plain refl
 member_came c m x false v plain = rw plain refl
-
-pub negated : (b : Bool) → not b ≡ true → b ≡ false
-negated true h = absurd (false≢true h)
-negated false h = refl
