@@ -1,15 +1,15 @@
 use Rattle.drive_account.proofs.Staying.{stays_refl}
-use Rattle.py_run.proofs.Turning.{made_as, parted_here, parts_as, reads_by, stood_as}
+use Rattle.py_run.proofs.Turning.{parted_here}
 use Rattle.py_run.proofs.makes.read.Goals as goal
 
 pub call-requires : goal.call-requires
-call-requires g c = record { stood = stood_as _ _ _ _ (reads_by c.args.course.now c.args.name c.in-Ok.copied c.in-Ok.ensures) c.requires.stood }
+call-requires g c = record { stood = rw c.in-Ok.ensures c.requires.stood }
 
 pub returns-clause-turned : goal.returns-clause-turned
-returns-clause-turned g c = made_as _ _ _ _ _ _ c.call.result (reads_by c.args.course.now c.args.name c.in-Ok.copied c.in-Ok.ensures) c.call.ensures.turned
+returns-clause-turned g c = rw c.in-Ok.ensures at c.call.ensures.turned
 
 pub returns-clause-part : goal.returns-clause-part
-returns-clause-part g c = parts_as c.call.result _ _ _ _ _ (reads_by c.args.course.now c.args.name c.in-Ok.copied c.in-Ok.ensures) c.call.ensures.part
+returns-clause-part g c = rw c.in-Ok.ensures at c.call.ensures.part
 
 pub returns-in-Err-clause-stays : goal.returns-in-Err-clause-stays
 returns-in-Err-clause-stays g c = stays_refl _
