@@ -24,6 +24,7 @@ use py_value::Value;
 use std::alloc::Global;
 use step_calls::come_back;
 use step_dispatch::{begin, fed, go_on, replied};
+use step_imports::go_on_imported;
 use step_simple::{is_local_name, member, read_global, store};
 
 /// What comes next, piece by piece.
@@ -161,6 +162,7 @@ fn leave(alloc: Global, course: &mut Course, frame: Frame, flow: Flow) -> Result
 {
     let want = match frame {
         Frame::Back { scope, left } => come_back(&mut course.thread, scope, left, flow),
+        Frame::Imported(left) => go_on_imported(left, flow, &mut course.thread),
         frame => go_on(alloc, frame, flow, &mut course.thread)?,
     };
     lead(alloc, course, want)
@@ -182,6 +184,7 @@ fn came(alloc: Global, course: &mut Course, value: Value) -> Result<Next, NoMemo
         Some(Frame::Decide { test, body, turns }) => {
             decide(alloc, course, test, body, turns, value)
         }
+        Some(Frame::Store(name)) => Ok(Next::Store(name, value)),
         Some(frame) => leave(alloc, course, frame, Flow::Went(value)),
     }
 }

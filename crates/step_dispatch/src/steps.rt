@@ -158,6 +158,13 @@ pub fn begin(alloc: Global, item: Item, thread: &mut Thread) -> Result<Want, NoM
         Item::Begun { stmts, at } => begun(alloc, thread, stmts, at),
         Item::Turn { test, body, turns } => turn(thread, test, body, turns),
         Item::Test { test, body, turns } => begin_test(thread, test, body, turns),
+        Item::Imports { stmts, at, place } => begin_imports(thread, stmts, at, place),
+        Item::Alias { stmts, at, place } => begin_alias(alloc, thread, &stmts, at, place),
+        Item::Import {
+            name,
+            is_parent,
+            is_lazy,
+        } => begin_import(alloc, name, is_parent, is_lazy, thread),
         Item::Feed(procedure, input) => begin_feed(alloc, procedure, input, thread),
         Item::Call { callee, arguments } => call(alloc, thread, callee, arguments),
         Item::Member { object, name } => member(alloc, thread, object, name),
@@ -308,6 +315,21 @@ fn imported(left: u32, flow: Flow, thread: &mut Thread) -> Result<Want, NoMemory
     Ok(go_on_imported(left, flow, thread))
 }
 
+/// The imports of a statement go on.
+#[tactic(auto, using(crate::proofs::Sourced::goes_on_want))]
+fn import_next(
+    thread: &Thread,
+    stmts: Shared<Seq<Stmt>>,
+    at: usize,
+    place: usize,
+    flow: Flow,
+) -> Result<Want, NoMemory>
+    ensures { IfOk result (DoesIn sources thread.now
+        (goes_on (frames.Imports stmts at place) flow thread.now sources)) }
+{
+    Ok(go_on_imports(thread, stmts, at, place, flow))
+}
+
 /// A way on comes to what waited for it.
 ///
 /// As in `begin`, the frames that wait most often stand here, and all others in `go_on_any`.
@@ -322,6 +344,7 @@ pub fn go_on(alloc: Global, frame: Frame, flow: Flow, thread: &mut Thread) -> Re
         Frame::Decide { test, body, turns } => go_on_decide(alloc, thread, test, body, turns, flow),
         Frame::Loop { test, body, turns } => turned(thread, test, body, turns, flow),
         Frame::Imported(left) => imported(left, flow, thread),
+        Frame::Imports { stmts, at, place } => import_next(thread, stmts, at, place, flow),
         Frame::Open(procedure) => go_on_open(alloc, procedure, flow, thread),
         frame => go_on_any(alloc, frame, flow, thread),
     }

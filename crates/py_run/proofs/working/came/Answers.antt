@@ -60,6 +60,12 @@ returns-in-Some-Decide-clause-moves c =
     led_behind old mid c.decide.new.course (due (nexts.Went c.args.value)) (goes_on at (Went c.args.value)) c.decide.result
     (comes_on old (Went c.args.value) at c.pop.new.self (came_to old c.args.value at c.pop.new.self (search rules))) c.decide.ensures.moves
 
+pub returns-in-Some-Store-clause-moves : goal.returns-in-Some-Store-clause-moves
+returns-in-Some-Store-clause-moves c =
+    let old = c.args.course.now in
+    let at : Frame = frame.Store c.in-Some-Store.name in
+    comes_on old (Went c.args.value) at c.pop.new.self (came_to old c.args.value at c.pop.new.self (search rules))
+
 pub returns-in-Some-clause-moves : goal.returns-in-Some-clause-moves
 returns-in-Some-clause-moves c =
     let old = c.args.course.now in

@@ -7,7 +7,7 @@ use Rattle.drive_account.specs.At.{At}
 use Rattle.drive_straight.specs.Remains.{goes_on, remains}
 use Rattle.py_run.proofs.InPlace.{led_behind}
 use Rattle.py_run.proofs.working.leave.Goals as goal
-use Rattle.py_run.proofs.working.leave.Goals.{in-Back, in_default+in_ok-want-in_default}
+use Rattle.py_run.proofs.working.leave.Goals.{in-Back, in-Imported, in_default+in_ok-want-in_default}
 
 pub returns-clause-moves : goal.returns-clause-moves
 returns-clause-moves c =
@@ -16,6 +16,8 @@ returns-clause-moves c =
     (elim c.match-frame.branch [
       | in-Back w ↦ λ files whole fuel mine a.
           rw (w.course-is, w.want-is) (subst (λ (run : Run). At files whole fuel mine old.purse run) (sym (w.come_back-want.ensures.does sources (rest sources old.work))) (subst (λ (f : Frame). At files whole fuel mine old.purse (goes_on f c.args.flow old)) w.in-Back.is a))
+      | in-Imported w ↦ λ files whole fuel mine a.
+          rw (w.course-is, w.want-is) (subst (λ (run : Run). At files whole fuel mine old.purse run) (sym (w.go_on_imported-want.ensures.does sources (rest sources old.work))) (subst (λ (f : Frame). At files whole fuel mine old.purse (goes_on f c.args.flow old)) w.in-Imported.is a))
       | in_default+in_ok-want-in_default w ↦ λ files whole fuel mine a.
           rw (w.course-is, w.want-is) (subst (λ (run : Run). At files whole fuel mine old.purse run) (sym (w.in_ok-want-in_default.ensures.does (rest sources old.work))) a)
     ]) c.lead.ensures.moves
