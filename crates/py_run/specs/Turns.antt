@@ -32,9 +32,7 @@ use Rattle.py_run.specs.declared.course.Turn.{Turn}
 use Rattle.py_run.specs.declared.course.Turn.TheVariants as turn
 use Rattle.drive_account.specs.declared.purse.Purse.{Purse}
 pub use Rattle.drive_straight.specs.Remains.{remains}
-use Rattle.drive_straight.specs.Remains.{Due, LeadsTo, Moves, due}
-use Rattle.py_run.specs.declared.working.Begun.{Begun}
-use Rattle.py_run.specs.declared.working.Begun.TheVariants as begun
+use Rattle.drive_straight.specs.Remains.{Due, Moves, due}
 
 -- what remains where a procedure is fed
 abbrev pub feeds : Course → Procedure → In → Run
@@ -113,8 +111,3 @@ pub record Stood {S : Type 0} (v : View S) (held : Held) (run : Run) : Type 0 wh
 -- whatever script stood at what was due stands at what is wanted, if memory was not wanted
 abbrev pub Wants : Course → Due → Course → Result Want NoMemory → Type 0
 Wants old was new r = IfOk r (λ want. Moves old.purse (was old) new want)
-
--- whatever script stood at what was due stands at what the piece of work comes to that begins
-abbrev pub BegunAt : Course → Due → Course → Begun → Type 0
-BegunAt old was new (begun.Next next) = LeadsTo old was new next
-BegunAt old was new (begun.Wants w) = Moves old.purse (was old) new w

@@ -5,7 +5,7 @@ ghost use Rattle.drive_straight.specs.Remains.{Leads, begins, due, goes_on};
 ghost use Rattle.drive_straight.specs.declared.course.Course.{Course};
 ghost use Rattle.drive_straight.specs.declared.next.Next.TheVariants as nexts;
 ghost use Rattle.py_frames.specs.declared.want.Want.TheVariants as wants;
-ghost use Rattle.py_run.specs.Turns.{BegunAt, HasPlainValue, IsPlain, Stepped, Wants, brought, feeds, remains, replied_at};
+ghost use Rattle.py_run.specs.Turns.{HasPlainValue, IsPlain, Stepped, Wants, brought, feeds, remains, replied_at};
 
 use crate::course::Turn;
 use crate::steps::next_frame;
@@ -73,29 +73,41 @@ fn passing(flow: Flow) -> Next
     }
 }
 
-/// What a piece of work comes to that begins.
-#[derive(Drop)]
-pub enum Begun {
-    /// What comes next, in place.
-    Next(Next),
-    /// What it wants, as any other.
-    Wants(Want),
+/// Whether a piece of work begins in place. Nothing rests on the answer but the time that it takes.
+fn begins_in_place(item: &Item) -> bool {
+    match item {
+        Item::Eval(_) => true,
+        Item::Block { stmts: _, at: _ } => true,
+        Item::Turn {
+            test: _,
+            body: _,
+            turns: _,
+        } => true,
+        Item::ReadGlobal(_) => true,
+        _ => false,
+    }
 }
 
-/// A piece of work begins: in place where it can be.
-fn begin_in_place(alloc: Global, course: &mut Course, item: Item) -> Result<Begun, NoMemory>
-    ensures moves { IfOk result (BegunAt course.old (begins item) course.new) }
+/// A piece of work begins in place where it can, and is wanted where not.
+fn begin_in_place(alloc: Global, course: &mut Course, item: Item) -> Result<Next, NoMemory>
+    ensures moves { Leads course.old (begins item) course.new result }
     ensures held { course.new.held ≡ course.old.held }
 {
     match item {
-        Item::Eval(expr) => Ok(Begun::Next(Next::Evaluate(expr))),
-        Item::Block { stmts, at } => Ok(Begun::Next(block(alloc, course, stmts, at)?)),
-        Item::Turn { test, body, turns } => Ok(Begun::Next(turn(
-            alloc, course, test, body, turns,
-        )?)),
-        Item::ReadGlobal(name) => Ok(Begun::Next(Next::ReadGlobal(name))),
-        item => Ok(Begun::Wants(begin(alloc, item, &mut course.thread)?)),
+        Item::Eval(expr) => Ok(Next::Evaluate(expr)),
+        Item::Block { stmts, at } => block(alloc, course, stmts, at),
+        Item::Turn { test, body, turns } => turn(alloc, course, test, body, turns),
+        Item::ReadGlobal(name) => Ok(Next::ReadGlobal(name)),
+        item => wanted(alloc, Want::Then(item)),
     }
+}
+
+/// A piece of work begins, whatever it is.
+fn begin_piece(alloc: Global, course: &mut Course, item: Item) -> Result<Want, NoMemory>
+    ensures moves { Wants course.old (begins item) course.new result }
+    ensures held { course.new.held ≡ course.old.held }
+{
+    begin(alloc, item, &mut course.thread)
 }
 
 /// What is wanted comes next: piece by piece, until something is to be done in place, or asked of the machine or the
@@ -139,10 +151,10 @@ fn lead(alloc: Global, course: &mut Course, first: Want) -> Result<Next, NoMemor
             }
             other => return wanted(alloc, other),
         };
-        match begin_in_place(alloc, course, item)? {
-            Begun::Next(next) => return Ok(next),
-            Begun::Wants(more) => want = more,
+        if begins_in_place(&item) {
+            return begin_in_place(alloc, course, item);
         }
+        want = begin_piece(alloc, course, item)?;
     }
 }
 

@@ -4,10 +4,7 @@ use Rattle.py_frames.specs.declared.want.Want.TheVariants as wants
 use Rattle.drive_account.specs.At.{At}
 use Rattle.drive_straight.specs.Remains.{begins, remains}
 use Rattle.drive_straight.specs.declared.course.Course.{Course}
-use Rattle.py_run.specs.Turns.{BegunAt}
-use Rattle.py_run.specs.declared.working.Begun.{Begun}
-use Rattle.py_run.specs.declared.working.Begun.TheVariants as variants
-use Rattle.py_run.proofs.InPlace.{Reaches, known_want, led_wanted}
+use Rattle.py_run.proofs.InPlace.{Reaches, known_want, led_behind, led_wanted}
 use Rattle.py_run.proofs.Leading.{begins_pushed}
 use Rattle.py_run.proofs.working.lead.Goals as goal
 use Rattle.py_run.proofs.working.lead.Goals.{in-Then, in-Both+in_ok-push-in-Both, in-Pay+else-not-spend}
@@ -40,8 +37,8 @@ returns-then-not-spend-clause-moves c =
     led_wanted old unpaid (λ here. remains here c.args.first) want c.wanted-then-not-spend.result
     (λ files whole fuel mine a. rw (c.if-not-spend.ensures.unpaid refl) (known_want old here (remains old c.args.first) c.pieces.want want c.in-Pay.is c.pieces.invariant.moves files whole fuel mine a)) c.wanted-then-not-spend.ensures
 
-pub returns-in-Next-clause-moves : goal.returns-in-Next-clause-moves
-returns-in-Next-clause-moves c =
+pub returns-then-begins_in_place-clause-moves : goal.returns-then-begins_in_place-clause-moves
+returns-then-begins_in_place-clause-moves c =
     let old = c.args.course.now in
     let here : Course = c.pieces.course in
     let came = c.pieces.invariant.moves in
@@ -54,9 +51,7 @@ returns-in-Next-clause-moves c =
           rw (w.course-is, w.item-is) (w.if-not-spend.ensures.paid refl files whole fuel mine _
           (known_want old here (remains old c.args.first) c.pieces.want (wants.Pay w.in-Pay.of_tree w.in-Pay.units w.in-Pay.item) w.in-Pay.is came files whole fuel mine a))
     ] in
-    λ files whole fuel mine a.
-    let behind : BegunAt c.match-want.course (begins c.match-want.item) c.begin_in_place.new.course (variants.Next c.in-Next.next) = subst (λ (b : Begun). BegunAt c.match-want.course (begins c.match-want.item) c.begin_in_place.new.course b) c.in-Next.is c.in_ok-next.ensures.moves in
-    behind files whole fuel mine (begun files whole fuel mine a)
+    led_behind old c.match-want.course c.begin_in_place.new.course (λ here. remains here c.args.first) (begins c.match-want.item) c.begin_in_place.result begun c.begin_in_place.ensures.moves
 
 pub pieces-preserved : goal.pieces-preserved
 pieces-preserved c =
@@ -72,13 +67,12 @@ pieces-preserved c =
           rw (w.course-is, w.item-is) (w.if-not-spend.ensures.paid refl files whole fuel mine _
           (known_want old here (remains old c.args.first) c.pieces.want (wants.Pay w.in-Pay.of_tree w.in-Pay.units w.in-Pay.item) w.in-Pay.is came files whole fuel mine a))
     ] in
-    let behind : BegunAt c.match-want.course (begins c.match-want.item) c.begin_in_place.new.course (variants.Wants c.in-Wants.more) = subst (λ (b : Begun). BegunAt c.match-want.course (begins c.match-want.item) c.begin_in_place.new.course b) c.in-Wants.is c.in_ok-next.ensures.moves in
     let kept : c.match-want.course.held ≡ here.held = elim c.match-want.branch [
       | in-Then w ↦ ap (λ (c : Course). c.held) w.course-is
       | in-Both+in_ok-push-in-Both w ↦ ap (λ (c : Course). c.held) w.course-is
       | in-Pay+else-not-spend w ↦ ap (λ (c : Course). c.held) w.course-is
     ] in
     record {
-      moves = λ files whole fuel mine a. behind files whole fuel mine (begun files whole fuel mine a);
-      held = c.in_ok-next.ensures.held ∙ kept ∙ c.pieces.invariant.held;
+      moves = λ files whole fuel mine a. c.in_ok-want.ensures.moves files whole fuel mine (begun files whole fuel mine a);
+      held = c.in_ok-want.ensures.held ∙ kept ∙ c.pieces.invariant.held;
     }
