@@ -1,5 +1,5 @@
 -- What stands after an event was made, and what is held after a wait.
-use Rattle.std.proofs.Common.{◌≡◌, ℕ, List, [], ◌∷◌, ◌++◌, Option, Some, Result, Ok, Err, OnErr, refl, subst}
+use Rattle.std.proofs.Common.{◌≡◌, ℕ, List, [], ◌∷◌, ◌++◌, Option, Some, Result, Ok, Err, OnErr, refl, ap, subst}
 use Rattle.tree_files.specs.Files.{Files}
 use Rattle.machine_events.specs.declared.event.Event.{Event}
 use Rattle.machine_events.specs.declared.event.Event.TheVariants as e
@@ -13,10 +13,14 @@ use Rattle.drive_account.specs.At.{At}
 use Rattle.drive_account.specs.declared.purse.Purse.{Purse}
 use Rattle.drive_account.proofs.Holding.{holds_made}
 use Rattle.drive_account.proofs.Making.{at_made}
+use Rattle.drive_account.proofs.Staying.{stays_refl}
+use Rattle.drive_account.specs.declared.port.Halt.{Halt}
+use Rattle.drive_account.specs.declared.port.Halt.TheVariants as halts
 use Rattle.drive_account.specs.Asking.{Parted}
 use Rattle.drive_straight.specs.declared.course.Course.{Course}
 use Rattle.py_frames.specs.declared.replies.OnReply.{OnReply}
 use Rattle.py_frames.specs.declared.want.Want.TheVariants as want
+use Rattle.py_run.specs.Events.{MakesEvent}
 use Rattle.py_run.specs.Turns.{Made, Stepped, made, remains}
 use Rattle.py_run.specs.declared.course.Turn.{Turn}
 
@@ -50,3 +54,26 @@ pub stands_behind : {A B : Type 0} (r : Result A B) (mine mine' : List (Event ×
     → OnErr r ((files : Option Files) → Parted files mine mine' purse (Makes event next))
 stands_behind (Ok a) mine mine' purse event reply next is = tt
 stands_behind (Err e) mine mine' purse event reply next is = λ files whole fuel a. in_made mine mine' purse event reply next is a
+
+-- where memory is wanted before anything is done
+pub nothing_made : {S A : Type 0} (v : View S) (purse : Purse) (run : Run) (after : Course) (turn : A → Turn) → MakesEvent v v purse run after turn (Err halts.NoMemory)
+nothing_made v purse run after turn = record {
+  stays = stays_refl v;
+  turned = tt;
+  grows = tt;
+  holds = tt;
+  part = λ files whole fuel a. in_some a.stands;
+  refused = λ is. absurd (cc is);
+}
+
+-- where an event was not made, all that it was to lead to is not done either
+pub not_made : {S A B : Type 0} {old new : View S} {purse : Purse} {run : Run} {mid after : Course} {turn : A → Turn} {turn' : B → Turn} (halt : Halt)
+    → MakesEvent old new purse run mid turn (Err halt) → MakesEvent old new purse run after turn' (Err halt)
+not_made halt was = record {
+  stays = was.stays;
+  turned = tt;
+  grows = tt;
+  holds = tt;
+  part = was.part;
+  refused = λ is. let same : halt ≡ halts.Refused = cc in was.refused (ap Err same);
+}

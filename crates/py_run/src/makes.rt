@@ -1,15 +1,12 @@
 //! Turns that make an event.
-ghost use Rattle.std.specs.Prelude.{◌≡◌, ◌≤◌, IfOk, OnOk, OnErr, IsErrOf, Option, false};
+ghost use Rattle.std.specs.Prelude.{◌≡◌, false};
 ghost use Rattle.meaning_script.specs.Names.{is_local_name};
-ghost use Rattle.tree_files.specs.Files.{Files};
-ghost use Rattle.meaning_runs.specs.Lists.{lists_in};
 ghost use Rattle.py_frames.specs.declared.want.Want.TheVariants as wants;
-ghost use Rattle.drive_account.specs.View.{View, Stays};
-ghost use Rattle.drive_account.specs.Ending.{Holds};
-ghost use Rattle.drive_account.specs.Asking.{Parted, Refused};
+ghost use Rattle.drive_account.specs.View.{View};
 ghost use Rattle.drive_straight.specs.Remains.{due};
 ghost use Rattle.drive_straight.specs.declared.next.Next.TheVariants as nexts;
-ghost use Rattle.py_run.specs.Turns.{Stood, Made, made, remains};
+ghost use Rattle.py_run.specs.Turns.{Stood, made, remains};
+ghost use Rattle.py_run.specs.Events.{MakesEvent};
 
 use crate::course::Turn;
 use crate::working::{follow, lead_on};
@@ -29,16 +26,8 @@ fn make<P: Port>(
     on: &OnReply,
 ) -> Result<Option<Reply>, Halt>
     requires stood { Stood (P.view port.old) course.old.held (remains course.old (wants.Call event on.now)) }
-    ensures stays { Stays (P.view port.old) (P.view port.new) }
-    ensures turned { IfOk result (λ reply. Made (P.view port.old).mine (P.view port.new).mine course.old.purse
-        course.new (remains course.old (wants.Call event on.now)) (made on.now reply)) }
-    ensures grows { OnOk result (lists_in (P.view port.old).mine ≤ lists_in (P.view port.new).mine) }
-    ensures holds { OnOk result (Holds (P.view port.new) course.new.held) }
-    ensures part { OnErr result ((files : Option Files) → Parted files (P.view port.old).mine
-        (P.view port.new).mine course.old.purse (remains course.old (wants.Call event on.now))) }
-    ensures refused { IsErrOf result Halt.Refused → (files : Option Files)
-        → Refused (P.view port.new) files (P.view port.old).mine course.old.purse
-        (remains course.old (wants.Call event on.now)) }
+    ensures { MakesEvent (P.view port.old) (P.view port.new) course.old.purse
+        (remains course.old (wants.Call event on.now)) course.new (made on.now) result }
 {
     let _on = on;
     let change = match change_of(&event) {
@@ -74,16 +63,8 @@ pub fn call<P: Port>(
     on: OnReply,
 ) -> Result<Turn, Halt>
     requires stood { Stood (P.view port.old) course.old.held (remains course.old (wants.Call event on)) }
-    ensures stays { Stays (P.view port.old) (P.view port.new) }
-    ensures turned { IfOk result (Made (P.view port.old).mine (P.view port.new).mine course.old.purse course.new
-        (remains course.old (wants.Call event on))) }
-    ensures grows { OnOk result (lists_in (P.view port.old).mine ≤ lists_in (P.view port.new).mine) }
-    ensures holds { OnOk result (Holds (P.view port.new) course.new.held) }
-    ensures part { OnErr result ((files : Option Files) → Parted files (P.view port.old).mine
-        (P.view port.new).mine course.old.purse (remains course.old (wants.Call event on))) }
-    ensures refused { IsErrOf result Halt.Refused → (files : Option Files)
-        → Refused (P.view port.new) files (P.view port.old).mine course.old.purse
-        (remains course.old (wants.Call event on)) }
+    ensures { MakesEvent (P.view port.old) (P.view port.new) course.old.purse
+        (remains course.old (wants.Call event on)) course.new (λ turn. turn) result }
 {
     let made = match make(port, course, event, &on) {
         Ok(made) => made,
@@ -109,16 +90,8 @@ pub fn read<P: Port>(
     name: Text,
 ) -> Result<Turn, Halt>
     requires stood { Stood (P.view port.old) course.old.held (due (nexts.ReadGlobal name) course.old) }
-    ensures stays { Stays (P.view port.old) (P.view port.new) }
-    ensures turned { IfOk result (Made (P.view port.old).mine (P.view port.new).mine course.old.purse course.new
-        (due (nexts.ReadGlobal name) course.old)) }
-    ensures grows { OnOk result (lists_in (P.view port.old).mine ≤ lists_in (P.view port.new).mine) }
-    ensures holds { OnOk result (Holds (P.view port.new) course.new.held) }
-    ensures part { OnErr result ((files : Option Files) → Parted files (P.view port.old).mine
-        (P.view port.new).mine course.old.purse (due (nexts.ReadGlobal name) course.old)) }
-    ensures refused { IsErrOf result Halt.Refused → (files : Option Files)
-        → Refused (P.view port.new) files (P.view port.old).mine course.old.purse
-        (due (nexts.ReadGlobal name) course.old) }
+    ensures { MakesEvent (P.view port.old) (P.view port.new) course.old.purse
+        (due (nexts.ReadGlobal name) course.old) course.new (λ turn. turn) result }
 {
     let copied = match name.copy() {
         Ok(copied) => copied,
@@ -142,16 +115,8 @@ pub fn read_member<P: Port>(
 ) -> Result<Turn, Halt>
     requires stood { Stood (P.view port.old) course.old.held (due (nexts.Member «module» name)
         course.old) }
-    ensures stays { Stays (P.view port.old) (P.view port.new) }
-    ensures turned { IfOk result (Made (P.view port.old).mine (P.view port.new).mine course.old.purse course.new
-        (due (nexts.Member «module» name) course.old)) }
-    ensures grows { OnOk result (lists_in (P.view port.old).mine ≤ lists_in (P.view port.new).mine) }
-    ensures holds { OnOk result (Holds (P.view port.new) course.new.held) }
-    ensures part { OnErr result ((files : Option Files) → Parted files (P.view port.old).mine
-        (P.view port.new).mine course.old.purse (due (nexts.Member «module» name) course.old)) }
-    ensures refused { IsErrOf result Halt.Refused → (files : Option Files)
-        → Refused (P.view port.new) files (P.view port.old).mine course.old.purse
-        (due (nexts.Member «module» name) course.old) }
+    ensures { MakesEvent (P.view port.old) (P.view port.new) course.old.purse
+        (due (nexts.Member «module» name) course.old) course.new (λ turn. turn) result }
 {
     let copied = match name.copy() {
         Ok(copied) => copied,
@@ -181,16 +146,8 @@ pub fn bind<P: Port>(
 ) -> Result<Turn, Halt>
     requires global { is_local_name course.old.thread.state name ≡ false }
     requires stood { Stood (P.view port.old) course.old.held (due (nexts.Store name value) course.old) }
-    ensures stays { Stays (P.view port.old) (P.view port.new) }
-    ensures turned { IfOk result (Made (P.view port.old).mine (P.view port.new).mine course.old.purse course.new
-        (due (nexts.Store name value) course.old)) }
-    ensures grows { OnOk result (lists_in (P.view port.old).mine ≤ lists_in (P.view port.new).mine) }
-    ensures holds { OnOk result (Holds (P.view port.new) course.new.held) }
-    ensures part { OnErr result ((files : Option Files) → Parted files (P.view port.old).mine
-        (P.view port.new).mine course.old.purse (due (nexts.Store name value) course.old)) }
-    ensures refused { IsErrOf result Halt.Refused → (files : Option Files)
-        → Refused (P.view port.new) files (P.view port.old).mine course.old.purse
-        (due (nexts.Store name value) course.old) }
+    ensures { MakesEvent (P.view port.old) (P.view port.new) course.old.purse
+        (due (nexts.Store name value) course.old) course.new (λ turn. turn) result }
 {
     let event = Event::SetVar {
         mid: course.thread.state.scope.mid,
@@ -209,16 +166,8 @@ pub fn wait<P: Port>(
     item: Item,
 ) -> Result<Turn, Halt>
     requires stood { Stood (P.view port.old) course.old.held (remains course.old (wants.Wait item)) }
-    ensures stays { Stays (P.view port.old) (P.view port.new) }
-    ensures turned { IfOk result (Made (P.view port.old).mine (P.view port.new).mine course.old.purse course.new
-        (remains course.old (wants.Wait item))) }
-    ensures grows { OnOk result (lists_in (P.view port.old).mine ≤ lists_in (P.view port.new).mine) }
-    ensures holds { OnOk result (Holds (P.view port.new) course.new.held) }
-    ensures part { OnErr result ((files : Option Files) → Parted files (P.view port.old).mine
-        (P.view port.new).mine course.old.purse (remains course.old (wants.Wait item))) }
-    ensures refused { IsErrOf result Halt.Refused → (files : Option Files)
-        → Refused (P.view port.new) files (P.view port.old).mine course.old.purse
-        (remains course.old (wants.Wait item)) }
+    ensures { MakesEvent (P.view port.old) (P.view port.new) course.old.purse
+        (remains course.old (wants.Wait item)) course.new (λ turn. turn) result }
 {
     course.purse.read = None;
     match port.wait() {
