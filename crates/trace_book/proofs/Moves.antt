@@ -24,8 +24,8 @@ use Rattle.trace_book.specs.declared.view.View.{View}
 use Rattle.trace_book.specs.declared.view.Phase.TheVariants.{Idle, New}
 use Rattle.trace_book.specs.Views.{Has, Within, AllWithin, Rounded, base_of, outgo_of, first_view, numbers_from, view, holding, idle, idle_as, joined, new_view}
 use Rattle.trace_book.specs.Rule.{Sees, Shelved, Written}
-use Rattle.trace_book.specs.Plays.{Seated, Fills, Takes, Took, Notes, GivesBack, Merges, refused, history_out}
-use Rattle.trace_book.specs.Seats.{Rests, Ready, Busy, MayMake, entry, longer_by, Made, Noted}
+use Rattle.trace_book.specs.Plays.{Seated, Fills, Takes, GotTurn, Notes, GivesBack, Merges, refused, history_out}
+use Rattle.trace_book.specs.Seats.{Rests, Ready, HasBook, MayStep, entry, longer_by, IsLegalWith, GainsEntry}
 use Rattle.trace_book.specs.Told.{TableId, Told, told, view_in, new_pass, new_passes, seat_sight}
 use Rattle.trace_book.proofs.Keeps.{takes_turn, notes_entry, gives_back, fills_slot}
 use Rattle.trace_book.proofs.Passes.{merges_in}
@@ -54,22 +54,22 @@ module _ {O : Type 0} (piece : Pieces) (out : O → Outgo) where
       subst (λ (x : Seated O). At root slots id x 0 (λ n. either (n == 0) 1 n) (Takes piece out (step slots 0 0 1 m.none) x)) (sym (seat_is me t ready))
       (takes_turn piece out root slots id (idle_as me.0.stopped me.0 me.0.seen) refl (t, ready.0.number, ready.0.within))
 
-  pub gives_from : (root : Base) (slots id : ℕ) (me : Seated O) (turn : ℕ) → Busy piece out me → (turn ≡ 0) ⊎ (turn ≡ 2) → At root slots id me 0 (λ _. turn) (GivesBack (step slots 0 turn 0 m.none) me)
-  gives_from root slots id me turn busy free =
-      let b = busy.0 in
-      subst (λ (x : Seated O). At root slots id x 0 (λ _. turn) (GivesBack (step slots 0 turn 0 m.none) x)) (sym busy.1)
-      (gives_back piece out root slots id (holding me.0 b.history) b refl busy.2 turn free)
+  pub gives_from : (root : Base) (slots id : ℕ) (me : Seated O) (turn : ℕ) → HasBook piece out me → (turn ≡ 0) ⊎ (turn ≡ 2) → At root slots id me 0 (λ _. turn) (GivesBack (step slots 0 turn 0 m.none) me)
+  gives_from root slots id me turn has_book free =
+      let b = has_book.0 in
+      subst (λ (x : Seated O). At root slots id x 0 (λ _. turn) (GivesBack (step slots 0 turn 0 m.none) x)) (sym has_book.1)
+      (gives_back piece out root slots id (holding me.0 b.history) b refl has_book.2 turn free)
 
-  history_is : (me : Seated O) (busy : Busy piece out me) → history_out me.1 ≡ busy.0.history
-  history_is me busy = ap (λ (x : Seated O). history_out x.1) busy.1
+  history_is : (me : Seated O) (has_book : HasBook piece out me) → history_out me.1 ≡ has_book.0.history
+  history_is me has_book = ap (λ (x : Seated O). history_out x.1) has_book.1
 
-  -- after the book of a busy seat has gained an entry
-  pub notes_from : (root : Base) (slots id : ℕ) (old me : Seated O) (b : BoundTo O) (e : Entry) (new : ℕ) → Busy piece out old → me ≡ (old.0, (0, Some b) ∷ []) → b.history ≡ history_out old.1 ++ e ∷ [] → new ≡ length b.history
+  -- after the book that a seat has out has gained an entry
+  pub notes_from : (root : Base) (slots id : ℕ) (old me : Seated O) (b : BoundTo O) (e : Entry) (new : ℕ) → HasBook piece out old → me ≡ (old.0, (0, Some b) ∷ []) → b.history ≡ history_out old.1 ++ e ∷ [] → new ≡ length b.history
       → Sees (history_out old.1) old.0.numbers old.0.seen → Has e.thread old.0.numbers → At root slots id me 1 (λ _. new) (Notes (step slots 1 new 0 m.none) me)
-  notes_from root slots id old me b e new busy is more count sees mine =
-      let next = busy.0.history in
-      let out_is = history_is old busy in
-      let me' : me ≡ (holding old.0 next, (0, Some b) ∷ []) = is ∙ ap (λ (v : View). (v, (0, Some b) ∷ [])) (ap (λ (x : Seated O). x.0) busy.1) in
+  notes_from root slots id old me b e new has_book is more count sees mine =
+      let next = has_book.0.history in
+      let out_is = history_is old has_book in
+      let me' : me ≡ (holding old.0 next, (0, Some b) ∷ []) = is ∙ ap (λ (v : View). (v, (0, Some b) ∷ [])) (ap (λ (x : Seated O). x.0) has_book.1) in
       subst (λ (x : Seated O). At root slots id x 1 (λ _. new) (Notes (step slots 1 new 0 m.none) x)) (sym me')
       (notes_entry piece out root slots id (holding old.0 next) next e b refl (subst (λ l. Sees l old.0.numbers old.0.seen) out_is sees) mine (more ∙ ap (λ l. l ++ e ∷ []) out_is) new count)
 
@@ -82,52 +82,52 @@ module _ {O : Type 0} (piece : Pieces) (out : O → Outgo) where
   fills_from root slots id me o is =
       subst (λ (x : Seated O). At root slots id x 0 (λ _. 1) (Fills (step slots 0 1 0 m.none) x)) (sym is) (fills_slot piece out root slots id (new_view o) o.first refl)
 
-  -- the book that a busy seat has out
-  pub busy_slot : (me : Seated O) (busy : Busy piece out me) → me.1 ≡ (0, Some busy.0) ∷ []
-  busy_slot me busy = ap (λ (x : Seated O). x.1) busy.1
+  -- the book that a seat has out
+  pub book_slot : (me : Seated O) (has_book : HasBook piece out me) → me.1 ≡ (0, Some has_book.0) ∷ []
+  book_slot me has_book = ap (λ (x : Seated O). x.1) has_book.1
 
   pub first_slot : (x : Option (BoundTo O)) (rest' : List (ℕ × Option (BoundTo O))) (b b' : BoundTo O) → (0, x) ∷ rest' ≡ (0, Some b') ∷ [] → x ≡ Some b → b ≡ b'
   first_slot x rest' b b' slots is =
       let same : x ≡ Some b' = ap (λ (l : List (ℕ × Option (BoundTo O))). (get_or l 0 (0, x)).1) slots in cc (same, is)
 
-  -- the slot that a busy seat has out, as an exchange asks for it
-  pub out_slot : (me : Seated O) → Busy piece out me → (x : Option (BoundTo O)) × (me.1 ≡ (0, x) ∷ rest me.1)
-  out_slot me busy = let slots = busy_slot me busy in (Some busy.0, slots ∙ ap (λ l. (0, Some busy.0) ∷ l) (sym (ap rest slots)))
+  -- the slot that a seat with the book has out, as an exchange asks for it
+  pub out_slot : (me : Seated O) → HasBook piece out me → (x : Option (BoundTo O)) × (me.1 ≡ (0, x) ∷ rest me.1)
+  out_slot me has_book = let slots = book_slot me has_book in (Some has_book.0, slots ∙ ap (λ l. (0, Some has_book.0) ∷ l) (sym (ap rest slots)))
 
-  pub book_is : (me : Seated O) (busy : Busy piece out me) (x : Option (BoundTo O)) (b : BoundTo O) → me.1 ≡ (0, x) ∷ rest me.1 → x ≡ Some b → b ≡ busy.0
-  book_is me busy x b found is = first_slot x (rest me.1) b busy.0 (sym found ∙ busy_slot me busy) is
+  pub book_is : (me : Seated O) (has_book : HasBook piece out me) (x : Option (BoundTo O)) (b : BoundTo O) → me.1 ≡ (0, x) ∷ rest me.1 → x ≡ Some b → b ≡ has_book.0
+  book_is me has_book x b found is = first_slot x (rest me.1) b has_book.0 (sym found ∙ book_slot me has_book) is
 
-  -- a book was put in place of the one that a busy seat had out
-  pub put_in : (me m₁ m₂ : Seated O) (y : Option (BoundTo O)) (b : BoundTo O) → Busy piece out me → m₁ ≡ (me.0, (0, y) ∷ rest me.1) → m₂ ≡ (m₁.0, (0, Some b) ∷ rest m₁.1) → m₂ ≡ (me.0, (0, Some b) ∷ [])
-  put_in me m₁ m₂ y b busy first second =
-      let first' : m₁ ≡ (me.0, (0, y) ∷ []) = first ∙ ap (λ l. (me.0, (0, y) ∷ l)) (ap rest (busy_slot me busy)) in
+  -- a book was put in place of the one that a seat had out
+  pub put_in : (me m₁ m₂ : Seated O) (y : Option (BoundTo O)) (b : BoundTo O) → HasBook piece out me → m₁ ≡ (me.0, (0, y) ∷ rest me.1) → m₂ ≡ (m₁.0, (0, Some b) ∷ rest m₁.1) → m₂ ≡ (me.0, (0, Some b) ∷ [])
+  put_in me m₁ m₂ y b has_book first second =
+      let first' : m₁ ≡ (me.0, (0, y) ∷ []) = first ∙ ap (λ l. (me.0, (0, y) ∷ l)) (ap rest (book_slot me has_book)) in
       second ∙ ap (λ (x : Seated O). (x.0, (0, Some b) ∷ rest x.1)) first'
 
-  pub put_same : (me m₁ m₂ : Seated O) (y : Option (BoundTo O)) (b : BoundTo O) (busy : Busy piece out me) → m₁ ≡ (me.0, (0, y) ∷ rest me.1) → m₂ ≡ (m₁.0, (0, Some b) ∷ rest m₁.1) → b ≡ busy.0 → m₂ ≡ me
-  put_same me m₁ m₂ y b busy first second same =
-      put_in me m₁ m₂ y b busy first second ∙ (ap (λ (c : BoundTo O). (me.0, (0, Some c) ∷ [])) same ∙ (λ i. (me.0, sym (busy_slot me busy) i)))
+  pub put_same : (me m₁ m₂ : Seated O) (y : Option (BoundTo O)) (b : BoundTo O) (has_book : HasBook piece out me) → m₁ ≡ (me.0, (0, y) ∷ rest me.1) → m₂ ≡ (m₁.0, (0, Some b) ∷ rest m₁.1) → b ≡ has_book.0 → m₂ ≡ me
+  put_same me m₁ m₂ y b has_book first second same =
+      put_in me m₁ m₂ y b has_book first second ∙ (ap (λ (c : BoundTo O). (me.0, (0, Some c) ∷ [])) same ∙ (λ i. (me.0, sym (book_slot me has_book) i)))
 
   -- the event is allowed in the state of the book that the seat has out
-  pub allowed_out : (me : Seated O) (busy : Busy piece out me) (t : ℕ) (e : Event) (b : BoundTo O) → b ≡ busy.0 → MayMake me t e → (g : Begun) × (first g ≡ b.opening) → IsLegal b.opening b.history → Allowed (replay b.opening b.history) t e
-  allowed_out me busy t e b is may begun legal =
-      let opens : b.opening ≡ me.0.base.opening = ap (λ (x : BoundTo O). x.opening) is ∙ busy.2.opening in
-      let shown : b.history ≡ history_out me.1 = ap (λ (x : BoundTo O). x.history) is ∙ sym (history_is me busy) in
+  pub allowed_out : (me : Seated O) (has_book : HasBook piece out me) (t : ℕ) (e : Event) (b : BoundTo O) → b ≡ has_book.0 → MayStep me t e → (g : Begun) × (first g ≡ b.opening) → IsLegal b.opening b.history → Allowed (replay b.opening b.history) t e
+  allowed_out me has_book t e b is may begun legal =
+      let opens : b.opening ≡ me.0.base.opening = ap (λ (x : BoundTo O). x.opening) is ∙ has_book.2.opening in
+      let shown : b.history ≡ history_out me.1 = ap (λ (x : BoundTo O). x.history) is ∙ sym (history_is me has_book) in
       subst (λ (p : State × List Entry). (g : Begun) × (first g ≡ p.0) → IsLegal p.0 p.1 → Allowed (replay p.0 p.1) t e) (λ i. (sym opens i, sym shown i)) may.allowed begun legal
 
   -- whether it is allowed in that state, in the words of the seat
-  pub allowed_in : (me : Seated O) (busy : Busy piece out me) (t : ℕ) (e : Event) (b : BoundTo O) → b ≡ busy.0 → allowed (replay b.opening b.history) t e ≡ allowed (replay me.0.base.opening (history_out me.1)) t e
-  allowed_in me busy t e b is =
-      let opens : b.opening ≡ me.0.base.opening = ap (λ (x : BoundTo O). x.opening) is ∙ busy.2.opening in
-      let shown : b.history ≡ history_out me.1 = ap (λ (x : BoundTo O). x.history) is ∙ sym (history_is me busy) in
+  pub allowed_in : (me : Seated O) (has_book : HasBook piece out me) (t : ℕ) (e : Event) (b : BoundTo O) → b ≡ has_book.0 → allowed (replay b.opening b.history) t e ≡ allowed (replay me.0.base.opening (history_out me.1)) t e
+  allowed_in me has_book t e b is =
+      let opens : b.opening ≡ me.0.base.opening = ap (λ (x : BoundTo O). x.opening) is ∙ has_book.2.opening in
+      let shown : b.history ≡ history_out me.1 = ap (λ (x : BoundTo O). x.history) is ∙ sym (history_is me has_book) in
       λ i. allowed (replay (opens i) (shown i)) t e
 
   -- the book after an event, in the words of the seat
-  pub grown : (me : Seated O) (busy : Busy piece out me) (b b' : BoundTo O) (e : Entry) → b ≡ busy.0 → b'.history ≡ b.history ++ e ∷ [] → b'.history ≡ history_out me.1 ++ e ∷ []
-  grown me busy b b' e is more = more ∙ ap (λ l. l ++ e ∷ []) (ap (λ (x : BoundTo O). x.history) is ∙ sym (history_is me busy))
+  pub grown : (me : Seated O) (has_book : HasBook piece out me) (b b' : BoundTo O) (e : Entry) → b ≡ has_book.0 → b'.history ≡ b.history ++ e ∷ [] → b'.history ≡ history_out me.1 ++ e ∷ []
+  grown me has_book b b' e is more = more ∙ ap (λ l. l ++ e ∷ []) (ap (λ (x : BoundTo O). x.history) is ∙ sym (history_is me has_book))
 
   -- the book was put into the empty slot
   pub filled : (old m₁ m₂ : Seated O) (b : BoundTo O) (from n : ℕ) (h : List Entry) → old ≡ (first_view out (b, from, n), []) → m₁ ≡ (holding old.0 h, (0, None) ∷ []) → old.0.phase ≡ New h → m₂ ≡ (m₁.0, (0, Some b) ∷ rest m₁.1)
-      → (m₂ ≡ (holding old.0 b.history, (0, Some b) ∷ [])) × Busy piece out m₂
+      → (m₂ ≡ (holding old.0 b.history, (0, Some b) ∷ [])) × HasBook piece out m₂
   filled old m₁ m₂ b from n h is first new second =
       let o = base_of out (b, from, n) in
       let same : h ≡ b.history = cc (sym new ∙ ap (λ (x : Seated O). x.0.phase) is) in
@@ -135,7 +135,7 @@ module _ {O : Type 0} (piece : Pieces) (out : O → Outgo) where
       second ∙ (ap (λ (x : Seated O). (x.0, (0, Some b) ∷ rest x.1)) first ∙ ap (λ l. (holding old.0 l, (0, Some b) ∷ [])) same) in
       let written : Written piece out o b.history b = record { opening = refl; history = refl; round = record { since = []; joined = append-nil b.history; each = tt }; kept = kept_none piece (out b.outlet) } in (
         all,
-        subst (λ (x : Seated O). Busy piece out x) (sym all) (b, refl, subst (λ (x : Base). Written piece out x b.history b) (sym (ap (λ (x : Seated O). x.0.base) is)) written),
+        subst (λ (x : Seated O). HasBook piece out x) (sym all) (b, refl, subst (λ (x : Base). Written piece out x b.history b) (sym (ap (λ (x : Seated O). x.0.base) is)) written),
       )
 
   -- a book that gained an entry of the round
@@ -147,15 +147,15 @@ module _ {O : Type 0} (piece : Pieces) (out : O → Outgo) where
     kept = kept_next piece (outgo_of o.start) (out b.outlet) (out b'.outlet) w.round.since e w.kept put;
   }
 
-  pub written_out : (me : Seated O) (busy : Busy piece out me) (b b' : BoundTo O) (e : Entry) → b ≡ busy.0 → b'.opening ≡ b.opening → b'.history ≡ b.history ++ e ∷ [] → Kept piece (out b.outlet) (out b'.outlet) (e ∷ []) → Within me.0.base e.thread → Written piece out me.0.base b'.history b'
-  written_out me busy b b' e is = subst (λ (x : BoundTo O). b'.opening ≡ x.opening → b'.history ≡ x.history ++ e ∷ [] → Kept piece (out x.outlet) (out b'.outlet) (e ∷ []) → Within me.0.base e.thread → Written piece out me.0.base b'.history b') (sym is) (written_next me.0.base busy.0 b' e busy.2)
+  pub written_out : (me : Seated O) (has_book : HasBook piece out me) (b b' : BoundTo O) (e : Entry) → b ≡ has_book.0 → b'.opening ≡ b.opening → b'.history ≡ b.history ++ e ∷ [] → Kept piece (out b.outlet) (out b'.outlet) (e ∷ []) → Within me.0.base e.thread → Written piece out me.0.base b'.history b'
+  written_out me has_book b b' e is = subst (λ (x : BoundTo O). b'.opening ≡ x.opening → b'.history ≡ x.history ++ e ∷ [] → Kept piece (out x.outlet) (out b'.outlet) (e ∷ []) → Within me.0.base e.thread → Written piece out me.0.base b'.history b') (sym is) (written_next me.0.base has_book.0 b' e has_book.2)
 
-  -- a seat that has noted an entry is busy with the longer history
+  -- a seat that has noted an entry has the book with the longer history
   pub noted : (old me after : Seated O) (b' : BoundTo O) (t : ℕ) (e : Event) (r : Reply) → me ≡ (old.0, (0, Some b') ∷ []) → after ≡ (holding me.0 (history_out me.1), me.1)
-      → Written piece out old.0.base b'.history b' → b'.history ≡ longer_by old t e r → IsLegal b'.opening b'.history → Fits e r → Noted piece out old after t e r
+      → Written piece out old.0.base b'.history b' → b'.history ≡ longer_by old t e r → IsLegal b'.opening b'.history → Fits e r → GainsEntry piece out old after t e r
   noted old me after b' t e r is step written more legal fits =
       let all : after ≡ (holding old.0 b'.history, (0, Some b') ∷ []) = step ∙ ap (λ (x : Seated O). (holding x.0 (history_out x.1), x.1)) is in record {
-        busy = subst (λ (x : Seated O). Busy piece out x) (sym all) (b', refl, written);
+        has_book = subst (λ (x : Seated O). HasBook piece out x) (sym all) (b', refl, written);
         view = ap (λ (x : Seated O). x.0) all ∙ ap (holding old.0) more;
         history = ap (λ (x : Seated O). history_out x.1) all ∙ more;
         made = record {
@@ -165,19 +165,19 @@ module _ {O : Type 0} (piece : Pieces) (out : O → Outgo) where
         };
       }
 
-  -- the turn makes a seat busy
-  pub took_busy : (me after : Seated O) → Took piece out me after → Busy piece out after
-  took_busy me after took = subst (λ (x : Seated O). Busy piece out x) (sym took.1) (took.0, refl, took.2)
+  -- who gets the turn has the book
+  pub got_book : (me after : Seated O) → GotTurn piece out me after → HasBook piece out after
+  got_book me after took = subst (λ (x : Seated O). HasBook piece out x) (sym took.1) (took.0, refl, took.2)
 
   -- an event that the thread knows to be allowed may be made once the turn was taken
-  pub may_make : (me after : Seated O) (t : ℕ) (e : Event) → Ready me t → Took piece out me after
+  pub may_make : (me after : Seated O) (t : ℕ) (e : Event) → Ready me t → GotTurn piece out me after
       → ((g : Begun) (history : List Entry) → IsLegal (first g) history → (u : ℕ) (x : Event) → HasTurn (first g).rounds history u → Knows u (own u history) x → Allowed (replay (first g) history) u x)
-      → HasTurn me.0.base.opening.rounds me.0.seen t → Knows t (own t me.0.seen) e → MayMake after t e
+      → HasTurn me.0.base.opening.rounds me.0.seen t → Knows t (own t me.0.seen) e → MayStep after t e
   may_make me after t e ready took law turn knows =
       let h = took.0.history in
       let sees = took.3 in
       let o = me.0.base.opening in
-      subst (λ (x : Seated O). MayMake x t e) (sym took.1) (record {
+      subst (λ (x : Seated O). MayStep x t e) (sym took.1) (record {
         number = ready.0.number;
         within = ready.0.within;
         sees = sees;
@@ -186,19 +186,19 @@ module _ {O : Type 0} (piece : Pieces) (out : O → Outgo) where
       })
 
   -- so may a Wake that the machine allows
-  pub may_make_it : (me after : Seated O) (t : ℕ) (e : Event) → Ready me t → Took piece out me after → Allowed (replay after.0.base.opening (history_out after.1)) t e → MayMake after t e
+  pub may_make_it : (me after : Seated O) (t : ℕ) (e : Event) → Ready me t → GotTurn piece out me after → Allowed (replay after.0.base.opening (history_out after.1)) t e → MayStep after t e
   may_make_it me after t e ready took may =
-      subst (λ (x : Seated O). Allowed (replay x.0.base.opening (history_out x.1)) t e → MayMake x t e) (sym took.1)
+      subst (λ (x : Seated O). Allowed (replay x.0.base.opening (history_out x.1)) t e → MayStep x t e) (sym took.1)
       (λ m'. record { number = ready.0.number; within = ready.0.within; sees = took.3; allowed = λ _ _. m' }) may
 
   -- what a call leaves behind, from the seat that had the turn
   pub called : (z : TableId) (v : View) (me after : Seated O) (t : ℕ) (e : Event) (r : Reply) (b : BoundTo O) → Rests v t → me ≡ (holding v b.history, (0, Some b) ∷ []) → Sees b.history v.numbers v.seen
-      → after ≡ (idle me.0 (longer_by me t e r), []) → Made me t e r → Ready after t × Continues (seat_sight z t v) (seat_sight z t after.0) × Gains (seat_sight z t v) (seat_sight z t after.0) e r
+      → after ≡ (idle me.0 (longer_by me t e r), []) → IsLegalWith me t e r → Ready after t × Continues (seat_sight z t v) (seat_sight z t after.0) × Gains (seat_sight z t v) (seat_sight z t after.0) e r
   called z v me after t e r b rests is sees gave made =
       let h = b.history in
       let x = entry t e r in
       let all : after ≡ (idle v (h ++ x ∷ []), []) = gave ∙ ap (λ (y : Seated O). (idle y.0 (longer_by y t e r), [])) is in
-      let made' : Made {O = O} (holding v h, (0, Some b) ∷ []) t e r = subst (λ (y : Seated O). Made y t e r) is made in
+      let made' : IsLegalWith {O = O} (holding v h, (0, Some b) ∷ []) t e r = subst (λ (y : Seated O). IsLegalWith y t e r) is made in
       subst (λ (y : Seated O). Ready y t × Continues (seat_sight z t v) (seat_sight z t y.0) × Gains (seat_sight z t v) (seat_sight z t y.0) e r) (sym all) (
         (record { idle = refl; number = rests.number; within = rests.within; round = made'.round }, refl),
         record {
@@ -229,11 +229,11 @@ module _ {O : Type 0} (piece : Pieces) (out : O → Outgo) where
       )
 
   -- the same two after the turn was taken
-  pub called_from : (z : TableId) (me took_me after : Seated O) (t : ℕ) (e : Event) (r : Reply) → Ready me t → Took piece out me took_me
-      → after ≡ (idle took_me.0 (longer_by took_me t e r), []) → Made took_me t e r → Ready after t × Continues (seat_sight z t me.0) (seat_sight z t after.0) × Gains (seat_sight z t me.0) (seat_sight z t after.0) e r
+  pub called_from : (z : TableId) (me took_me after : Seated O) (t : ℕ) (e : Event) (r : Reply) → Ready me t → GotTurn piece out me took_me
+      → after ≡ (idle took_me.0 (longer_by took_me t e r), []) → IsLegalWith took_me t e r → Ready after t × Continues (seat_sight z t me.0) (seat_sight z t after.0) × Gains (seat_sight z t me.0) (seat_sight z t after.0) e r
   called_from z me took_me after t e r ready took gave made = called z me.0 took_me after t e r took.0 ready.0 took.1 took.3 gave made
 
-  pub looked_from : (z : TableId) (stopped : Bool) (me took_me after : Seated O) (t : ℕ) → Ready me t → Took piece out me took_me
+  pub looked_from : (z : TableId) (stopped : Bool) (me took_me after : Seated O) (t : ℕ) → Ready me t → GotTurn piece out me took_me
       → after ≡ (idle_as stopped took_me.0 (history_out took_me.1), []) → Ready after t × Continues (seat_sight z t me.0) (seat_sight z t after.0) × (own t after.0.seen ≡ own t me.0.seen)
   looked_from z stopped me took_me after t ready took gave = looked z stopped me.0 took_me after t took.0 ready.0 took.1 took.2 took.3 gave
 

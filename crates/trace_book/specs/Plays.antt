@@ -57,8 +57,8 @@ module _ {O : Type 0} where
 module _ {O : Type 0} (piece : Pieces) (out : O → Outgo) where
   -- the turn was had, with a book whose history begins with what was
   -- seen, and in which the seat's own events are as it knows them
-  abbrev pub Took : Seated O → Seated O → Type 0
-  Took me after =
+  abbrev pub GotTurn : Seated O → Seated O → Type 0
+  GotTurn me after =
       (b : BoundTo O) × (after ≡ (holding me.0 b.history, (0, Some b) ∷ [])) × Written piece out me.0.base b.history b
       × Sees b.history me.0.numbers me.0.seen
 
@@ -66,5 +66,5 @@ module _ {O : Type 0} (piece : Pieces) (out : O → Outgo) where
   -- view knows of the stop from then on; and else nothing changes
   abbrev pub Takes : Step (Option (BoundTo O)) → Seated O → ℕ → Seated O → Type 0
   Takes s me found after =
-      (found ≡ 0 → Took me after) × (found ≡ 0 → me.0.stopped ≡ false) × (found ≡ 2 → after ≡ refused me)
+      (found ≡ 0 → GotTurn me after) × (found ≡ 0 → me.0.stopped ≡ false) × (found ≡ 2 → after ≡ refused me)
       × (found ≢ 0 → found ≢ 2 → after ≡ me)

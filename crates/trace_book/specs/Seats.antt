@@ -31,13 +31,13 @@ pub record Rests (v : View) (t : ℕ) : Type 0 where
 abbrev pub Ready : {O : Type 0} → Seated O → ℕ → Type 0
 Ready me t = Rests me.0 t × (me.1 ≡ [])
 
--- with the turn, and a book that it may give back
-abbrev pub Busy : {O : Type 0} → Pieces → (O → Outgo) → Seated O → Type 0
-Busy {O} piece out me =
+-- the seat has the turn, and the book out, which it may give back
+abbrev pub HasBook : {O : Type 0} → Pieces → (O → Outgo) → Seated O → Type 0
+HasBook {O} piece out me =
     (b : BoundTo O) × (me ≡ (holding me.0 b.history, (0, Some b) ∷ [])) × Written piece out me.0.base b.history b
 
--- the seat has the turn, and its thread may make the event
-pub record MayMake {O : Type 0} (me : Seated O) (t : ℕ) (e : Event) : Type 0 where
+-- the book that the seat has out may take a step for its thread: the event is allowed there
+pub record MayStep {O : Type 0} (me : Seated O) (t : ℕ) (e : Event) : Type 0 where
   pub number : Has t me.0.numbers
   pub within : Within me.0.base t
   pub sees : Sees (history_out me.1) me.0.numbers me.0.seen
@@ -52,19 +52,19 @@ entry t e r = record { thread = t; event = e; reply = r }
 abbrev pub longer_by : {O : Type 0} → Seated O → ℕ → Event → Reply → List Entry
 longer_by me t e r = history_out me.1 ++ entry t e r ∷ []
 
--- the entry stands at the end of the history, which is legal and of the round
-pub record Made {O : Type 0} (me : Seated O) (t : ℕ) (e : Event) (r : Reply) : Type 0 where
+-- with the entry at its end, the history is legal and of the round, and the reply is one that the event can have
+pub record IsLegalWith {O : Type 0} (me : Seated O) (t : ℕ) (e : Event) (r : Reply) : Type 0 where
   pub legal : IsLegal me.0.base.opening (longer_by me t e r)
   pub round : Rounded me.0.base (longer_by me t e r)
   pub fits : Fits e r
 
--- the seat has the turn with one entry more
-pub record Noted {O : Type 0} (piece : Pieces) (out : O → Outgo) (me after : Seated O) (t : ℕ) (e : Event) (r : Reply)
-    : Type 0 where
-  pub busy : Busy piece out after
+-- the seat has the turn still, and its book has one entry more
+pub record GainsEntry {O : Type 0} (piece : Pieces) (out : O → Outgo) (me after : Seated O) (t : ℕ) (e : Event)
+    (r : Reply) : Type 0 where
+  pub has_book : HasBook piece out after
   pub view : after.0 ≡ holding me.0 (longer_by me t e r)
   pub history : history_out after.1 ≡ longer_by me t e r
-  pub made : Made me t e r
+  pub made : IsLegalWith me t e r
 
 -- whether the machine of the book that the seat has out lets a thread that waits wake up
 abbrev pub may_wake : {O : Type 0} → Seated O → ℕ → Bool
@@ -102,9 +102,9 @@ taken_in me other = (view me.0.base (me.0.numbers ++ other.0.numbers) (seen_by_b
 abbrev pub GoesOn : {O : Type 0} → TableId → ℕ → Seated O → Seated O → Type 0
 GoesOn z t old new = Continues (seat_sight z t old.0) (seat_sight z t new.0)
 
--- its desk made the event, and got the reply
-abbrev pub MadeAt : {O : Type 0} → TableId → ℕ → Seated O → Seated O → Event → Reply → Type 0
-MadeAt z t old new e r = Gains (seat_sight z t old.0) (seat_sight z t new.0) e r
+-- the desk of a seat gains this event with its reply
+abbrev pub DeskGains : {O : Type 0} → TableId → ℕ → Seated O → Seated O → Event → Reply → Type 0
+DeskGains z t old new e r = Gains (seat_sight z t old.0) (seat_sight z t new.0) e r
 
 -- the thread's own events are the same
 abbrev pub SameOwn : {O : Type 0} → ℕ → Seated O → Seated O → Type 0

@@ -8,8 +8,8 @@ ghost use Rattle.trace_book.specs.declared.view.Phase.TheVariants.{Idle};
 ghost use Rattle.trace_book.specs.Views.{Has, Within, view, first_view, numbers_from, kept_of, longer};
 ghost use Rattle.trace_book.specs.Rule.{Written};
 ghost use Rattle.trace_book.specs.Told.{new_passes, dealt, SamePlace};
-ghost use Rattle.trace_book.specs.Plays.{Took, history_out, refused};
-ghost use Rattle.trace_book.specs.Seats.{Ready, Busy, MayMake, Made, Noted, may_wake, wakes_after, GoesOn, MadeAt, SameOwn, SameOf, RoundedToo, Stopped, longer_by, resting, resting_as, speaking, taken_in, seen_by_both};
+ghost use Rattle.trace_book.specs.Plays.{GotTurn, history_out, refused};
+ghost use Rattle.trace_book.specs.Seats.{Ready, HasBook, MayStep, IsLegalWith, GainsEntry, may_wake, wakes_after, GoesOn, DeskGains, SameOwn, SameOf, RoundedToo, Stopped, longer_by, resting, resting_as, speaking, taken_in, seen_by_both};
 
 use crate::bell::{Bell, Wanted, place_of};
 use crate::pass::Pass;
@@ -61,7 +61,7 @@ impl<O: Outlet> Shelf<O> {
     fn try_take(&self, seat: &mut Seat<O>, _number: u32) -> u64
         requires { (seat.old.table_id ≡ self.now.table.shared.table_id) × Ready seat.old.me _number }
         ensures table { seat.new.table_id ≡ seat.old.table_id }
-        ensures had { result ≡ 0 → Took O.piece O.out seat.old.me seat.new.me }
+        ensures had { result ≡ 0 → GotTurn O.piece O.out seat.old.me seat.new.me }
         ensures going { result ≡ 0 → seat.old.me.0.stopped ≡ false }
         ensures stopped { result ≡ 2 → seat.new.me ≡ refused seat.old.me }
         ensures not { result ≢ 0 → result ≢ 2 → seat.new.me ≡ seat.old.me }
@@ -74,7 +74,7 @@ impl<O: Outlet> Shelf<O> {
     // Gives the turn and the book back. Where the turn is left at 2, the seat knows that the shelf is stopped.
     fn give_back(&self, seat: &mut Seat<O>, turn: u64)
         requires table { seat.old.table_id ≡ self.now.table.shared.table_id }
-        requires busy { Busy O.piece O.out seat.old.me }
+        requires has_book { HasBook O.piece O.out seat.old.me }
         requires turn { (turn ≡ 0) ⊎ (turn ≡ 2) }
         ensures table { seat.new.table_id ≡ seat.old.table_id }
         ensures seat { seat.new.me ≡ resting_as (turn == 2) seat.old.me (history_out seat.old.me.1) }
@@ -91,10 +91,10 @@ impl<O: Outlet> Shelf<O> {
         given: &mut Option<usize>,
     ) -> Result<Reply, NoMemory>
         requires table { seat.old.table_id ≡ self.now.table.shared.table_id }
-        requires busy { Busy O.piece O.out seat.old.me }
-        requires may { MayMake seat.old.me number event }
+        requires has_book { HasBook O.piece O.out seat.old.me }
+        requires may { MayStep seat.old.me number event }
         ensures table { seat.new.table_id ≡ seat.old.table_id }
-        ensures ok { IfOk result (Noted O.piece O.out seat.old.me seat.new.me number event) }
+        ensures ok { IfOk result (GainsEntry O.piece O.out seat.old.me seat.new.me number event) }
         ensures err { OnErr result (seat.new.me ≡ seat.old.me) }
     {
         let Some(mut book) = self.table.shared.exchange(seat, HOME, None) else {
@@ -116,7 +116,7 @@ impl<O: Outlet> Shelf<O> {
     // Whether the thread may wake now, and the place of the name that it waits for. The seat has the turn.
     fn may_wake(&self, seat: &mut Seat<O>, number: u32, place: &mut usize) -> bool
         requires table { seat.old.table_id ≡ self.now.table.shared.table_id }
-        requires busy { Busy O.piece O.out seat.old.me }
+        requires has_book { HasBook O.piece O.out seat.old.me }
         ensures table { seat.new.table_id ≡ seat.old.table_id }
         ensures seat { seat.new.me ≡ seat.old.me }
         ensures may { result ≡ may_wake seat.old.me number }
@@ -142,11 +142,11 @@ impl<O: Outlet> Shelf<O> {
         event: Event,
     ) -> Result<Reply, NoMemory>
         requires table { seat.old.table_id ≡ self.now.table.shared.table_id }
-        requires busy { Busy O.piece O.out seat.old.me }
-        requires may { MayMake seat.old.me number event }
+        requires has_book { HasBook O.piece O.out seat.old.me }
+        requires may { MayStep seat.old.me number event }
         ensures table { seat.new.table_id ≡ seat.old.table_id }
         ensures seat { IfOk result (λ r. seat.new.me ≡ resting seat.old.me (longer_by seat.old.me number event r)) }
-        ensures made { IfOk result (Made seat.old.me number event) }
+        ensures made { IfOk result (IsLegalWith seat.old.me number event) }
         ensures err { OnErr result (seat.new.me ≡ resting_as true seat.old.me (history_out seat.old.me.1)) }
     {
         let mut given = None;
@@ -168,7 +168,7 @@ impl<O: Outlet> Shelf<O> {
     fn try_often(&self, seat: &mut Seat<O>, number: u32) -> u64
         requires { (seat.old.table_id ≡ self.now.table.shared.table_id) × Ready seat.old.me number }
         ensures table { seat.new.table_id ≡ seat.old.table_id }
-        ensures had { result ≡ 0 → Took O.piece O.out seat.old.me seat.new.me }
+        ensures had { result ≡ 0 → GotTurn O.piece O.out seat.old.me seat.new.me }
         ensures going { result ≡ 0 → seat.old.me.0.stopped ≡ false }
         ensures stopped { result ≡ 2 → seat.new.me ≡ refused seat.old.me }
         ensures not { result ≢ 0 → result ≢ 2 → seat.new.me ≡ seat.old.me }
@@ -187,7 +187,7 @@ impl<O: Outlet> Shelf<O> {
     fn take_turn<R: Wait>(&self, rt: &R, bell: &Bell, seat: &mut Seat<O>, number: u32) -> bool
         requires { (seat.old.table_id ≡ self.now.table.shared.table_id) × Ready seat.old.me number }
         ensures table { seat.new.table_id ≡ seat.old.table_id }
-        ensures had { MatchBool result (Took O.piece O.out seat.old.me seat.new.me)
+        ensures had { MatchBool result (GotTurn O.piece O.out seat.old.me seat.new.me)
             (seat.new.me ≡ refused seat.old.me) }
         ensures going { MatchBool result (seat.old.me.0.stopped ≡ false) (Stopped seat.new.me) }
     {
@@ -210,7 +210,7 @@ impl<O: Outlet> Shelf<O> {
     fn sleep_for_turn<R: Wait>(&self, rt: &R, bell: &Bell, seat: &mut Seat<O>, number: u32) -> bool
         requires { (seat.old.table_id ≡ self.now.table.shared.table_id) × Ready seat.old.me number }
         ensures table { seat.new.table_id ≡ seat.old.table_id }
-        ensures had { MatchBool result (Took O.piece O.out seat.old.me seat.new.me)
+        ensures had { MatchBool result (GotTurn O.piece O.out seat.old.me seat.new.me)
             (seat.new.me ≡ refused seat.old.me) }
         ensures going { MatchBool result (seat.old.me.0.stopped ≡ false) (Stopped seat.new.me) }
     {
@@ -244,7 +244,7 @@ impl<O: Outlet> Shelf<O> {
         ensures table { seat.new.table_id ≡ seat.old.table_id }
         ensures ready { Ready seat.new.me number }
         ensures continues { GoesOn seat.old.table_id number seat.old.me seat.new.me }
-        ensures ok { IfOk result (MadeAt seat.old.table_id number seat.old.me seat.new.me event) }
+        ensures ok { IfOk result (DeskGains seat.old.table_id number seat.old.me seat.new.me event) }
         ensures err { OnErr result (SameOwn number seat.old.me seat.new.me) }
         ensures stopped { OnErr result (Stopped seat.new.me) }
         ensures refuses { Stopped seat.old.me → IsErr result }
@@ -273,7 +273,7 @@ impl<O: Outlet> Shelf<O> {
         ensures table { seat.new.table_id ≡ seat.old.table_id }
         ensures ready { Ready seat.new.me number }
         ensures continues { GoesOn seat.old.table_id number seat.old.me seat.new.me }
-        ensures ok { IfOk result (MadeAt seat.old.table_id number seat.old.me seat.new.me events.Wake) }
+        ensures ok { IfOk result (DeskGains seat.old.table_id number seat.old.me seat.new.me events.Wake) }
         ensures err { OnErr result (SameOwn number seat.old.me seat.new.me) }
         ensures stopped { OnErr result (Stopped seat.new.me) }
     {
@@ -304,7 +304,8 @@ impl<O: Outlet> Shelf<O> {
         ensures table { seat.new.table_id ≡ seat.old.table_id }
         ensures ready { Ready seat.new.me number }
         ensures continues { GoesOn seat.old.table_id number seat.old.me seat.new.me }
-        ensures ok { IfSome result (λ r. IfOk r (MadeAt seat.old.table_id number seat.old.me seat.new.me events.Wake)) }
+        ensures ok { IfSome result (λ r. IfOk r (DeskGains seat.old.table_id number
+            seat.old.me seat.new.me events.Wake)) }
         ensures err { IfSome result (λ done. OnErr done (SameOwn number seat.old.me seat.new.me)) }
         ensures stopped { IfSome result (λ done. OnErr done (Stopped seat.new.me)) }
         ensures none { IfNone result (SameOwn number seat.old.me seat.new.me) }

@@ -7,8 +7,8 @@ use Rattle.trace_book.proofs.shelf.Shelf.fill.Goals as goal
 pub swap-requires : goal.swap-requires
 swap-requires g c = (search rules, search rules, fills_from _ _ _ _ _ c.args.seat.now.me _ c.requires.new)
 
-pub give_back-requires-clause-busy : goal.give_back-requires-clause-busy
-give_back-requires-clause-busy g c =
+pub give_back-requires-clause-has_book : goal.give_back-requires-clause-has_book
+give_back-requires-clause-has_book g c =
     (filled _ _ c.args.seat.now.me _ _ c.args.book c.args.from c.args.n c.swap.ensures.2.0 c.requires.new c.swap.ensures.2.1 c.swap.ensures.2.2 c.exchange.ensures.3).1
 
 pub returns-clause-seat : goal.returns-clause-seat

@@ -1,7 +1,7 @@
 -- The tries before the sleep did not change the seat.
 use Rattle.std.proofs.Common.{◌≡◌, false, ap, subst}
 use Rattle.std.specs.Prelude.{MatchBool}
-use Rattle.trace_book.specs.Plays.{Seated, Took, refused}
+use Rattle.trace_book.specs.Plays.{Seated, GotTurn, refused}
 use Rattle.trace_book.specs.Seats.{Stopped}
 use Rattle.trace_book.proofs.shelf.Shelf.take_turn.Goals as goal
 
@@ -20,7 +20,7 @@ returns-then-turn-eq-STOPPED-clause-going g c = ap (λ (x : Seated g.row.O.Denot
 pub returns-clause-had : goal.returns-clause-had
 returns-clause-had g c =
     let after = c.sleep_for_turn-had.new.seat.me in
-    subst (λ (x : Seated g.row.O.Denot). MatchBool c.sleep_for_turn-had.result (Took g.O.Outlet.piece g.O.Outlet.out x after) (after ≡ refused x))
+    subst (λ (x : Seated g.row.O.Denot). MatchBool c.sleep_for_turn-had.result (GotTurn g.O.Outlet.piece g.O.Outlet.out x after) (after ≡ refused x))
     (c.try_often-turn.ensures.not c.if-turn-eq-FREE.false c.if-turn-eq-STOPPED.false) c.sleep_for_turn-had.ensures.had
 
 pub returns-clause-going : goal.returns-clause-going
