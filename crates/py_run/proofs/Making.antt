@@ -21,7 +21,7 @@ use Rattle.drive_straight.specs.declared.course.Course.{Course}
 use Rattle.py_frames.specs.declared.replies.OnReply.{OnReply}
 use Rattle.py_frames.specs.declared.want.Want.TheVariants as want
 use Rattle.py_run.specs.Events.{MakesEvent}
-use Rattle.py_run.specs.Turns.{Made, Stepped, made, remains}
+use Rattle.py_run.specs.Turns.{TurnedByEvent, Stepped, made, remains}
 use Rattle.py_run.specs.declared.course.Turn.{Turn}
 
 pub in_made : {files : Option Files} {whole : Run} {fuel : ℕ} (mine mine' : List (Event × Reply)) (purse : Purse) (event : Event) (reply : Reply) (next : Reply → Run)
@@ -33,19 +33,19 @@ pub holds_woken : {S : Type 0} (old new : View S) (reply : Reply) (held : Held) 
 holds_woken old new reply held stays gains known = holds_made old new e.Wake reply held held stays gains known refl
 
 -- an event was made, or not, and its reply is known
-pub made_known : (mine mine' : List (Event × Reply)) (purse : Purse) (mid : Course) (run : Run) (on : OnReply) (r r' : Option Reply) → r ≡ r' → Made mine mine' purse mid run (made on r) → Made mine mine' purse mid run (made on r')
-made_known mine mine' purse mid run on r r' is was = subst (λ (r : Option Reply). Made mine mine' purse mid run (made on r)) is was
+pub made_known : (mine mine' : List (Event × Reply)) (purse : Purse) (mid : Course) (run : Run) (on : OnReply) (r r' : Option Reply) → r ≡ r' → TurnedByEvent mine mine' purse mid run (made on r) → TurnedByEvent mine mine' purse mid run (made on r')
+made_known mine mine' purse mid run on r r' is was = subst (λ (r : Option Reply). TurnedByEvent mine mine' purse mid run (made on r)) is was
 
 -- an event was made, and then a turn led on
-pub made_on : (mine mine' : List (Event × Reply)) (purse : Purse) (mid new : Course) (run : Run) (on : OnReply) (reply : Reply) (t : Turn) → Made mine mine' purse mid run (made on (Some reply))
-    → Stepped mid.purse new (remains mid (want.Replied on reply)) t → Made mine mine' purse new run t
+pub made_on : (mine mine' : List (Event × Reply)) (purse : Purse) (mid new : Course) (run : Run) (on : OnReply) (reply : Reply) (t : Turn) → TurnedByEvent mine mine' purse mid run (made on (Some reply))
+    → Stepped mid.purse new (remains mid (want.Replied on reply)) t → TurnedByEvent mine mine' purse new run t
 made_on mine mine' purse mid new run on reply t was led files faults = record {
   moves = λ whole fuel a. (led files faults mine').moves whole fuel ((was files faults).moves whole fuel a);
   counts = (led files faults mine').counts;
 }
 
 -- where memory is wanted behind an event, the script stands behind it
-pub made_stands : {A B : Type 0} (r : Result A B) (mine mine' : List (Event × Reply)) (purse : Purse) (mid : Course) (run : Run) (on : OnReply) (reply : Reply) → Made mine mine' purse mid run (made on (Some reply))
+pub made_stands : {A B : Type 0} (r : Result A B) (mine mine' : List (Event × Reply)) (purse : Purse) (mid : Course) (run : Run) (on : OnReply) (reply : Reply) → TurnedByEvent mine mine' purse mid run (made on (Some reply))
     → OnErr r ((files : Option Files) → Parted files mine mine' purse run)
 made_stands (Ok a) mine mine' purse mid run on reply was = tt
 made_stands (Err e) mine mine' purse mid run on reply was = λ files whole fuel a. in_some ((was files 0).moves whole fuel a).stands

@@ -10,7 +10,7 @@ use Rattle.drive_account.specs.declared.port.Halt.{Halt}
 use Rattle.drive_account.specs.declared.port.Halt.TheVariants as halts
 use Rattle.drive_account.specs.declared.purse.Purse.{Purse}
 use Rattle.drive_straight.specs.declared.course.Course.{Course}
-use Rattle.py_run.specs.Turns.{Made}
+use Rattle.py_run.specs.Turns.{TurnedByEvent}
 use Rattle.py_run.specs.declared.course.Turn.{Turn}
 
 -- the event that is due at `run` is made, and what comes of it is a turn
@@ -18,7 +18,7 @@ pub record MakesEvent {S A : Type 0} (old new : View S) (purse : Purse) (run : R
   -- the port is the same script's
   pub stays : Stays old new
   -- whatever script stood at the event stands where the turn leads
-  pub turned : IfOk result (λ came. Made old.mine new.mine purse after run (turn came))
+  pub turned : IfOk result (λ came. TurnedByEvent old.mine new.mine purse after run (turn came))
   -- no listing that the script's events keep is lost
   pub grows : OnOk result (lists_in old.mine ≤ lists_in new.mine)
   -- what the script holds is known

@@ -94,8 +94,8 @@ IsFileStamp (stamps.Dir time) = ⊥
 IsFileStamp stamps.Absent = ⊥
 
 -- a turn that makes an event
-abbrev pub Made : List (Event × Reply) → List (Event × Reply) → Purse → Course → Run → Turn → Type 0
-Made mine mine' purse after run t = (files : Option Files) (faults : ℕ) → Turned files faults faults mine mine' purse after run t
+abbrev pub TurnedByEvent : List (Event × Reply) → List (Event × Reply) → Purse → Course → Run → Turn → Type 0
+TurnedByEvent mine mine' purse after run t = (files : Option Files) (faults : ℕ) → Turned files faults faults mine mine' purse after run t
 
 -- where an event leads to which this reply came, or none since its unit was not there
 abbrev pub made : OnReply → Option Reply → Turn
