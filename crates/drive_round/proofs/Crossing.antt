@@ -1,5 +1,5 @@
--- A book may go to another thread, and a shelf over it may be shared, where its outlet may go there. For most types rattle
--- makes such a lemma by itself; where a `Value` is inside, which holds lists of values, it is made here from the parts.
+-- A book may go to another thread, and threads may have a shared book of it, where its outlet may go there. For most
+-- types rattle makes such a lemma by itself; where a `Value` is inside, which holds lists of values, it is made here from the parts.
 use denote.RattleType.{RattleType}
 use denote.Builtin as builtin
 use denote.Enum.Declared as enums

@@ -133,7 +133,7 @@ speaks-for-all out book table files from n runs fuel pass counts results all i w
     let here : Within (base_of out (book, from, n)) i = subst (λ b. Within b i) all.of_base within in
     subst (Has i) (sym all.numbers) (has-number from n i here.0 here.1)
 
--- the whole round, once the shelf is closed
+-- the whole round, once the shared book is closed
 pub threads-have-run : {O : Type 0} (piece : Pieces) (out : O → Outgo) (table : TableId) (files : Option Files) (from n : ℕ) (runs : Runs) (fuel : ℕ) (before after : BoundTo O) (pass : Told) (counts : List Counts) (results : Results)
     → n ≡ length runs → Gathered table (base_of out (before, from, n)) files from runs fuel n pass counts results
     → Written piece out pass.base pass.seen after → IsLegal after.opening after.history → ThreadsRan piece out files from runs fuel before after counts results

@@ -33,7 +33,7 @@ facts run files faults lists w = record {
   ran = w.ran;
 }
 
--- it may begin: its pass, of this shelf and its number, has made no event, and it is its turn
+-- it may begin: its pass, of this shared book and its number, has made no event, and it is its turn
 pub record IsNew (table : TableId) (w : Facts) : Type 0 where
   pub pass : Told
   pub is : w.pass ≡ Some pass
@@ -42,7 +42,7 @@ pub record IsNew (table : TableId) (w : Facts) : Type 0 where
   pub ready : IsReady (sight_of pass)
   pub first : mine_of pass ≡ []
 
--- it ran: its pass went on, and knows that the shelf is stopped where memory was wanted;
+-- it ran: its pass went on, and knows that the shared book is stopped where memory was wanted;
 -- the number, the meaning and the files are as they were
 pub record HasWorked (fuel : ℕ) (old new : Facts) : Type 0 where
   pub before : Told
@@ -60,7 +60,7 @@ pub record HasWorked (fuel : ℕ) (old new : Facts) : Type 0 where
 abbrev pub Works : {W : Type 0} → ℕ → (W → Facts) → W → W → Type 0
 Works fuel seen old new = HasWorked fuel (seen old) (seen new)
 
--- each of these workers may begin at the shelf
+-- each of these workers may begin at the shared book
 abbrev pub AllNew : {W : Type 0} → TableId → (W → Facts) → List W → Type 0
 AllNew table seen ws = All (λ w. IsNew table (seen w)) ws
 

@@ -27,8 +27,8 @@ pub(crate) struct Room<'a, R: Wait, O: Outlet, G: Gate> {
 }
 
 impl<R: Wait, O: Outlet, G: Gate> Room<'_, R, O, G> {
-    /// Runs a program at the desk of a pass. At want of memory the shelf is stopped, so that nobody
-    /// waits for this thread.
+    /// Runs a program at the desk of a pass. At want of memory the shared book is stopped, so that
+    /// nobody waits for this thread.
     fn run<T: Tree, P: Program>(
         &self,
         pass: Pass,

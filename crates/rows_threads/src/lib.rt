@@ -1,5 +1,5 @@
-//! Scripts that run in threads at once, held by gates, and a shelf that is stopped: what no contract says and no row of a
-//! table can show.
+//! Scripts that run in threads at once, held by gates, and a shared book that is stopped: what no contract says and no
+//! row of a table can show.
 #![tactic(auto)]
 
 #[cfg(test)]

@@ -1,4 +1,4 @@
-//! A shelf that one desk stops.
+//! A shared book that one desk stops.
 ghost use Rattle.std.specs.Prelude.{◌≡◌, ◌∷◌, [], false, None, length, IfOk};
 ghost use Rattle.machine_book.specs.Bound.{CanOpen};
 ghost use Rattle.machine_desk.specs.Sight.{IsReady};
@@ -77,7 +77,7 @@ fn open_book(alloc: Global) -> Result<Book<Silent>, NoMemory>
     Ok(book)
 }
 
-// Whether a desk makes no event more whose shelf another one has stopped.
+// Whether a desk makes no event more whose shared book another one has stopped.
 fn refuses<R: Wait>(rt: &R, shelf: &Shelf<Silent>, bell: &Bell, first: Pass, second: Pass) -> bool
     requires first_table { first.table ≡ shelf.now.table.shared.table_id }
     requires second_table { second.table ≡ shelf.now.table.shared.table_id }
@@ -90,7 +90,7 @@ fn refuses<R: Wait>(rt: &R, shelf: &Shelf<Silent>, bell: &Bell, first: Pass, sec
     matches!(going.call(Event::PathGet), Err(Halt::NoMemory))
 }
 
-/// Whether a desk that stops its shelf ends the calls of the other one.
+/// Whether a desk that stops its shared book ends the calls of the other one.
 pub(crate) fn stops<R: Wait>(rt: &R, alloc: Global) -> Result<bool, NoMemory> {
     let book = open_book(alloc)?;
     let Ok((shelf, mut passes)) = Shelf::open(alloc, book, 0, SCRIPTS) else {

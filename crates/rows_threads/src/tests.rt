@@ -227,7 +227,7 @@ fn the_gate_is_passed_before_an_event(rt: HostRuntime) -> Result<(), Fail> {
     Ok(())
 }
 
-// Once a desk has stopped the shelf, the next call of the other desk wants memory.
+// Once a desk has stopped the shared book, the next call of the other desk wants memory.
 #[test]
 fn a_stopped_shelf_has_no_memory(rt: HostRuntime) -> Result<(), Fail> {
     assert!(rt; stops(&rt, rt.alloc())?);

@@ -263,7 +263,7 @@ pub passes_more : (z : TableId) (o : Base) (k i : ℕ) (old new : List Told) (p 
 passes_more z o k i old new p are grew is = grew ∙ ((λ j. are j ++ is j ∷ []) ∙ sym (new_passes-push z o k i))
 
 module _ {O : Type 0} where
-  -- what a call that found the shelf stopped leaves behind
+  -- what a call that found the shared book stopped leaves behind
   pub turned_away : (z : TableId) (me after : Seated O) (t : ℕ) → Ready me t → after ≡ refused me → Ready after t × Continues (seat_sight z t me.0) (seat_sight z t after.0) × (own t after.0.seen ≡ own t me.0.seen)
   turned_away z me after t ready is =
       subst (λ (x : Seated O). Ready x t × Continues (seat_sight z t me.0) (seat_sight z t x.0) × (own t x.0.seen ≡ own t me.0.seen)) (sym is) (

@@ -461,7 +461,7 @@ module _ {O : Type 0} (piece : Pieces) (out : O → Outgo) where
       not_spent (Joined a b) next e = refl
       not_spent Spent next e = absurd (cc (e))
 
--- the book of a closed shelf has just the history that the last view has seen
+-- the book that a closed shared book gives back has just the history that the last view has seen
 pub closed_book : {O : Type 0} (piece : Pieces) (out : O → Outgo) (v : View) (b : BoundTo O) → Written piece out v.base b.history b → Sees b.history v.numbers v.seen → Rounded v.base v.seen → ((i : ℕ) → Within v.base i → Has i v.numbers) → Written piece out v.base v.seen b
 closed_book piece out v b w sees round all =
     let same = whole v.base b.history v.seen w.round round sees.0 (λ i within. sees.1 i (all i within)) in

@@ -39,7 +39,7 @@ module _ {O : Type 0} where
   Notes s me found after = after ≡ (holding me.0 (history_out me.1), me.1)
 
   -- the book goes home with the turn, and the view has seen all that the book has;
-  -- where the turn is left at 2, the view knows that the shelf is stopped
+  -- where the turn is left at 2, the view knows that the shared book is stopped
   abbrev pub GivesBack : Step (Option (BoundTo O)) → Seated O → ℕ → Seated O → Type 0
   GivesBack s me found after = after ≡ (idle_as (s.first == 2) me.0 (history_out me.1), rest me.1)
 

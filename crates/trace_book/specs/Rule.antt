@@ -1,4 +1,4 @@
--- The rule of a shelf: one history, of which each view has seen a beginning, and one turn.
+-- The rule of a shared book: one history, of which each view has seen a beginning, and one turn.
 use Rattle.std.specs.Prelude.{◌≡◌, ℕ, ◌⊎◌, List, [], ◌∷◌, ◌++◌, length, slice_index, true, false, Option, Some, None}
 use mathlib.Core.Option as m
 use mathlib.Core.List.{IsPrefix}
@@ -68,7 +68,7 @@ module _ {O : Type 0} where
   NobodyHas s = (by : ℕ) (v : View) → get_elem? s.views by ≡ m.some v → next_of v.phase ≡ None
 
 module _ {O : Type 0} (piece : Pieces) (out : O → Outgo) where
-  -- the book has this history, and its outlet kept up with what that gained since the shelf was opened
+  -- the book has this history, and its outlet kept up with what that gained since the shared book was opened
   pub record Written (o : Base) (h : List Entry) (b : BoundTo O) : Type 0 where
     pub opening : b.opening ≡ o.opening
     pub history : b.history ≡ h
@@ -85,8 +85,8 @@ module _ {O : Type 0} (piece : Pieces) (out : O → Outgo) where
     pub written : Written o h book
     pub none : NobodyHas s
 
-  -- what holds of a shelf after every step: its views fit one history of the round, each number is spoken for, the turn
-  -- is 2 where a view knows of a stop, and either nobody has the turn or one view has it
+  -- what holds of a shared book after every step: its views fit one history of the round, each number is spoken for,
+  -- the turn is 2 where a view knows of a stop, and either nobody has the turn or one view has it
   pub record Shelved (o : Base) (s : State (Option (BoundTo O)) View) : Type 0 where
     pub history : List Entry
     pub who : ℕ → ℕ
@@ -96,6 +96,6 @@ module _ {O : Type 0} (piece : Pieces) (out : O → Outgo) where
     pub stops : (by : ℕ) (v : View) → get_elem? s.views by ≡ m.some v → v.stopped ≡ true → slice_index s.words 0 ≡ 2
     pub place : AtHome o history s ⊎ IsHeld history s
 
-  -- the same, of a shelf that was opened with this
+  -- the same, of a shared book that was opened with this
   abbrev pub Holds : Opened O → State (Option (BoundTo O)) View → Type 0
   Holds key s = Shelved (base_of out key) s

@@ -74,7 +74,7 @@ may_wake me t = allowed (replay me.0.base.opening (history_out me.1)) t Wake
 abbrev pub wakes_after : {O : Type 0} → Seated O → ℕ → Bool
 wakes_after me t = allowed (replay me.0.base.opening me.0.seen) t Wake
 
--- the seat without the turn, which has seen these entries, and knows or does not know that the shelf is stopped
+-- the seat without the turn, which has seen these entries, and knows or does not know that the shared book is stopped
 abbrev pub resting_as : {O : Type 0} → Bool → Seated O → List Entry → Seated O
 resting_as stopped me seen = (idle_as stopped me.0 seen, [])
 
@@ -82,7 +82,7 @@ resting_as stopped me seen = (idle_as stopped me.0 seen, [])
 abbrev pub resting : {O : Type 0} → Seated O → List Entry → Seated O
 resting me seen = resting_as false me seen
 
--- a seat that knows that the shelf is stopped
+-- a seat that knows that the shared book is stopped
 abbrev pub Stopped : {O : Type 0} → Seated O → Type 0
 Stopped me = me.0.stopped ≡ true
 

@@ -12,8 +12,8 @@ use Rattle.trace_book.specs.declared.view.View.{View}
 use Rattle.trace_book.specs.declared.place.Place.{Place}
 use Rattle.trace_book.specs.Views.{Opened, base_of, spent}
 
--- of which shelf a pass is, what that was opened with, its number, the numbers that it speaks for, what it has seen, and
--- whether it knows that the shelf is stopped
+-- of which shared book a pass is, what that was opened with, its number, the numbers that it speaks for, what it has
+-- seen, and whether it knows that the shared book is stopped
 pub record Told : Type 0 where
   pub table : TableId
   pub base : Base
@@ -35,7 +35,7 @@ view_in (v ∷ vs) = v
 abbrev pub mine_of : Told → List (Event × Reply)
 mine_of p = own p.number p.seen
 
--- a new pass speaks for its own number alone, and has seen what the shelf was opened with
+-- a new pass speaks for its own number alone, and has seen what the shared book was opened with
 abbrev pub new_pass : TableId → Base → ℕ → Told
 new_pass z o t = record { table = z; base = o; number = t; numbers = t ∷ []; seen = o.first; stopped = false }
 
@@ -44,15 +44,15 @@ abbrev pub new_passes : TableId → Base → ℕ → ℕ → List Told
 new_passes z o k zero = []
 new_passes z o k (suc n) = new_pass z o k ∷ new_passes z o (suc k) n
 
--- the passes that a shelf deals at its opening
+-- the passes that a shared book deals at its opening
 abbrev pub dealt : {O : Type 0} → (O → Outgo) → TableId → Opened O → List Told
 dealt out z key = new_passes z (base_of out key) key.1 key.2
 
--- a pass is still of the same shelf, opening and number
+-- a pass is still of the same shared book, opening and number
 abbrev pub SamePlace : Told → Told → Type 0
 SamePlace old new = (new.table ≡ old.table) × (new.base ≡ old.base) × (new.number ≡ old.number)
 
--- a pass as the desk of its number: what the desk tells of its book's outlet comes at the closing of the shelf
+-- a pass as the desk of its number: what the desk tells of its book's outlet comes at the closing of the shared book
 abbrev pub sight_of : Told → Sight Place
 sight_of p = record {
   opening = p.base.opening;

@@ -30,13 +30,14 @@ abbrev pub AllWithin : Base → List Entry → Type 0
 AllWithin o [] = Unit {0}
 AllWithin o (e ∷ es) = Within o e.thread × AllWithin o es
 
--- a history begins with the entries that the shelf was opened with, and each one after them is of a number of the round
+-- a history begins with the entries that the shared book was opened with, and each one after them is of a number of
+-- the round
 pub record Rounded (o : Base) (h : List Entry) : Type 0 where
   pub since : List Entry
   pub joined : o.first ++ since ≡ h
   pub each : AllWithin o since
 
--- what one pass knows, whether it is among that that the shelf is stopped, and how it stands to the turn
+-- what one pass knows, whether it knows that the shared book is stopped, and how it stands to the turn
 abbrev pub view_as : Bool → Base → List ℕ → List Entry → Phase → View
 view_as stopped o ns seen phase = record { base = o; numbers = ns; seen = seen; phase = phase; stopped = stopped }
 
@@ -44,7 +45,7 @@ view_as stopped o ns seen phase = record { base = o; numbers = ns; seen = seen; 
 abbrev pub view : Base → List ℕ → List Entry → Phase → View
 view o ns seen phase = view_as false o ns seen phase
 
--- what a shelf is opened with: a book, the number of the round's first script, and how many there are
+-- what a shared book is opened with: a book, the number of the round's first script, and how many there are
 abbrev pub Opened : Type 0 → Type 0
 Opened O = BoundTo O × ℕ × ℕ
 
@@ -56,7 +57,7 @@ start_of x = record { trace = x.trace; written = x.written; faults = x.faults; f
 abbrev pub outgo_of : Start → Outgo
 outgo_of x = record { trace = x.trace; written = x.written; faults = x.faults; flow = x.flow }
 
--- what no step of a shelf changes: its book as it was at the opening, and the round
+-- what no step of a shared book changes: its book as it was at the opening, and the round
 abbrev pub base_of : {O : Type 0} → (O → Outgo) → Opened O → Base
 base_of out key = record {
   opening = key.0.opening;
@@ -70,7 +71,7 @@ base_of out key = record {
 abbrev pub new_view : Base → View
 new_view o = view o (numbers_from o.from o.size) o.first (New o.first)
 
--- the same, of a shelf that is opened with this
+-- the same, of a shared book that is opened with this
 abbrev pub first_view : {O : Type 0} → (O → Outgo) → Opened O → View
 first_view out key = new_view (base_of out key)
 
@@ -94,7 +95,7 @@ is_spent Spent = true
 abbrev pub holding : View → List Entry → View
 holding v next = view v.base v.numbers v.seen (Holding next)
 
--- the view is without the turn, has seen this, and knows or does not know that the shelf is stopped
+-- the view is without the turn, has seen this, and knows or does not know that the shared book is stopped
 abbrev pub idle_as : Bool → View → List Entry → View
 idle_as stopped v seen = view_as stopped v.base v.numbers seen Idle
 

@@ -1,4 +1,4 @@
-//! Where those wait who found the turn taken, or their lock.
+//! The wake-ups: where those wait who found the turn taken, or their lock.
 use spec_core::Dotted;
 use std::array;
 use std::sync::atomic::{AtomicU64, Ordering};
@@ -26,7 +26,7 @@ pub(crate) enum Wanted {
     Lock,
 }
 
-/// How often the bell rang for each.
+/// How often they rang for each.
 #[derive(Clone, Copy)]
 struct Rings {
     turn: u64,
@@ -49,15 +49,15 @@ impl Rings {
     }
 }
 
-/// A bell. It rings for one who wants the turn at each giving back, and where a lock was given back for those at the
-/// place of its name, so that they sleep till then. It rings for nobody where nobody sleeps, which takes no Mutex and no
-/// call of the system.
+/// The wake-ups of a shared book: where those sleep who wait. They ring for one who wants the turn at each giving back,
+/// and where a lock was given back for those at the place of its name, so that they sleep till then. They ring for
+/// nobody where nobody sleeps, which takes no Mutex and no call of the system.
 ///
-/// Who wants a thing counts itself in, then reads how often the bell rang for it, then looks whether the thing is there,
-/// sleeps only where it is not and the bell has not rung since that reading, and counts itself out at last. Who makes
-/// the thing be there rings after that, and reads the count first. No ring is lost: where that count is 0, who is
-/// counted in later looks later too, and where it is not, who has read how often it rang before this ring does not
-/// sleep, or wakes. No clause uses it.
+/// Who wants a thing counts itself in, then reads how often they rang for that, then looks whether the thing is there,
+/// sleeps only where it is not and no ring has come since that reading, and counts itself out at last. Who makes the
+/// thing be there rings after that, and reads the count first. No ring is lost: where that count is 0, who is counted in
+/// later looks later too, and where it is not, who has read how often they rang before this ring does not sleep, or
+/// wakes. No clause uses it.
 #[derive(Drop)]
 pub struct Bell {
     for_turn: AtomicU64,
@@ -67,7 +67,7 @@ pub struct Bell {
 }
 
 impl Bell {
-    /// A bell that has not rung.
+    /// Wake-ups that have not rung.
     pub fn new() -> Bell {
         Bell {
             for_turn: AtomicU64::new(0),
@@ -95,17 +95,17 @@ impl Bell {
         self.sleepers(wanted).fetch_sub(1, Ordering::SeqCst);
     }
 
-    // How often it has rung.
+    // How often they have rung.
     pub(crate) fn rung<R: Wait>(&self, rt: &R, wanted: Wanted) -> u64 {
         self.rings.lock(rt).of(wanted)
     }
 
-    // Until it has rung for the turn since `rung` was read.
+    // Until they have rung for the turn since `rung` was read.
     pub(crate) fn sleep_for_turn<R: Wait>(&self, rt: &R, rung: u64) {
         self.sleep(rt, Wanted::Turn, TURN, rung);
     }
 
-    // Until it has rung for locks since `rung` was read, for who sleeps at a place of a name.
+    // Until they have rung for locks since `rung` was read, for who sleeps at a place of a name.
     pub(crate) fn sleep_for_lock<R: Wait>(&self, rt: &R, place: usize, rung: u64) {
         self.sleep(rt, Wanted::Lock, place, rung);
     }
@@ -123,7 +123,7 @@ impl Bell {
         self.rings.lock(rt).count(wanted);
     }
 
-    // Whether someone may sleep for it, so that it has to ring, which is counted then.
+    // Whether someone may sleep for it, so that they have to ring, which is counted then.
     fn has_to_ring<R: Wait>(&self, rt: &R, wanted: Wanted) -> bool {
         if self.sleepers(wanted).load(Ordering::SeqCst) == 0 {
             return false;
@@ -145,7 +145,7 @@ impl Bell {
         }
     }
 
-    // Rings for all, once the shelf was stopped: no turn comes any more, and all are woken to find that out.
+    // Rings for all, once the shared book was stopped: no turn comes any more, and all are woken to find that out.
     pub(crate) fn ring_for_all<R: Wait>(&self, rt: &R) {
         let _ = self.has_to_ring(rt, Wanted::Turn);
         let _ = self.has_to_ring(rt, Wanted::Lock);

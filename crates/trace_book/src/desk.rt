@@ -1,4 +1,4 @@
-//! A thread's desk at a shelf.
+//! A thread's desk at a shared book.
 ghost use Rattle.std.specs.Prelude.{◌≡◌, IfOk, IsErr, OnErr, true};
 ghost use Rattle.machine_desk.specs.Sight.{IsReady, Continues, Gains};
 ghost use Rattle.machine_shown.specs.Knowing.{Knows, Waits};
@@ -14,7 +14,7 @@ use machine_events::{Event, Reply};
 use std::marker::Model;
 use std::sync::Wait;
 
-/// A thread's desk at a shelf. Contracts see it as the pass that it was made of.
+/// A thread's desk at a shared book. Contracts see it as the pass that it was made of.
 #[derive(Drop)]
 pub struct SharedDesk<'a, R: Wait, O: Outlet> {
     rt: &'a R,
@@ -43,7 +43,7 @@ impl<'a, R: Wait, O: Outlet> Model for SharedDesk<'a, R, O> {
 }
 
 impl<'a, R: Wait, O: Outlet> SharedDesk<'a, R, O> {
-    /// The desk of a pass of the shelf.
+    /// The desk of a pass of the shared book.
     pub fn new(rt: &'a R, shelf: &'a Shelf<O>, pass: Pass, bell: &'a Bell) -> SharedDesk<'a, R, O>
         requires { pass.table ≡ shelf.now.table.shared.table_id }
         ensures { result ≡ pass }
@@ -75,7 +75,7 @@ impl<'a, R: Wait, O: Outlet> SharedDesk<'a, R, O> {
         }
     }
 
-    /// Stops the shelf. It takes no memory.
+    /// Stops the shared book. It takes no memory.
     pub fn stop(self) -> Pass
         ensures table { result.table ≡ self.entry.table }
         ensures continues { Continues (sight_of self.entry) (sight_of result) }

@@ -1,4 +1,4 @@
-//! A shelf that is stopped stays so.
+//! A shared book that is stopped stays so.
 ghost use Rattle.std.specs.Prelude.{◌≡◌, ℕ, Option, slice_index};
 ghost use Rattle.atomic_table.specs.Table.{State};
 ghost use Rattle.machine_book.specs.Bound.{BoundTo};

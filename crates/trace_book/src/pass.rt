@@ -5,7 +5,7 @@ use crate::view::View;
 use atomic_table::Badge;
 use std::marker::Model;
 
-/// A thread's part in a shelf. Contracts see it as what it tells of itself.
+/// A thread's part in a shared book. Contracts see it as what it tells of itself.
 #[derive(Drop)]
 pub struct Pass {
     pub(crate) badge: Badge<View>,

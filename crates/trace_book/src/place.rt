@@ -5,7 +5,7 @@ ghost use Rattle.atomic_table.specs.Seated.{TableId, table_id_coded};
 use crate::view::Base;
 use std::marker::Model;
 
-/// Of which shelf a desk is, what that was opened with, and the numbers that the desk's pass speaks
+/// Of which shared book a desk is, what that was opened with, and the numbers that the desk's pass speaks
 /// for. No value of it is made.
 pub struct Place {
     pub base: Base,

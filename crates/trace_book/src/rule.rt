@@ -1,4 +1,4 @@
-//! The rule of a shelf and the kinds of its steps. These types are for the proofs alone.
+//! The rule of a shared book and the kinds of its steps. These types are for the proofs alone.
 ghost use Rattle.trace_book.specs.Views.{first_view, kept_of, handed, joined, spent};
 ghost use Rattle.trace_book.specs.Rule.{Holds};
 ghost use Rattle.trace_book.specs.Plays.{Fills, Takes, Notes, GivesBack, Merges};
@@ -9,7 +9,7 @@ use base_owners::Boxed;
 use machine_book::Book;
 use machine_desk::Outlet;
 
-/// What a shelf is opened with: the book, the number of the round's first script, and how many
+/// What a shared book is opened with: the book, the number of the round's first script, and how many
 /// scripts the round has.
 pub(crate) type Opened<O> = (Boxed<Book<O>>, u32, u32);
 

@@ -71,7 +71,7 @@ impl<O: Outlet> Shelf<O> {
             .compare_exchange::<Take>(seat, TURN, FREE, HELD)
     }
 
-    // Gives the turn and the book back. Where the turn is left at 2, the seat knows that the shelf is stopped.
+    // Gives the turn and the book back. Where the turn is left at 2, the seat knows that the shared book is stopped.
     fn give_back(&self, seat: &mut Seat<O>, turn: u64)
         requires table { seat.old.table_id ≡ self.now.table.shared.table_id }
         requires has_book { HasBook O.piece O.out seat.old.me }
@@ -132,7 +132,7 @@ impl<O: Outlet> Shelf<O> {
         may
     }
 
-    // Makes the event, gives the turn back, and rings. At want of memory the shelf is stopped.
+    // Makes the event, gives the turn back, and rings. At want of memory the shared book is stopped.
     fn make<R: Wait>(
         &self,
         rt: &R,
@@ -183,7 +183,7 @@ impl<O: Outlet> Shelf<O> {
         HELD
     }
 
-    // The turn, or false where the shelf is stopped. It sleeps where the turn stays taken.
+    // The turn, or false where the shared book is stopped. It sleeps where the turn stays taken.
     fn take_turn<R: Wait>(&self, rt: &R, bell: &Bell, seat: &mut Seat<O>, number: u32) -> bool
         requires { (seat.old.table_id ≡ self.now.table.shared.table_id) × Ready seat.old.me number }
         ensures table { seat.new.table_id ≡ seat.old.table_id }
@@ -204,7 +204,7 @@ impl<O: Outlet> Shelf<O> {
         had
     }
 
-    // As `take_turn`, for one who is counted in at the bell. It reads how often that rang before it
+    // As `take_turn`, for one who is counted in at the wake-ups. It reads how often they rang before it
     // tries, so a giving back after the tries keeps it from sleeping or wakes it. Once woken it tries
     // often again, since another may have been quicker.
     fn sleep_for_turn<R: Wait>(&self, rt: &R, bell: &Bell, seat: &mut Seat<O>, number: u32) -> bool
@@ -228,7 +228,7 @@ impl<O: Outlet> Shelf<O> {
         unreachable!()
     }
 
-    /// Makes an event that the thread's own pairs show to be allowed. A stopped shelf answers NoMemory.
+    /// Makes an event that the thread's own pairs show to be allowed. A stopped shared book answers NoMemory.
     pub(crate) fn call<R: Wait>(
         &self,
         rt: &R,
@@ -260,7 +260,7 @@ impl<O: Outlet> Shelf<O> {
         }
     }
 
-    /// Makes the Wake once it is allowed. A stopped shelf answers NoMemory.
+    /// Makes the Wake once it is allowed. A stopped shared book answers NoMemory.
     pub(crate) fn wait<R: Wait>(
         &self,
         rt: &R,
@@ -325,7 +325,7 @@ impl<O: Outlet> Shelf<O> {
         }
     }
 
-    /// Stops the shelf. It takes no memory.
+    /// Stops the shared book. It takes no memory.
     pub(crate) fn stop<R: Wait>(&self, rt: &R, bell: &Bell, seat: &mut Seat<O>, number: u32)
         requires table { seat.old.table_id ≡ self.now.table.shared.table_id }
         requires ready { Ready seat.old.me number }
@@ -425,7 +425,7 @@ impl<O: Outlet> Shelf<O> {
         );
     }
 
-    /// A shelf for the round of n scripts from this number on, and a pass for each number.
+    /// A shared book for the round of n scripts from this number on, and a pass for each number.
     pub fn open(
         alloc: Global,
         book: Book<O>,
@@ -470,7 +470,7 @@ impl<O: Outlet> Shelf<O> {
     }
 }
 
-/// Takes in another pass of the shelf, with its numbers. It takes no memory.
+/// Takes in another pass of the shared book, with its numbers. It takes no memory.
 pub fn gather<O: Outlet>(shelf: &Shelf<O>, into: &mut Pass, other: Pass)
     requires { (into.old.table ≡ shelf.now.table.shared.table_id) × (other.table ≡ shelf.now.table.shared.table_id) }
     ensures same { SamePlace into.old into.new }

@@ -4,7 +4,7 @@ use machine_events::Entry;
 use machine_spec::State;
 use std::collections::LinkedList;
 
-/// What an outlet was when a shelf was opened: its flag, what it had written, where it tells that,
+/// What an outlet was when a shared book was opened: its flag, what it had written, where it tells that,
 /// its count of faults and its state.
 pub struct Start {
     pub trace: bool,
@@ -13,8 +13,8 @@ pub struct Start {
     pub flow: Flow,
 }
 
-/// What no step of a shelf changes: what its book was when the shelf was opened, and the round that
-/// it is open for, as the number of the first script and how many there are.
+/// What no step of a shared book changes: what the book was when it was opened, and the round that it is open for, as
+/// the number of the first script and how many there are.
 pub struct Base {
     pub opening: State,
     pub first: LinkedList<Entry>,
@@ -42,6 +42,6 @@ pub struct View {
     pub numbers: LinkedList<u32>,
     pub seen: LinkedList<Entry>,
     pub phase: Phase,
-    /// It knows that the shelf is stopped.
+    /// It knows that the shared book is stopped.
     pub stopped: bool,
 }
