@@ -16,7 +16,7 @@ use Rattle.drive_account.specs.View.{View}
 use Rattle.drive_account.specs.At.{At}
 use Rattle.drive_account.specs.Searching.{Taken, CountsSought, SearchParted, SearchRefused}
 use Rattle.drive_account.specs.Asking.{RefusedAt}
-use Rattle.drive_account.specs.declared.purse.Purse.{Purse}
+use Rattle.drive_account.specs.declared.payments.Budget.{Budget}
 use Rattle.drive_account.specs.declared.search.Sought.{Sought}
 use Rattle.drive_account.specs.declared.search.Step.{Step}
 
@@ -25,21 +25,21 @@ pub suits_fresh : (stage : Stage) (o : Option Files) → stage ≡ stages.Fresh 
 suits_fresh stage o is = λ f e. rw is tt
 
 -- a step over a tree whose files are as they were, at a port whose number is as it was
-pub took : (files files' : Option Files) (faults faults' number number' : ℕ) (mine mine' : List (Event × Reply)) (purse purse' : Purse) (before : Search) (go : LookIn → Search) (it : Step) → files' ≡ files → number ≡ number'
-    → Taken files' faults faults' number mine mine' purse purse' before go it → Taken files faults faults' number' mine mine' purse purse' before go it
-took files files' faults faults' number number' mine mine' purse purse' before go it same is taken =
-    subst (λ (o : Option Files). Taken o faults faults' number' mine mine' purse purse' before go it) same (subst (λ (t : ℕ). Taken files' faults faults' t mine mine' purse purse' before go it) is taken)
+pub took : (files files' : Option Files) (faults faults' number number' : ℕ) (mine mine' : List (Event × Reply)) (budget budget' : Budget) (before : Search) (go : LookIn → Search) (it : Step) → files' ≡ files → number ≡ number'
+    → Taken files' faults faults' number mine mine' budget budget' before go it → Taken files faults faults' number' mine mine' budget budget' before go it
+took files files' faults faults' number number' mine mine' budget budget' before go it same is taken =
+    subst (λ (o : Option Files). Taken o faults faults' number' mine mine' budget budget' before go it) same (subst (λ (t : ℕ). Taken files' faults faults' t mine mine' budget budget' before go it) is taken)
 
 -- the last step of a search in which no call of the tree had failed
 pub over_counts : (old mid new : ℕ) (it : Sought) → mid ≡ old → CountsSought mid new it → CountsSought old new it
 over_counts old mid new it same counts = subst (λ (n : ℕ). CountsSought n new it) same counts
 
-pub steps_parted : (files files' : Option Files) (mine mine' : List (Event × Reply)) (purse : Purse) (before : Search) → files' ≡ files → SearchParted files' mine mine' purse before
-    → (k : Option Found → Run) (whole : Run) (fuel : ℕ) → At files whole fuel mine purse (searches_in before k) → StandsIn files whole fuel mine'
-steps_parted files files' mine mine' purse before same parted k whole fuel a =
-    subst (λ (o : Option Files). StandsIn o whole fuel mine') same (parted k whole fuel (subst (λ (o : Option Files). At o whole fuel mine purse (searches_in before k)) (sym same) a))
+pub steps_parted : (files files' : Option Files) (mine mine' : List (Event × Reply)) (budget : Budget) (before : Search) → files' ≡ files → SearchParted files' mine mine' budget before
+    → (k : Option Found → Run) (whole : Run) (fuel : ℕ) → At files whole fuel mine budget (searches_in before k) → StandsIn files whole fuel mine'
+steps_parted files files' mine mine' budget before same parted k whole fuel a =
+    subst (λ (o : Option Files). StandsIn o whole fuel mine') same (parted k whole fuel (subst (λ (o : Option Files). At o whole fuel mine budget (searches_in before k)) (sym same) a))
 
-pub steps_refused : {S : Type 0} (v : View S) (files files' : Option Files) (mine : List (Event × Reply)) (purse : Purse) (before : Search) → files' ≡ files → SearchRefused v files' mine purse before
-    → (k : Option Found → Run) (whole : Run) (fuel : ℕ) → At files whole fuel mine purse (searches_in before k) → RefusedAt v files whole fuel
-steps_refused v files files' mine purse before same refused k whole fuel a =
-    subst (λ (o : Option Files). RefusedAt v o whole fuel) same (refused k whole fuel (subst (λ (o : Option Files). At o whole fuel mine purse (searches_in before k)) (sym same) a))
+pub steps_refused : {S : Type 0} (v : View S) (files files' : Option Files) (mine : List (Event × Reply)) (budget : Budget) (before : Search) → files' ≡ files → SearchRefused v files' mine budget before
+    → (k : Option Found → Run) (whole : Run) (fuel : ℕ) → At files whole fuel mine budget (searches_in before k) → RefusedAt v files whole fuel
+steps_refused v files files' mine budget before same refused k whole fuel a =
+    subst (λ (o : Option Files). RefusedAt v o whole fuel) same (refused k whole fuel (subst (λ (o : Option Files). At o whole fuel mine budget (searches_in before k)) (sym same) a))

@@ -9,7 +9,7 @@ use Rattle.meaning_runs.specs.Runs.{Run, Pays, Stands}
 use Rattle.meaning_runs.proofs.Stand.{stands_paid}
 use Rattle.meaning_runs.specs.Costs.{reply_units, after_reply}
 use Rattle.drive_account.specs.At.{At, MayBeUnread, told_of}
-use Rattle.drive_account.specs.declared.purse.Purse.{Purse}
+use Rattle.drive_account.specs.declared.payments.Budget.{Budget}
 
 -- each reply but a wait is paid for
 pub paid_reply : (reply : Reply) (next : Run) → ((l : List ℕ) → reply ≡ r.Wait l → ⊥) → after_reply reply next ≡ Pays false (reply_units reply) next
@@ -50,10 +50,10 @@ pub wait_free : (reply : Reply) (l : List ℕ) (next : Run) → reply ≡ r.Wait
 wait_free reply l next is = rw is refl
 
 -- what is to be paid where a reply came that is no wait
-pub owed : {files : Option Files} {whole : Run} {fuel : ℕ} {mine : List (Event × Reply)} (purse : Purse) (reply : Reply) (units : ℕ) (next : Run) → ((l : List ℕ) → reply ≡ r.Wait l → ⊥) → units ≡ reply_units reply
-    → At files whole fuel mine purse (after_reply reply next) → At files whole fuel mine purse (Pays false units next)
-owed {files = files} {whole} {fuel} {mine} purse reply units next other is at =
-    subst (λ (run : Run). At files whole fuel mine purse run) (paid_reply reply next other ∙ ap (λ (n : ℕ). Pays false n next) (sym is)) at
+pub owed : {files : Option Files} {whole : Run} {fuel : ℕ} {mine : List (Event × Reply)} (budget : Budget) (reply : Reply) (units : ℕ) (next : Run) → ((l : List ℕ) → reply ≡ r.Wait l → ⊥) → units ≡ reply_units reply
+    → At files whole fuel mine budget (after_reply reply next) → At files whole fuel mine budget (Pays false units next)
+owed {files = files} {whole} {fuel} {mine} budget reply units next other is at =
+    subst (λ (run : Run). At files whole fuel mine budget run) (paid_reply reply next other ∙ ap (λ (n : ℕ). Pays false n next) (sym is)) at
 
 -- what would be told of a read that fails right behind a payment is where the script stands before it
 pub told_unread : {files : Option Files} {whole : Run} {fuel : ℕ} {mine : List (Event × Reply)} (budget units : ℕ) (of_tree : Bool) (next : Run) → units ≤ budget
@@ -66,10 +66,10 @@ told_unread {files} {whole} {fuel} {mine} budget units true next enough s = at (
 told_unread budget units false next enough s = tt
 
 -- a payment that is made: the script stands behind it
-pub at_paid : {files : Option Files} {whole : Run} {fuel : ℕ} {mine : List (Event × Reply)} (old new : Purse) (units : ℕ) (of_tree : Bool) (next : Run) → units ≤ old.budget
-    → new.budget ≡ old.budget - units → new.read ≡ told_of old.budget of_tree units
+pub at_paid : {files : Option Files} {whole : Run} {fuel : ℕ} {mine : List (Event × Reply)} (old new : Budget) (units : ℕ) (of_tree : Bool) (next : Run) → units ≤ old.left
+    → new.left ≡ old.left - units → new.read ≡ told_of old.left of_tree units
     → At files whole fuel mine old (Pays of_tree units next) → At files whole fuel mine new next
 at_paid {files = files} {whole} {fuel} {mine} old new units of_tree next enough left told a = record {
   stands = subst (λ (b : ℕ). Stands files whole fuel mine b next) (sym left) (stands_paid enough a.stands);
-  unread = subst (λ (r : Option ℕ). MayBeUnread files whole fuel mine r) (sym told) (told_unread old.budget units of_tree next enough a.stands);
+  unread = subst (λ (r : Option ℕ). MayBeUnread files whole fuel mine r) (sym told) (told_unread old.left units of_tree next enough a.stands);
 }

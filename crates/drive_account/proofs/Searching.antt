@@ -21,7 +21,7 @@ use Rattle.drive_account.proofs.Giving.{lists_more}
 use Rattle.drive_account.specs.At.{At}
 use Rattle.drive_account.specs.Searching.{MayGive, Given, CountsStep, keeping}
 use Rattle.drive_account.specs.Asking.{AllKept}
-use Rattle.drive_account.specs.declared.purse.Purse.{Purse}
+use Rattle.drive_account.specs.declared.payments.Budget.{Budget}
 use Rattle.drive_account.specs.declared.search.Step.{Step}
 
 -- what was paid for a reply changes nothing of what is shown
@@ -35,10 +35,10 @@ pub safe_made : (t : ℕ) (mine mine' : List (Event × Reply)) (event : Event) (
 safe_made t mine mine' event reply next is h = rw is (subst (λ (s : Shown). Safe s (next reply)) (sym (shown-snoc t mine (event, reply))) (h.1 reply))
 
 -- what is read in the tree leads on
-pub at_reads : {files : Option Files} {whole : Run} {fuel : ℕ} {mine : List (Event × Reply)} {purse : Purse} (before after : Search) (k : Option Found → Run) → Reads files before after
-    → At files whole fuel mine purse (searches_in before k) → At files whole fuel mine purse (searches_in after k)
-at_reads {files = files} {whole} {fuel} {mine} {purse} before after k reads a = record {
-  stands = reads_stands files before after whole fuel purse.budget mine k reads a.stands;
+pub at_reads : {files : Option Files} {whole : Run} {fuel : ℕ} {mine : List (Event × Reply)} {budget : Budget} (before after : Search) (k : Option Found → Run) → Reads files before after
+    → At files whole fuel mine budget (searches_in before k) → At files whole fuel mine budget (searches_in after k)
+at_reads {files = files} {whole} {fuel} {mine} {budget} before after k reads a = record {
+  stands = reads_stands files before after whole fuel budget.left mine k reads a.stands;
   unread = a.unread;
 }
 
@@ -54,9 +54,9 @@ may_give s (wanted.DirGet dir part) go k h = h.0
 may_give s (wanted.DirSet dir listing) go k h = h.0.0
 may_give s (wanted.Done found) go k h = tt
 
-pub given_at : (number : ℕ) (mine mine' : List (Event × Reply)) (purse purse' : Purse) (want want' : LookWant) (it : Step) → want ≡ want' → Given number mine mine' purse purse' want' it
-    → Given number mine mine' purse purse' want it
-given_at number mine mine' purse purse' want want' it is h = rw is h
+pub given_at : (number : ℕ) (mine mine' : List (Event × Reply)) (budget budget' : Budget) (want want' : LookWant) (it : Step) → want ≡ want' → Given number mine mine' budget budget' want' it
+    → Given number mine mine' budget budget' want it
+given_at number mine mine' budget budget' want want' it is h = rw is h
 
 pub may_at : (s : Shown) (want want' : LookWant) → want ≡ want' → MayGive s want → MayGive s want'
 may_at s want want' is h = subst (MayGive s) is h
@@ -68,8 +68,8 @@ lists_made mine mine' event reply is =
     omega (arith, one)
 
 -- what is to be paid for names
-pub owed_names : {files : Option Files} {whole : Run} {fuel : ℕ} {mine : List (Event × Reply)} {purse : Purse} (units units' : ℕ) (next : Run) → units ≡ units'
-    → At files whole fuel mine purse (Pays false units' next) → At files whole fuel mine purse (Pays false units next)
+pub owed_names : {files : Option Files} {whole : Run} {fuel : ℕ} {mine : List (Event × Reply)} {budget : Budget} (units units' : ℕ) (next : Run) → units ≡ units'
+    → At files whole fuel mine budget (Pays false units' next) → At files whole fuel mine budget (Pays false units next)
 owed_names units units' next is a = rw is a
 
 -- a step over a count that is as it was

@@ -19,22 +19,22 @@ use Rattle.drive_account.specs.declared.held.Held.{Held}
 use Rattle.drive_account.specs.Ending.{Holds}
 use Rattle.drive_account.specs.At.{At, IsShort}
 use Rattle.drive_account.specs.Asking.{Parted, Refused}
-use Rattle.drive_account.specs.declared.purse.Purse.{Purse}
+use Rattle.drive_account.specs.declared.payments.Budget.{Budget}
 use Rattle.drive_account.specs.declared.search.Sought.{Sought}
 use Rattle.drive_account.specs.declared.search.Sought.TheVariants as sought
 use Rattle.drive_account.specs.declared.search.Step.{Step}
 use Rattle.drive_account.specs.declared.search.Step.TheVariants as step
 
 -- where a search leads, behind which the script goes on by its answer
-abbrev pub AfterSought : Option Files → Run → ℕ → List (Event × Reply) → Purse → (Option Found → Run) → Sought → Type 0
-AfterSought files whole fuel mine purse k (sought.Found answer) = At files whole fuel mine purse (k answer)
-AfterSought files whole fuel mine purse k sought.Out = IsShort files whole fuel mine purse.budget purse.of_tree
-AfterSought files whole fuel mine purse k (sought.Unread left) = IsUnread files whole fuel mine left
+abbrev pub AfterSought : Option Files → Run → ℕ → List (Event × Reply) → Budget → (Option Found → Run) → Sought → Type 0
+AfterSought files whole fuel mine budget k (sought.Found answer) = At files whole fuel mine budget (k answer)
+AfterSought files whole fuel mine budget k sought.Out = IsShort files whole fuel mine budget.left budget.of_tree
+AfterSought files whole fuel mine budget k (sought.Unread left) = IsUnread files whole fuel mine left
 
 -- where a step of it leads, behind which the search goes on by what it is given
-abbrev pub AfterStep : Option Files → Run → ℕ → List (Event × Reply) → Purse → (LookIn → Search) → (Option Found → Run) → Step → Type 0
-AfterStep files whole fuel mine purse go k (step.On input) = At files whole fuel mine purse (searches_in (go input) k)
-AfterStep files whole fuel mine purse go k (step.Over it) = AfterSought files whole fuel mine purse k it
+abbrev pub AfterStep : Option Files → Run → ℕ → List (Event × Reply) → Budget → (LookIn → Search) → (Option Found → Run) → Step → Type 0
+AfterStep files whole fuel mine budget go k (step.On input) = At files whole fuel mine budget (searches_in (go input) k)
+AfterStep files whole fuel mine budget go k (step.Over it) = AfterSought files whole fuel mine budget k it
 
 -- a call of the tree fails only where its count of faults rose; where none failed, that is as it was
 abbrev pub CountsSought : ℕ → ℕ → Sought → Type 0
@@ -75,9 +75,9 @@ keeping (wanted.DirSet dir listing) = 1
 keeping (wanted.Done found) = 0
 
 -- a search was given what it wants: whatever script stood there stands where the step leads
-pub record Given (number : ℕ) (mine mine' : List (Event × Reply)) (purse purse' : Purse) (want : LookWant) (it : Step) : Type 0 where
-  pub moves : (files : Option Files) (go : LookIn → Search) (k : Option Found → Run) (whole : Run) (fuel : ℕ) → At files whole fuel mine purse (searches_in (wants want go) k)
-      → AfterStep files whole fuel mine' purse' go k it
+pub record Given (number : ℕ) (mine mine' : List (Event × Reply)) (budget budget' : Budget) (want : LookWant) (it : Step) : Type 0 where
+  pub moves : (files : Option Files) (go : LookIn → Search) (k : Option Found → Run) (whole : Run) (fuel : ℕ) → At files whole fuel mine budget (searches_in (wants want go) k)
+      → AfterStep files whole fuel mine' budget' go k it
   pub safe : (go : LookIn → Search) (k : Option Found → Run) → Safe (shown number mine) (searches_in (wants want go) k) → SafeStep (shown number mine') go k it
   pub fits : Fits (want_kind want) it
   pub counts : (faults : ℕ) → CountsStep faults faults it
@@ -88,28 +88,28 @@ abbrev pub Keeps : {S : Type 0} → View S → View S → Type 0
 Keeps old new = (held : Held) → Holds old held → Holds new held
 
 -- where a step that was to give this is broken off, or its event is refused
-abbrev pub GiveParted : List (Event × Reply) → List (Event × Reply) → Purse → LookWant → Type 0
-GiveParted mine mine' purse want = (files : Option Files) (go : LookIn → Search) (k : Option Found → Run) → Parted files mine mine' purse (searches_in (wants want go) k)
+abbrev pub GiveParted : List (Event × Reply) → List (Event × Reply) → Budget → LookWant → Type 0
+GiveParted mine mine' budget want = (files : Option Files) (go : LookIn → Search) (k : Option Found → Run) → Parted files mine mine' budget (searches_in (wants want go) k)
 
 -- whatever script was to be given this stands at an event that the port refused
-abbrev pub GiveRefused : {S : Type 0} → View S → List (Event × Reply) → Purse → LookWant → Type 0
-GiveRefused v mine purse want = (files : Option Files) (go : LookIn → Search) (k : Option Found → Run) → Refused v files mine purse (searches_in (wants want go) k)
+abbrev pub GiveRefused : {S : Type 0} → View S → List (Event × Reply) → Budget → LookWant → Type 0
+GiveRefused v mine budget want = (files : Option Files) (go : LookIn → Search) (k : Option Found → Run) → Refused v files mine budget (searches_in (wants want go) k)
 
 -- a step from a search on
-pub record Taken (files : Option Files) (faults faults' number : ℕ) (mine mine' : List (Event × Reply)) (purse purse' : Purse) (before : Search) (go : LookIn → Search) (it : Step) : Type 0 where
-  pub moves : (k : Option Found → Run) (whole : Run) (fuel : ℕ) → At files whole fuel mine purse (searches_in before k) → AfterStep files whole fuel mine' purse' go k it
+pub record Taken (files : Option Files) (faults faults' number : ℕ) (mine mine' : List (Event × Reply)) (budget budget' : Budget) (before : Search) (go : LookIn → Search) (it : Step) : Type 0 where
+  pub moves : (k : Option Found → Run) (whole : Run) (fuel : ℕ) → At files whole fuel mine budget (searches_in before k) → AfterStep files whole fuel mine' budget' go k it
   pub safe : (k : Option Found → Run) → Safe (shown number mine) (searches_in before k) → SafeStep (shown number mine') go k it
   pub counts : CountsStep faults faults' it
 
 -- a whole search
-pub record Searched (files : Option Files) (faults faults' : ℕ) (mine mine' : List (Event × Reply)) (purse purse' : Purse) (before : Search) (it : Sought) : Type 0 where
-  pub moves : (k : Option Found → Run) (whole : Run) (fuel : ℕ) → At files whole fuel mine purse (searches_in before k) → AfterSought files whole fuel mine' purse' k it
+pub record Searched (files : Option Files) (faults faults' : ℕ) (mine mine' : List (Event × Reply)) (budget budget' : Budget) (before : Search) (it : Sought) : Type 0 where
+  pub moves : (k : Option Found → Run) (whole : Run) (fuel : ℕ) → At files whole fuel mine budget (searches_in before k) → AfterSought files whole fuel mine' budget' k it
   pub counts : CountsSought faults faults' it
 
 -- where a search is broken off, or an event of it is refused
-abbrev pub SearchParted : Option Files → List (Event × Reply) → List (Event × Reply) → Purse → Search → Type 0
-SearchParted files mine mine' purse before = (k : Option Found → Run) → Parted files mine mine' purse (searches_in before k)
+abbrev pub SearchParted : Option Files → List (Event × Reply) → List (Event × Reply) → Budget → Search → Type 0
+SearchParted files mine mine' budget before = (k : Option Found → Run) → Parted files mine mine' budget (searches_in before k)
 
 -- whatever script was to search so stands at an event that the port refused
-abbrev pub SearchRefused : {S : Type 0} → View S → Option Files → List (Event × Reply) → Purse → Search → Type 0
-SearchRefused v files mine purse before = (k : Option Found → Run) → Refused v files mine purse (searches_in before k)
+abbrev pub SearchRefused : {S : Type 0} → View S → Option Files → List (Event × Reply) → Budget → Search → Type 0
+SearchRefused v files mine budget before = (k : Option Found → Run) → Refused v files mine budget (searches_in before k)

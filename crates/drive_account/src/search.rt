@@ -21,7 +21,7 @@ ghost use Rattle.drive_account.specs.At.{At};
 ghost use Rattle.drive_account.specs.Searching.{AfterStep, CountsStep, Fits, SafeStep, IsSafe, MayGive, Given, Keeps, GiveParted, GiveRefused, Taken, Searched, SearchParted, SearchRefused};
 ghost use Rattle.drive_account.specs.Asking.{Asked, AllKept};
 
-use crate::{Halt, Port, Purse, pay_reply, texts_size};
+use crate::{Budget, Halt, Port, pay_reply, texts_size};
 use base_types::{Listing, NoMemory, Text, TreePath};
 use machine_events::{Event, Reply};
 use path_finder::{Found, Look, LookIn, LookWant, Probe};
@@ -49,11 +49,11 @@ pub enum Step {
 }
 
 /// A unit is paid for a call of the tree, or for an entry that is passed over.
-fn pay_unit(purse: &mut Purse, of_tree: bool) -> Step
-    ensures { (number : ℕ) (mine : List (Event × Reply)) → Given number mine mine purse.old purse.new
+fn pay_unit(budget: &mut Budget, of_tree: bool) -> Step
+    ensures { (number : ℕ) (mine : List (Event × Reply)) → Given number mine mine budget.old budget.new
         (wanted.Pay of_tree) result }
 {
-    if purse.pay(of_tree, 1) {
+    if budget.pay(of_tree, 1) {
         Step::On(LookIn::Paid)
     } else {
         Step::Over(Sought::Out)
@@ -75,17 +75,17 @@ fn probe_of(reply: &Reply) -> Option<Probe>
 }
 
 /// The reply about a listing is paid for.
-fn listed(purse: &mut Purse, reply: Reply) -> Step
+fn listed(budget: &mut Budget, reply: Reply) -> Step
     ensures moves { (files : Option Files) (go : LookIn → Search) (k : Option Found → Run) (whole : Run) (fuel : ℕ)
-        (mine : List (Event × Reply)) → At files whole fuel mine purse.old
+        (mine : List (Event × Reply)) → At files whole fuel mine budget.old
         (after_reply reply (searches_in (go (given.Listed (probe_of reply))) k))
-        → AfterStep files whole fuel mine purse.new go k result }
+        → AfterStep files whole fuel mine budget.new go k result }
     ensures fits { Fits ForListing result }
     ensures counts { (faults : ℕ) → CountsStep faults faults result }
     ensures safe { (s : Shown) (go : LookIn → Search) (k : Option Found → Run)
         → Safe s (after_reply reply (searches_in (go (given.Listed (probe_of reply))) k)) → SafeStep s go k result }
 {
-    if !pay_reply(purse, &reply) {
+    if !pay_reply(budget, &reply) {
         drop(reply);
         return Step::Over(Sought::Out);
     }
@@ -95,41 +95,41 @@ fn listed(purse: &mut Purse, reply: Reply) -> Step
 }
 
 /// The kept listing of a directory is asked for, for a unit.
-fn ask<P: Port>(port: &mut P, purse: &mut Purse, dir: TreePath, part: Text) -> Result<Step, Halt>
+fn ask<P: Port>(port: &mut P, budget: &mut Budget, dir: TreePath, part: Text) -> Result<Step, Halt>
     requires ready { (P.view port.old).ready }
     requires runs { (shown (P.view port.old).number (P.view port.old).mine).doing ≡ Running }
     ensures stays { Stays (P.view port.old) (P.view port.new) }
     ensures given { IfOk result (Given (P.view port.old).number (P.view port.old).mine
-        (P.view port.new).mine purse.old purse.new (wanted.DirGet dir part)) }
+        (P.view port.new).mine budget.old budget.new (wanted.DirGet dir part)) }
     ensures holds { OnOk result (Keeps (P.view port.old) (P.view port.new)) }
-    ensures part { OnErr result (GiveParted (P.view port.old).mine (P.view port.new).mine purse.old
+    ensures part { OnErr result (GiveParted (P.view port.old).mine (P.view port.new).mine budget.old
         (wanted.DirGet dir part)) }
-    ensures refused { IsErrOf result Halt.Refused → GiveRefused (P.view port.new) (P.view port.old).mine purse.old
+    ensures refused { IsErrOf result Halt.Refused → GiveRefused (P.view port.new) (P.view port.old).mine budget.old
         (wanted.DirGet dir part) }
 {
-    if !purse.pay(false, 1) {
+    if !budget.pay(false, 1) {
         drop(dir);
         drop(part);
         return Ok(Step::Over(Sought::Out));
     }
-    purse.read = None;
+    budget.read = None;
     match port.call(Event::DirGet { dir, part }) {
-        Ok(reply) => Ok(listed(purse, reply)),
+        Ok(reply) => Ok(listed(budget, reply)),
         Err(halt) => Err(halt),
     }
 }
 
 /// The names of a listing are paid for, once it is kept.
-fn kept(purse: &mut Purse, units: u64) -> Step
+fn kept(budget: &mut Budget, units: u64) -> Step
     ensures moves { (files : Option Files) (go : LookIn → Search) (k : Option Found → Run) (whole : Run) (fuel : ℕ)
-        (mine : List (Event × Reply)) → At files whole fuel mine purse.old
-        (Pays false units (searches_in (go given.Kept) k)) → AfterStep files whole fuel mine purse.new go k result }
+        (mine : List (Event × Reply)) → At files whole fuel mine budget.old
+        (Pays false units (searches_in (go given.Kept) k)) → AfterStep files whole fuel mine budget.new go k result }
     ensures fits { Fits ForKeeping result }
     ensures counts { (faults : ℕ) → CountsStep faults faults result }
     ensures safe { (s : Shown) (go : LookIn → Search) (k : Option Found → Run)
         → Safe s (Pays false units (searches_in (go given.Kept) k)) → SafeStep s go k result }
 {
-    if purse.pay(false, units) {
+    if budget.pay(false, units) {
         Step::On(LookIn::Kept)
     } else {
         Step::Over(Sought::Out)
@@ -139,7 +139,7 @@ fn kept(purse: &mut Purse, units: u64) -> Step
 /// A listing is kept. The event is free, and the names are paid for after it.
 fn keep<P: Port>(
     port: &mut P,
-    purse: &mut Purse,
+    budget: &mut Budget,
     dir: TreePath,
     listing: Listing,
 ) -> Result<Step, Halt>
@@ -147,53 +147,53 @@ fn keep<P: Port>(
     requires runs { (shown (P.view port.old).number (P.view port.old).mine).doing ≡ Running }
     ensures stays { Stays (P.view port.old) (P.view port.new) }
     ensures given { IfOk result (Given (P.view port.old).number (P.view port.old).mine
-        (P.view port.new).mine purse.old purse.new (wanted.DirSet dir listing)) }
+        (P.view port.new).mine budget.old budget.new (wanted.DirSet dir listing)) }
     ensures holds { OnOk result (Keeps (P.view port.old) (P.view port.new)) }
-    ensures part { OnErr result (GiveParted (P.view port.old).mine (P.view port.new).mine purse.old
+    ensures part { OnErr result (GiveParted (P.view port.old).mine (P.view port.new).mine budget.old
         (wanted.DirSet dir listing)) }
-    ensures refused { IsErrOf result Halt.Refused → GiveRefused (P.view port.new) (P.view port.old).mine purse.old
+    ensures refused { IsErrOf result Halt.Refused → GiveRefused (P.view port.new) (P.view port.old).mine budget.old
         (wanted.DirSet dir listing) }
 {
     let units = texts_size(&listing.names);
-    purse.read = None;
+    budget.read = None;
     match port.call(Event::DirSet { dir, listing }) {
         Ok(reply) => {
             drop(reply);
-            Ok(kept(purse, units))
+            Ok(kept(budget, units))
         }
         Err(halt) => Err(halt),
     }
 }
 
 /// Gives a search what it wants.
-fn give_want<P: Port>(port: &mut P, purse: &mut Purse, want: LookWant) -> Result<Step, Halt>
+fn give_want<P: Port>(port: &mut P, budget: &mut Budget, want: LookWant) -> Result<Step, Halt>
     requires ready { (P.view port.old).ready }
     requires may { MayGive (shown (P.view port.old).number (P.view port.old).mine) want }
     ensures stays { Stays (P.view port.old) (P.view port.new) }
     ensures given { IfOk result (Given (P.view port.old).number (P.view port.old).mine
-        (P.view port.new).mine purse.old purse.new want) }
+        (P.view port.new).mine budget.old budget.new want) }
     ensures holds { OnOk result (Keeps (P.view port.old) (P.view port.new)) }
-    ensures part { OnErr result (GiveParted (P.view port.old).mine (P.view port.new).mine purse.old want) }
+    ensures part { OnErr result (GiveParted (P.view port.old).mine (P.view port.new).mine budget.old want) }
     ensures refused { IsErrOf result Halt.Refused → GiveRefused (P.view port.new)
-        (P.view port.old).mine purse.old want }
+        (P.view port.old).mine budget.old want }
 {
     match want {
-        LookWant::Pay { tree } => Ok(pay_unit(purse, tree)),
-        LookWant::DirGet { dir, part } => ask(port, purse, dir, part),
-        LookWant::DirSet { dir, listing } => keep(port, purse, dir, listing),
+        LookWant::Pay { tree } => Ok(pay_unit(budget, tree)),
+        LookWant::DirGet { dir, part } => ask(port, budget, dir, part),
+        LookWant::DirSet { dir, listing } => keep(port, budget, dir, listing),
         LookWant::Done(found) => Ok(Step::Over(Sought::Found(found))),
     }
 }
 
 /// A call of the tree failed: the script stands where it paid for it.
-fn unread(purse: &Purse) -> Result<Step, Halt>
+fn unread(budget: &Budget) -> Result<Step, Halt>
     ensures taken { IfOk result (λ it. (files : Option Files) (faults faults' number : ℕ)
         (mine : List (Event × Reply)) (before : Search) (go : LookIn → Search) → Rose faults faults'
-        → Taken files faults faults' number mine mine purse.now purse.now before go it) }
+        → Taken files faults faults' number mine mine budget.now budget.now before go it) }
     ensures fits { IfOk result (λ it. (kind : Await) → Fits kind it) }
     ensures refused { IsErrOf result Halt.Refused → ⊥ }
 {
-    match purse.read {
+    match budget.read {
         Some(left) => Ok(Step::Over(Sought::Unread(left))),
         None => Err(Halt::NoMemory),
     }
@@ -203,7 +203,7 @@ fn unread(purse: &Purse) -> Result<Step, Halt>
 fn take_step<P: Port, T: Tree>(
     port: &mut P,
     tree: &mut T,
-    purse: &mut Purse,
+    budget: &mut Budget,
     look: &mut Look,
     input: LookIn,
 ) -> Result<Step, Halt>
@@ -213,7 +213,7 @@ fn take_step<P: Port, T: Tree>(
     requires suits { ForSome (T.files tree.old) (λ f. Suits look.old.stage f) }
     ensures stays { Stays (P.view port.old) (P.view port.new) }
     ensures taken { IfOk result (Taken (T.files tree.old) (T.faults tree.old) (T.faults tree.new)
-        (P.view port.old).number (P.view port.old).mine (P.view port.new).mine purse.old purse.new
+        (P.view port.old).number (P.view port.old).mine (P.view port.new).mine budget.old budget.new
         (means look.old input) (means look.new)) }
     ensures fits { IfOk result (Fits (awaits look.new.stage)) }
     ensures suits { OnOk result (ForSome (T.files tree.old) (λ f. Suits look.new.stage f)) }
@@ -221,14 +221,14 @@ fn take_step<P: Port, T: Tree>(
         (P.view port.new).mine) }
     ensures holds { OnOk result (Keeps (P.view port.old) (P.view port.new)) }
     ensures part { OnErr result (SearchParted (T.files tree.old) (P.view port.old).mine
-        (P.view port.new).mine purse.old (means look.old input)) }
+        (P.view port.new).mine budget.old (means look.old input)) }
     ensures refused { IsErrOf result Halt.Refused → SearchRefused (P.view port.new) (T.files tree.old)
-        (P.view port.old).mine purse.old (means look.old input) }
+        (P.view port.old).mine budget.old (means look.old input) }
     ensures asked { Asked (T.files tree.old) (T.files tree.new) (T.faults tree.old) (T.faults tree.new) }
 {
     match look.next(tree, input) {
-        Ok(want) => give_want(port, purse, want),
-        Err(TreeFault::Failed) => unread(purse),
+        Ok(want) => give_want(port, budget, want),
+        Err(TreeFault::Failed) => unread(budget),
         Err(TreeFault::NoMemory) => Err(Halt::NoMemory),
     }
 }
@@ -237,7 +237,7 @@ fn take_step<P: Port, T: Tree>(
 fn search<P: Port, T: Tree>(
     port: &mut P,
     tree: &mut T,
-    purse: &mut Purse,
+    budget: &mut Budget,
     look: &mut Look,
 ) -> Result<Sought, Halt>
     requires ready { (P.view port.old).ready }
@@ -245,14 +245,14 @@ fn search<P: Port, T: Tree>(
     requires fresh { look.old.stage ≡ stages.Fresh }
     ensures stays { Stays (P.view port.old) (P.view port.new) }
     ensures searched { IfOk result (Searched (T.files tree.old) (T.faults tree.old) (T.faults tree.new)
-        (P.view port.old).mine (P.view port.new).mine purse.old purse.new (means look.old given.Start)) }
+        (P.view port.old).mine (P.view port.new).mine budget.old budget.new (means look.old given.Start)) }
     ensures kept { OnOk result (AllKept (T.lists tree.old) (T.lists tree.new) (P.view port.old).mine
         (P.view port.new).mine) }
     ensures holds { OnOk result (Keeps (P.view port.old) (P.view port.new)) }
     ensures part { OnErr result (SearchParted (T.files tree.old) (P.view port.old).mine
-        (P.view port.new).mine purse.old (means look.old given.Start)) }
+        (P.view port.new).mine budget.old (means look.old given.Start)) }
     ensures refused { IsErrOf result Halt.Refused → SearchRefused (P.view port.new) (T.files tree.old)
-        (P.view port.old).mine purse.old (means look.old given.Start) }
+        (P.view port.old).mine budget.old (means look.old given.Start) }
     ensures asked { Asked (T.files tree.old) (T.files tree.new) (T.faults tree.old) (T.faults tree.new) }
 {
     let mut input = LookIn::Start;
@@ -262,7 +262,7 @@ fn search<P: Port, T: Tree>(
             return Err(Halt::NoMemory);
         }
         steps += 1;
-        let step = match take_step(port, tree, purse, look, input) {
+        let step = match take_step(port, tree, budget, look, input) {
             Ok(step) => step,
             Err(halt) => return Err(halt),
         };
@@ -277,7 +277,7 @@ fn search<P: Port, T: Tree>(
 pub fn seek<P: Port, T: Tree>(
     port: &mut P,
     tree: &mut T,
-    purse: &mut Purse,
+    budget: &mut Budget,
     name: Dotted,
     path: Items,
 ) -> Result<Sought, Halt>
@@ -285,20 +285,20 @@ pub fn seek<P: Port, T: Tree>(
     requires safe { IsSafe (shown (P.view port.old).number (P.view port.old).mine) (searches name path []) }
     ensures stays { Stays (P.view port.old) (P.view port.new) }
     ensures searched { IfOk result (Searched (T.files tree.old) (T.faults tree.old) (T.faults tree.new)
-        (P.view port.old).mine (P.view port.new).mine purse.old purse.new (searches name path [])) }
+        (P.view port.old).mine (P.view port.new).mine budget.old budget.new (searches name path [])) }
     ensures kept { OnOk result (AllKept (T.lists tree.old) (T.lists tree.new) (P.view port.old).mine
         (P.view port.new).mine) }
     ensures holds { OnOk result (Keeps (P.view port.old) (P.view port.new)) }
     ensures part { OnErr result (SearchParted (T.files tree.old) (P.view port.old).mine
-        (P.view port.new).mine purse.old (searches name path [])) }
+        (P.view port.new).mine budget.old (searches name path [])) }
     ensures refused { IsErrOf result Halt.Refused → SearchRefused (P.view port.new) (T.files tree.old)
-        (P.view port.old).mine purse.old (searches name path []) }
+        (P.view port.old).mine budget.old (searches name path []) }
     ensures asked { Asked (T.files tree.old) (T.files tree.new) (T.faults tree.old) (T.faults tree.new) }
 {
     let Ok(mut look) = Look::start(name, path) else {
         return Err(Halt::NoMemory);
     };
-    let sought = search(port, tree, purse, &mut look);
+    let sought = search(port, tree, budget, &mut look);
     drop(look);
     sought
 }

@@ -45,7 +45,7 @@ use Rattle.py_syntax.specs.declared.stmt.Stmt.TheFolds.{fold-roll-Stmt}
 use Rattle.step_expressions.specs.Forms.{eval_at}
 use Rattle.step_expressions.proofs.Layers.{eval_is}
 use Rattle.drive_account.specs.At.{At, MayBeUnread}
-use Rattle.drive_account.specs.declared.purse.Purse.{Purse}
+use Rattle.drive_account.specs.declared.payments.Budget.{Budget}
 use Rattle.step_straight.specs.Costs.{Costs, in_all, paying}
 use Rattle.step_straight.proofs.Paying.{costs_as}
 use Rattle.step_straight.specs.Comes.{Comes, given_does}
@@ -63,34 +63,34 @@ stands_behind {files} {whole} {fuel} {mine} {next} (n ∷ ns) b enough s =
     (stands_behind ns (b - n) (omega (arith, enough)) (stands_paid {n = n} (omega (arith, enough)) s))
 
 -- units that are there are paid in one sum
-pub affords : (old new : Purse) (units : ℕ) → units ≤ old.budget → new.budget ≡ old.budget - units → new.read ≡ None → Affords old new units
+pub affords : (old new : Budget) (units : ℕ) → units ≤ old.left → new.left ≡ old.left - units → new.read ≡ None → Affords old new units
 affords old new units enough left told files whole fuel mine run next costs a = record {
   stands =
-      subst (λ (b : ℕ). Stands files whole fuel mine b next) (ap (λ (n : ℕ). old.budget - n) costs.all ∙ sym left)
-      (stands_behind costs.payments old.budget (omega (arith, costs.all, enough)) (subst (λ (r : Run). Stands files whole fuel mine old.budget r) costs.same a.stands));
+      subst (λ (b : ℕ). Stands files whole fuel mine b next) (ap (λ (n : ℕ). old.left - n) costs.all ∙ sym left)
+      (stands_behind costs.payments old.left (omega (arith, costs.all, enough)) (subst (λ (r : Run). Stands files whole fuel mine old.left r) costs.same a.stands));
   unread = subst (λ (o : Option ℕ). MayBeUnread files whole fuel mine o) (sym told) tt;
 }
 
 -- what was paid for stands behind, in other words
-pub moves_paid : (c c' : Course) (item : Item) (w : Want) (purse : Purse) (units : ℕ) (thread : Thread) (work : List Frame) → Affords c.purse purse units
-    → Costs units (remains c (want.Then item)) (remains (record { purse = purse; held = c.held; thread = thread; work = work }) w)
-    → c' ≡ record { purse = purse; held = c.held; thread = thread; work = work } → Moves c.purse (remains c (want.Then item)) c' w
-moves_paid c c' item w purse units thread work affords costs is =
-    subst (λ (after : Course). Moves c.purse (remains c (want.Then item)) after w) (sym is) (λ files whole fuel mine a. affords files whole fuel mine _ _ costs a)
+pub moves_paid : (c c' : Course) (item : Item) (w : Want) (budget : Budget) (units : ℕ) (thread : Thread) (work : List Frame) → Affords c.budget budget units
+    → Costs units (remains c (want.Then item)) (remains (record { budget = budget; held = c.held; thread = thread; work = work }) w)
+    → c' ≡ record { budget = budget; held = c.held; thread = thread; work = work } → Moves c.budget (remains c (want.Then item)) c' w
+moves_paid c c' item w budget units thread work affords costs is =
+    subst (λ (after : Course). Moves c.budget (remains c (want.Then item)) after w) (sym is) (λ files whole fuel mine a. affords files whole fuel mine _ _ costs a)
 
 -- one move behind the other
-pub moves_on : (purse : Purse) (run : Run) (c c' : Course) (w : Want) (next : Run) → Moves purse run c w
-    → ((files : Option Files) (whole : Run) (fuel : ℕ) (mine : List (Event × Reply)) → At files whole fuel mine c.purse (remains c w) → At files whole fuel mine c'.purse next)
-    → (files : Option Files) (whole : Run) (fuel : ℕ) (mine : List (Event × Reply)) → At files whole fuel mine purse run → At files whole fuel mine c'.purse next
-moves_on purse run c c' w next first second files whole fuel mine a = second files whole fuel mine (first files whole fuel mine a)
+pub moves_on : (budget : Budget) (run : Run) (c c' : Course) (w : Want) (next : Run) → Moves budget run c w
+    → ((files : Option Files) (whole : Run) (fuel : ℕ) (mine : List (Event × Reply)) → At files whole fuel mine c.budget (remains c w) → At files whole fuel mine c'.budget next)
+    → (files : Option Files) (whole : Run) (fuel : ℕ) (mine : List (Event × Reply)) → At files whole fuel mine budget run → At files whole fuel mine c'.budget next
+moves_on budget run c c' w next first second files whole fuel mine a = second files whole fuel mine (first files whole fuel mine a)
 
 -- a statement was not done, or was
 pub did_not : (c c' : Course) (stmts : List Stmt) (at : ℕ) (b : Bool) → b ≡ false → Did c stmts at c' b
-    → Moves c.purse (remains c (want.Then (it.Block stmts at))) c' (want.Then (it.Block stmts at))
+    → Moves c.budget (remains c (want.Then (it.Block stmts at))) c' (want.Then (it.Block stmts at))
 did_not c c' stmts at b is did = subst (λ (b : Bool). Did c stmts at c' b) is did
 
 pub did_one : (c c' : Course) (stmts : List Stmt) (at : ℕ) (b : Bool) → b ≡ true → Did c stmts at c' b
-    → Moves c.purse (remains c (want.Then (it.Block stmts at))) c' (want.Then (it.Block stmts (at + 1)))
+    → Moves c.budget (remains c (want.Then (it.Block stmts at))) c' (want.Then (it.Block stmts (at + 1)))
 did_one c c' stmts at b is did = subst (λ (b : Bool). Did c stmts at c' b) is did
 
 -- an expression that came to a value, behind one unit more
@@ -104,10 +104,10 @@ valued c e g n sum v is more comes w next =
     }
 
 -- the size of a value is paid
-pub paid_size : (c : Course) (flow : Flow) (v : Value) (units : ℕ) (purse : Purse) → flow ≡ Went v → units ≡ units_of v → Affords c.purse purse units
-    → (files : Option Files) (whole : Run) (fuel : ℕ) (mine : List (Event × Reply)) → At files whole fuel mine c.purse (goes_on frame.Sized flow c)
-    → At files whole fuel mine purse (rest sources c.work c.thread.left (Went v) c.thread.state)
-paid_size c flow v units purse is size affords files whole fuel mine a =
+pub paid_size : (c : Course) (flow : Flow) (v : Value) (units : ℕ) (budget : Budget) → flow ≡ Went v → units ≡ units_of v → Affords c.budget budget units
+    → (files : Option Files) (whole : Run) (fuel : ℕ) (mine : List (Event × Reply)) → At files whole fuel mine c.budget (goes_on frame.Sized flow c)
+    → At files whole fuel mine budget (rest sources c.work c.thread.left (Went v) c.thread.state)
+paid_size c flow v units budget is size affords files whole fuel mine a =
     affords files whole fuel mine _ _ (record { payments = units_of v ∷ []; all = omega (arith, size); same = ap (λ (f : Flow). goes_on frame.Sized f c) is }) a
 
 -- lists of none and of one
@@ -132,18 +132,18 @@ runs_assign a stmt target e is =
 stored_local : (s : State) (x : List ℕ) (v : Value) (k : Onward) → is_local_name s x ≡ true → stores x v s k ≡ k done (with_local s x v)
 stored_local s x v k local = rw local refl
 
-pub assigned : (c c' : Course) (stmts : List Stmt) (at : ℕ) (x : List ℕ) (e : Expr) (v : Value) (units : ℕ) (purse : Purse) → Assigns stmts at x e → is_local_name c.thread.state x ≡ true
-    → IsValueOf e c v units → Affords c.purse purse units
-    → c' ≡ record { purse = purse; held = c.held; thread = record { left = c.thread.left; state = with_local c.thread.state x v }; work = c.work }
-    → Moves c.purse (remains c (want.Then (it.Block stmts at))) c' (want.Then (it.Block stmts (at + 1)))
-assigned c c' stmts at x e v units purse form local value affords is =
+pub assigned : (c c' : Course) (stmts : List Stmt) (at : ℕ) (x : List ℕ) (e : Expr) (v : Value) (units : ℕ) (budget : Budget) → Assigns stmts at x e → is_local_name c.thread.state x ≡ true
+    → IsValueOf e c v units → Affords c.budget budget units
+    → c' ≡ record { budget = budget; held = c.held; thread = record { left = c.thread.left; state = with_local c.thread.state x v }; work = c.work }
+    → Moves c.budget (remains c (want.Then (it.Block stmts at))) c' (want.Then (it.Block stmts (at + 1)))
+assigned c c' stmts at x e v units budget form local value affords is =
     let s = c.thread.state in
     let d = c.thread.left in
     let a = around_at sources d in
     let k = rest sources c.work d in
     let behind : Onward = on_value k (λ _ s. in_order (map (run a) (drop (at + 1) stmts)) s k) in
     let go : Expr-F Expr → Rest = λ t _. on_value behind (λ v s. gathers (map (eval a) (target_operands_at t)) (v ∷ []) (λ vs. assigns_at a.access t vs) s behind) in
-    moves_paid c c' (it.Block stmts at) (want.Then (it.Block stmts (at + 1))) purse units
+    moves_paid c c' (it.Block stmts at) (want.Then (it.Block stmts (at + 1))) budget units
     (record { left = d; state = with_local s x v }) c.work affords
     (costs_as
     (sym (order_goes (run a) stmts at form.stmt s k form.there)
@@ -179,17 +179,17 @@ runs_rolled a (Stmt-F.Try body hs otherwise last) e h = absurd (cc h)
 runs_rolled a (Stmt-F.Def f) e h = absurd (cc h)
 
 -- the unit of a statement is paid, and its first operand comes
-pub operands_begin : (c c' : Course) (stmts : List Stmt) (at : ℕ) (stmt : Stmt) (e operand : Expr) (none : List Value) (purse : Purse) → operand ≡ e → none ≡ [] → slice_get stmts at ≡ Some stmt → first_operand (out-Stmt stmt) ≡ Some e
-    → Affords c.purse purse 1 → c' ≡ record { purse = purse; held = c.held; thread = c.thread; work = frame.Block stmts (at + 1) ∷ c.work }
-    → Moves c.purse (remains c (want.Then (it.Block stmts at))) c' (want.Both (it.Eval operand) (frame.Operands (Statement stmts at) none))
-operands_begin c c' stmts at stmt e operand none purse same empty there first affords is =
+pub operands_begin : (c c' : Course) (stmts : List Stmt) (at : ℕ) (stmt : Stmt) (e operand : Expr) (none : List Value) (budget : Budget) → operand ≡ e → none ≡ [] → slice_get stmts at ≡ Some stmt → first_operand (out-Stmt stmt) ≡ Some e
+    → Affords c.budget budget 1 → c' ≡ record { budget = budget; held = c.held; thread = c.thread; work = frame.Block stmts (at + 1) ∷ c.work }
+    → Moves c.budget (remains c (want.Then (it.Block stmts at))) c' (want.Both (it.Eval operand) (frame.Operands (Statement stmts at) none))
+operands_begin c c' stmts at stmt e operand none budget same empty there first affords is =
     let s = c.thread.state in
     let d = c.thread.left in
     let a = around_at sources d in
     let k = rest sources c.work d in
     let behind : Onward = on_value k (λ _ s. in_order (map (run a) (drop (at + 1) stmts)) s k) in
     let go : Option Stmt → Run = λ o. eval a e s (on_value behind (λ v s. gathers (map (eval a) (drop 1 (operands_of_stmt o))) (v ∷ []) (performs a o) s behind)) in
-    rw (same, empty) (moves_paid c c' (it.Block stmts at) (want.Both (it.Eval e) (frame.Operands (Statement stmts at) [])) purse 1 c.thread (frame.Block stmts (at + 1) ∷ c.work) affords
+    rw (same, empty) (moves_paid c c' (it.Block stmts at) (want.Both (it.Eval e) (frame.Operands (Statement stmts at) [])) budget 1 c.thread (frame.Block stmts (at + 1) ∷ c.work) affords
     (costs_as
     (sym (order_goes (run a) stmts at stmt s k there)
     ∙ ap (λ (p : Piece). p s behind) (ap (run a) (sym (roll-out-Stmt stmt)) ∙ runs_rolled a (out-Stmt stmt) e first))
@@ -210,15 +210,15 @@ reads_module s a x k other = rw other refl
 pub named : (e : Expr) (x y : List ℕ) → e ≡ tree.Name x → y ≡ x → out-Expr e ≡ Expr-F.Name y
 named e x y is same = ap out-Expr (is ∙ sym (rolls-Name x)) ∙ out-roll-Expr (Expr-F.Name x) ∙ ap (λ (x : List ℕ). Expr-F.Name x) (sym same)
 
-pub global_asked : (c c' : Course) (e : Expr) (x : List ℕ) (purse : Purse) → out-Expr e ≡ Expr-F.Name x → is_local_name c.thread.state x ≡ false → Affords c.purse purse 1
-    → c' ≡ record { purse = purse; held = c.held; thread = c.thread; work = frame.Sized ∷ c.work }
-    → Moves c.purse (remains c (want.Then (it.Eval e))) c' (want.Then (it.ReadGlobal x))
-global_asked c c' e x purse is other affords same =
+pub global_asked : (c c' : Course) (e : Expr) (x : List ℕ) (budget : Budget) → out-Expr e ≡ Expr-F.Name x → is_local_name c.thread.state x ≡ false → Affords c.budget budget 1
+    → c' ≡ record { budget = budget; held = c.held; thread = c.thread; work = frame.Sized ∷ c.work }
+    → Moves c.budget (remains c (want.Then (it.Eval e))) c' (want.Then (it.ReadGlobal x))
+global_asked c c' e x budget is other affords same =
     let s = c.thread.state in
     let d = c.thread.left in
     let a = around_at sources d in
     let k = rest sources c.work d in
-    moves_paid c c' (it.Eval e) (want.Then (it.ReadGlobal x)) purse 1 c.thread (frame.Sized ∷ c.work) affords
+    moves_paid c c' (it.Eval e) (want.Then (it.ReadGlobal x)) budget 1 c.thread (frame.Sized ∷ c.work) affords
     (costs_as
     (ap (λ (p : Piece). p s k) (eval_is a e) ∙ ap (λ (t : Expr-F Expr). eval_at a t s k) is ∙ ap (λ (r : Run). pay 1 r) (reads_module s a x (sized k) other))
     refl
@@ -227,11 +227,11 @@ global_asked c c' e x purse is other affords same =
 -- ---- turns
 
 -- the unit of a turn is paid, and its test comes
-pub test_comes : (c c' : Course) (test test' : Expr) (body : List Stmt) (n m : ℕ) (purse : Purse) → m ≡ suc n → test' ≡ test → Affords c.purse purse 1
-    → c' ≡ record { purse = purse; held = c.held; thread = c.thread; work = c.work }
-    → Moves c.purse (remains c (want.Then (it.Turn test body m))) c' (want.Both (it.Eval test') (frame.Decide test body n))
-test_comes c c' test test' body n m purse more same affords is =
-    rw (more, same) (moves_paid c c' (it.Turn test body (suc n)) (want.Both (it.Eval test) (frame.Decide test body n)) purse 1 c.thread c.work affords
+pub test_comes : (c c' : Course) (test test' : Expr) (body : List Stmt) (n m : ℕ) (budget : Budget) → m ≡ suc n → test' ≡ test → Affords c.budget budget 1
+    → c' ≡ record { budget = budget; held = c.held; thread = c.thread; work = c.work }
+    → Moves c.budget (remains c (want.Then (it.Turn test body m))) c' (want.Both (it.Eval test') (frame.Decide test body n))
+test_comes c c' test test' body n m budget more same affords is =
+    rw (more, same) (moves_paid c c' (it.Turn test body (suc n)) (want.Both (it.Eval test) (frame.Decide test body n)) budget 1 c.thread c.work affords
     (record { payments = 1 ∷ []; all = refl; same = refl }) is)
 
 pub decided : (v : Value) (good bad : Piece) → is_listed v ≡ false → decides v good bad ≡ (if is_true v then good else bad)
@@ -250,21 +250,21 @@ turned c test body n v units value plain =
     costs_as refl (ap (λ (p : Piece). p s k) (decided v good passes plain)) (value sources (λ _. on_value k (λ v s. decides v good passes s k)))
 
 -- the test does not hold: the loop is over
-pub loop_over : (c c' : Course) (test : Expr) (body : List Stmt) (n m : ℕ) (v : Value) (units : ℕ) (purse : Purse) → m ≡ suc n → IsValueOf test c v units → is_listed v ≡ false → is_true v ≡ false
-    → Affords c.purse purse units → c' ≡ record { purse = purse; held = c.held; thread = c.thread; work = c.work }
-    → Moves c.purse (remains c (want.Then (it.Turn test body m))) c' (want.Go (Went values.Nothing))
-loop_over c c' test body n m v units purse more value plain fails affords is =
+pub loop_over : (c c' : Course) (test : Expr) (body : List Stmt) (n m : ℕ) (v : Value) (units : ℕ) (budget : Budget) → m ≡ suc n → IsValueOf test c v units → is_listed v ≡ false → is_true v ≡ false
+    → Affords c.budget budget units → c' ≡ record { budget = budget; held = c.held; thread = c.thread; work = c.work }
+    → Moves c.budget (remains c (want.Then (it.Turn test body m))) c' (want.Go (Went values.Nothing))
+loop_over c c' test body n m v units budget more value plain fails affords is =
     let good : Piece = λ (s : State) (k : Onward). run_all (around_at sources c.thread.left) body s (looped k (turns n (eval (around_at sources c.thread.left) test) (run_all (around_at sources c.thread.left) body))) in
-    rw more (moves_paid c c' (it.Turn test body (suc n)) (want.Go (Went values.Nothing)) purse units c.thread c.work affords
+    rw more (moves_paid c c' (it.Turn test body (suc n)) (want.Go (Went values.Nothing)) budget units c.thread c.work affords
     (costs_as refl (ap (λ (b : Bool). (if b then good else passes) c.thread.state (rest sources c.work c.thread.left)) fails)
     (turned c test body n v units value plain)) is)
 
 -- it holds: the block comes
-pub loop_turns : (c c' : Course) (test : Expr) (body : List Stmt) (n m : ℕ) (v : Value) (units : ℕ) (purse : Purse) → m ≡ suc n → IsValueOf test c v units → is_listed v ≡ false → is_true v ≡ true
-    → Affords c.purse purse units → c' ≡ record { purse = purse; held = c.held; thread = c.thread; work = frame.Loop test body n ∷ c.work }
-    → Moves c.purse (remains c (want.Then (it.Turn test body m))) c' (want.Then (it.Block body 0))
-loop_turns c c' test body n m v units purse more value plain holds affords is =
+pub loop_turns : (c c' : Course) (test : Expr) (body : List Stmt) (n m : ℕ) (v : Value) (units : ℕ) (budget : Budget) → m ≡ suc n → IsValueOf test c v units → is_listed v ≡ false → is_true v ≡ true
+    → Affords c.budget budget units → c' ≡ record { budget = budget; held = c.held; thread = c.thread; work = frame.Loop test body n ∷ c.work }
+    → Moves c.budget (remains c (want.Then (it.Turn test body m))) c' (want.Then (it.Block body 0))
+loop_turns c c' test body n m v units budget more value plain holds affords is =
     let good : Piece = λ (s : State) (k : Onward). run_all (around_at sources c.thread.left) body s (looped k (turns n (eval (around_at sources c.thread.left) test) (run_all (around_at sources c.thread.left) body))) in
-    rw more (moves_paid c c' (it.Turn test body (suc n)) (want.Then (it.Block body 0)) purse units c.thread (frame.Loop test body n ∷ c.work) affords
+    rw more (moves_paid c c' (it.Turn test body (suc n)) (want.Then (it.Block body 0)) budget units c.thread (frame.Loop test body n ∷ c.work) affords
     (costs_as refl (ap (λ (b : Bool). (if b then good else passes) c.thread.state (rest sources c.work c.thread.left)) holds)
     (turned c test body n v units value plain)) is)

@@ -41,7 +41,7 @@ use Rattle.py_syntax.specs.declared.stmt.Stmt.{Stmt, out-Stmt, roll-Stmt, roll-o
 use Rattle.py_syntax.specs.declared.stmt.Stmt.TheOpen.{Stmt-F}
 use Rattle.py_syntax.specs.declared.stmt.Stmt.TheFolds.{fold-roll-Stmt}
 use Rattle.drive_account.specs.At.{At}
-use Rattle.drive_account.specs.declared.purse.Purse.{Purse}
+use Rattle.drive_account.specs.declared.payments.Budget.{Budget}
 use Rattle.step_straight.proofs.Paying.{costs_as}
 use Rattle.step_straight.specs.Comes.{Comes, Gives, Resumes}
 use Rattle.step_straight.specs.declared.given.Given.{Given}
@@ -53,36 +53,36 @@ use Rattle.drive_straight.specs.declared.next.Next.{Next}
 use Rattle.drive_straight.proofs.AtOnce.{decided, moves_paid, operands_begin, runs_rolled, test_comes}
 
 -- whatever script stood at the first run stands at the other
-abbrev pub Reaches : Purse → Run → Purse → Run → Type 0
+abbrev pub Reaches : Budget → Run → Budget → Run → Type 0
 Reaches p run q next = (files : Option Files) (whole : Run) (fuel : ℕ) (mine : List (Event × Reply)) → At files whole fuel mine p run → At files whole fuel mine q next
 
 -- what follows a way that was gone
-pub leads_behind : (old mid new : Course) (was between : Due) (r : Result Next NoMemory) → Reaches old.purse (was old) mid.purse (between mid) → Leads mid between new r → Leads old was new r
+pub leads_behind : (old mid new : Course) (was between : Due) (r : Result Next NoMemory) → Reaches old.budget (was old) mid.budget (between mid) → Leads mid between new r → Leads old was new r
 leads_behind old mid new was between r first =
     IfOk-weaker r _ _ (λ next second files whole fuel mine a. second files whole fuel mine (first files whole fuel mine a))
 
 -- the same run in other words
-pub same_run : (p : Purse) (run next : Run) → run ≡ next → Reaches p run p next
+pub same_run : (p : Budget) (run next : Run) → run ≡ next → Reaches p run p next
 same_run p run next is files whole fuel mine a = subst (λ (r : Run). At files whole fuel mine p r) is a
 
 -- one way behind the other
-pub reaches_on : (p q r : Purse) (run mid next : Run) → Reaches p run q mid → Reaches q mid r next → Reaches p run r next
+pub reaches_on : (p q r : Budget) (run mid next : Run) → Reaches p run q mid → Reaches q mid r next → Reaches p run r next
 reaches_on p q r run mid next first second files whole fuel mine a = second files whole fuel mine (first files whole fuel mine a)
 
 -- ---- operands
 
 -- the operand behind those that have values has its value, which is paid
-pub operand_paid : (c c' : Course) (e operand : Expr) (vs vs' : List Value) (v : Value) (units : ℕ) (purse : Purse) → slice_get (operands_at (out-Expr e)) (length vs) ≡ Some operand → Gives operand c.thread.state v units
-    → Affords c.purse purse units → vs' ≡ vs ++ v ∷ [] → c' ≡ record { purse = purse; held = c.held; thread = c.thread; work = c.work }
-    → Moves c.purse (remains c (want.Then (it.Operands (Expression e) vs))) c' (want.Then (it.Operands (Expression e) vs'))
-operand_paid c c' e operand vs vs' v units purse there value affords more is =
+pub operand_paid : (c c' : Course) (e operand : Expr) (vs vs' : List Value) (v : Value) (units : ℕ) (budget : Budget) → slice_get (operands_at (out-Expr e)) (length vs) ≡ Some operand → Gives operand c.thread.state v units
+    → Affords c.budget budget units → vs' ≡ vs ++ v ∷ [] → c' ≡ record { budget = budget; held = c.held; thread = c.thread; work = c.work }
+    → Moves c.budget (remains c (want.Then (it.Operands (Expression e) vs))) c' (want.Then (it.Operands (Expression e) vs'))
+operand_paid c c' e operand vs vs' v units budget there value affords more is =
     let s = c.thread.state in
     let d = c.thread.left in
     let a = around_at sources d in
     let k = rest sources c.work d in
     let es = operands_at (out-Expr e) in
     let go = completes a (Expression e) in
-    rw more (moves_paid c c' (it.Operands (Expression e) vs) (want.Then (it.Operands (Expression e) (vs ++ v ∷ []))) purse units c.thread c.work affords
+    rw more (moves_paid c c' (it.Operands (Expression e) vs) (want.Then (it.Operands (Expression e) (vs ++ v ∷ []))) budget units c.thread c.work affords
     (costs_as
     (ap (λ (es : List Expr). gathers (map (eval a) es) vs go s k) (drop_some es (length vs) operand there))
     (ap (λ (es : List Expr). gathers (map (eval a) es) (vs ++ v ∷ []) go s k) (sym (drop_more es vs v)))
@@ -90,18 +90,18 @@ operand_paid c c' e operand vs vs' v units purse there value affords more is =
 
 -- it is waited for
 pub operand_waits : (c c' : Course) (e operand : Expr) (vs : List Value) → slice_get (operands_at (out-Expr e)) (length vs) ≡ Some operand
-    → c' ≡ record { purse = c.purse; held = c.held; thread = c.thread; work = frame.Operands (Expression e) vs ∷ c.work }
+    → c' ≡ record { budget = c.budget; held = c.held; thread = c.thread; work = frame.Operands (Expression e) vs ∷ c.work }
     → remains c (want.Then (it.Operands (Expression e) vs)) ≡ remains c' (want.Then (it.Eval operand))
 operand_waits c c' e operand vs there is =
     let a = around_at sources c.thread.left in
     rw is (ap (λ (es : List Expr). gathers (map (eval a) es) vs (completes a (Expression e)) c.thread.state (rest sources c.work c.thread.left)) (drop_some (operands_at (out-Expr e)) (length vs) operand there))
 
 -- all have values, and the unit of the expression is paid
-pub applied : (c c' : Course) (e : Expr) (vs : List Value) (purse : Purse) → slice_get (operands_at (out-Expr e)) (length vs) ≡ None → Affords c.purse purse 1
-    → c' ≡ record { purse = purse; held = c.held; thread = c.thread; work = c.work } → Moves c.purse (remains c (want.Then (it.Operands (Expression e) vs))) c' (want.Then (it.Apply e vs))
-applied c c' e vs purse none affords is =
+pub applied : (c c' : Course) (e : Expr) (vs : List Value) (budget : Budget) → slice_get (operands_at (out-Expr e)) (length vs) ≡ None → Affords c.budget budget 1
+    → c' ≡ record { budget = budget; held = c.held; thread = c.thread; work = c.work } → Moves c.budget (remains c (want.Then (it.Operands (Expression e) vs))) c' (want.Then (it.Apply e vs))
+applied c c' e vs budget none affords is =
     let a = around_at sources c.thread.left in
-    moves_paid c c' (it.Operands (Expression e) vs) (want.Then (it.Apply e vs)) purse 1 c.thread c.work affords
+    moves_paid c c' (it.Operands (Expression e) vs) (want.Then (it.Apply e vs)) budget 1 c.thread c.work affords
     (costs_as (ap (λ (es : List Expr). gathers (map (eval a) es) vs (completes a (Expression e)) c.thread.state (rest sources c.work c.thread.left)) (drop_none (operands_at (out-Expr e)) (length vs) none)) refl
     (record { payments = 1 ∷ []; all = refl; same = refl })) is
 
@@ -158,30 +158,30 @@ operated c e none h empty =
 
 -- ---- what came to its price
 
-pub expression_came : (c c' : Course) (e : Expr) (p : Priced) (purse : Purse) → Affords c.purse purse p.units → Comes e c.thread p → c' ≡ record { purse = purse; held = c.held; thread = c.thread; work = c.work }
-    → Reaches c.purse (remains c (want.Then (it.Eval e))) c'.purse (comes e p.given c')
-expression_came c c' e p purse affords priced is files whole fuel mine a =
+pub expression_came : (c c' : Course) (e : Expr) (p : Priced) (budget : Budget) → Affords c.budget budget p.units → Comes e c.thread p → c' ≡ record { budget = budget; held = c.held; thread = c.thread; work = c.work }
+    → Reaches c.budget (remains c (want.Then (it.Eval e))) c'.budget (comes e p.given c')
+expression_came c c' e p budget affords priced is files whole fuel mine a =
     rw is (affords files whole fuel mine _ _ (priced sources (rest sources c.work)) a)
 
-pub operator_came : (c c' : Course) (e : Expr) (vs : List Value) (v : Value) (p : Priced) (purse : Purse) → Affords c.purse purse p.units → Resumes e vs v c.thread p
-    → c' ≡ record { purse = purse; held = c.held; thread = c.thread; work = c.work } → Reaches c.purse (goes_on (frame.Operands (Expression e) vs) (Went v) c) c'.purse (comes e p.given c')
-operator_came c c' e vs v p purse affords priced is files whole fuel mine a =
+pub operator_came : (c c' : Course) (e : Expr) (vs : List Value) (v : Value) (p : Priced) (budget : Budget) → Affords c.budget budget p.units → Resumes e vs v c.thread p
+    → c' ≡ record { budget = budget; held = c.held; thread = c.thread; work = c.work } → Reaches c.budget (goes_on (frame.Operands (Expression e) vs) (Went v) c) c'.budget (comes e p.given c')
+operator_came c c' e vs v p budget affords priced is files whole fuel mine a =
     rw is (affords files whole fuel mine _ _ (priced sources (rest sources c.work)) a)
 
 -- ---- frames
 
 -- a value comes to the frame that is taken off
-pub taken : (c : Course) (f : Frame) (frames : List Frame) (v : Value) → c.work ≡ f ∷ frames → gives v c ≡ goes_on f (Went v) (record { purse = c.purse; held = c.held; thread = c.thread; work = frames })
+pub taken : (c : Course) (f : Frame) (frames : List Frame) (v : Value) → c.work ≡ f ∷ frames → gives v c ≡ goes_on f (Went v) (record { budget = c.budget; held = c.held; thread = c.thread; work = frames })
 taken c f frames v is = ap (λ (fs : List Frame). rest sources fs c.thread.left (Went v) c.thread.state) is
 
 -- or to the one that is put back
 pub put_back : (c : Course) (f : Frame) (frames work : List Frame) (v : Value) → c.work ≡ f ∷ frames → work ≡ f ∷ frames
-    → gives v c ≡ gives v (record { purse = c.purse; held = c.held; thread = c.thread; work = work })
+    → gives v c ≡ gives v (record { budget = c.budget; held = c.held; thread = c.thread; work = work })
 put_back c f frames work v is back = ap (λ (fs : List Frame). rest sources fs c.thread.left (Went v) c.thread.state) (is ∙ sym back)
 
 -- what an expression waits for, before the frame that was pushed
 pub operand_given : (c c' : Course) (e : Expr) (g : Given) (operand : Expr) (vs : List Value) → g ≡ given.Waits operand vs
-    → c' ≡ record { purse = c.purse; held = c.held; thread = c.thread; work = frame.Operands (Expression e) vs ∷ c.work } → comes e g c ≡ remains c' (want.Then (it.Eval operand))
+    → c' ≡ record { budget = c.budget; held = c.held; thread = c.thread; work = frame.Operands (Expression e) vs ∷ c.work } → comes e g c ≡ remains c' (want.Then (it.Eval operand))
 operand_given c c' e g operand vs same is = rw (same, is) refl
 
 -- ---- tests
@@ -190,7 +190,7 @@ abbrev again : Around → Expr → List Stmt → ℕ → Piece
 again a test body n s k = run_all a body s (looped k (turns n (eval a test) (run_all a body)))
 
 pub test_holds : (c c' : Course) (test : Expr) (body stmts : List Stmt) (n : ℕ) (v : Value) → stmts ≡ body → is_listed v ≡ false → is_true v ≡ true
-    → c' ≡ record { purse = c.purse; held = c.held; thread = c.thread; work = frame.Loop test body n ∷ c.work } → goes_on (frame.Decide test body n) (Went v) c ≡ remains c' (want.Then (it.Block stmts 0))
+    → c' ≡ record { budget = c.budget; held = c.held; thread = c.thread; work = frame.Loop test body n ∷ c.work } → goes_on (frame.Decide test body n) (Went v) c ≡ remains c' (want.Then (it.Block stmts 0))
 test_holds c c' test body stmts n v same plain holds is =
     let s = c.thread.state in
     let a = around_at sources c.thread.left in
@@ -205,15 +205,15 @@ runs_if a stmt bs otherwise is =
     ∙ fold-roll-Stmt Piece BranchPiece DefPiece HandlerPiece (stmt_at a) (branch_at a) def_at (handler_at a) (Stmt-F.If bs otherwise)
 
 -- its unit is paid, and its branches come
-pub if_begins : (c c' : Course) (stmts : List Stmt) (at : ℕ) (bs : List Branch) (otherwise : List Stmt) (purse : Purse) → IsIf stmts at bs otherwise → Affords c.purse purse 1
-    → c' ≡ record { purse = purse; held = c.held; thread = c.thread; work = frame.Block stmts (at + 1) ∷ c.work } → Moves c.purse (remains c (want.Then (it.Block stmts at))) c' (want.Then (it.Branches bs 0 otherwise))
-if_begins c c' stmts at bs otherwise purse form affords is =
+pub if_begins : (c c' : Course) (stmts : List Stmt) (at : ℕ) (bs : List Branch) (otherwise : List Stmt) (budget : Budget) → IsIf stmts at bs otherwise → Affords c.budget budget 1
+    → c' ≡ record { budget = budget; held = c.held; thread = c.thread; work = frame.Block stmts (at + 1) ∷ c.work } → Moves c.budget (remains c (want.Then (it.Block stmts at))) c' (want.Then (it.Branches bs 0 otherwise))
+if_begins c c' stmts at bs otherwise budget form affords is =
     let s = c.thread.state in
     let d = c.thread.left in
     let a = around_at sources d in
     let k = rest sources c.work d in
     let behind : Onward = on_value k (λ _ s. in_order (map (run a) (drop (at + 1) stmts)) s k) in
-    moves_paid c c' (it.Block stmts at) (want.Then (it.Branches bs 0 otherwise)) purse 1 c.thread (frame.Block stmts (at + 1) ∷ c.work) affords
+    moves_paid c c' (it.Block stmts at) (want.Then (it.Branches bs 0 otherwise)) budget 1 c.thread (frame.Block stmts (at + 1) ∷ c.work) affords
     (costs_as
     (sym (order_goes (run a) stmts at form.stmt s k form.there) ∙ ap (λ (p : Piece). p s behind) (runs_if a form.stmt bs otherwise form.form))
     refl
@@ -244,9 +244,9 @@ within_some (stmt ∷ stmts) zero h = (stmt, refl)
 within_some (stmt ∷ stmts) (suc at) h = within_some stmts at (omega (arith, h))
 
 -- its unit is paid
-pub other_begins : (c c' : Course) (stmts : List Stmt) (at : ℕ) (purse : Purse) → at < length stmts → is_left (slice_get stmts at) ≡ false → Affords c.purse purse 1
-    → c' ≡ record { purse = purse; held = c.held; thread = c.thread; work = frame.Block stmts (at + 1) ∷ c.work } → Moves c.purse (remains c (want.Then (it.Block stmts at))) c' (want.Then (it.Begun stmts at))
-other_begins c c' stmts at purse within plain affords is =
+pub other_begins : (c c' : Course) (stmts : List Stmt) (at : ℕ) (budget : Budget) → at < length stmts → is_left (slice_get stmts at) ≡ false → Affords c.budget budget 1
+    → c' ≡ record { budget = budget; held = c.held; thread = c.thread; work = frame.Block stmts (at + 1) ∷ c.work } → Moves c.budget (remains c (want.Then (it.Block stmts at))) c' (want.Then (it.Begun stmts at))
+other_begins c c' stmts at budget within plain affords is =
     let s = c.thread.state in
     let d = c.thread.left in
     let a = around_at sources d in
@@ -254,7 +254,7 @@ other_begins c c' stmts at purse within plain affords is =
     let behind : Onward = on_value k (λ _ s. in_order (map (run a) (drop (at + 1) stmts)) s k) in
     let found = within_some stmts at within in
     let plain_at : is_left_at (out-Stmt found.0) ≡ false = ap is_left (sym found.1) ∙ plain in
-    moves_paid c c' (it.Block stmts at) (want.Then (it.Begun stmts at)) purse 1 c.thread (frame.Block stmts (at + 1) ∷ c.work) affords
+    moves_paid c c' (it.Block stmts at) (want.Then (it.Begun stmts at)) budget 1 c.thread (frame.Block stmts (at + 1) ∷ c.work) affords
     (costs_as
     (sym (order_goes (run a) stmts at found.0 s k found.1) ∙ ap (λ (p : Piece). p s behind) (ap (run a) (sym (roll-out-Stmt found.0)) ∙ runs_begun a (out-Stmt found.0) plain_at))
     (ap (λ (o : Option Stmt). begun a o s behind) (sym found.1))
@@ -273,9 +273,9 @@ return_stmt : (o : Option Stmt) (e : Expr) → returned_at o ≡ Some e → (stm
 return_stmt None e h = absurd (cc h)
 return_stmt (Some stmt) e h = (stmt, (refl, return_form (out-Stmt stmt) e h))
 
-pub returned_at_once : (c c' : Course) (stmts : List Stmt) (at : ℕ) (v : Value) (units : ℕ) (purse : Purse) → Returns stmts at c v units → Affords c.purse purse units
-    → c' ≡ record { purse = purse; held = c.held; thread = c.thread; work = c.work } → Moves c.purse (remains c (want.Then (it.Block stmts at))) c' (want.Go (Left (Return v)))
-returned_at_once c c' stmts at v units purse back affords is =
+pub returned_at_once : (c c' : Course) (stmts : List Stmt) (at : ℕ) (v : Value) (units : ℕ) (budget : Budget) → Returns stmts at c v units → Affords c.budget budget units
+    → c' ≡ record { budget = budget; held = c.held; thread = c.thread; work = c.work } → Moves c.budget (remains c (want.Then (it.Block stmts at))) c' (want.Go (Left (Return v)))
+returned_at_once c c' stmts at v units budget back affords is =
     let s = c.thread.state in
     let d = c.thread.left in
     let a = around_at sources d in
@@ -284,7 +284,7 @@ returned_at_once c c' stmts at v units purse back affords is =
     let go : Rest = λ _. on_value behind (λ v s. returns (v ∷ []) s behind) in
     let found = return_stmt (slice_get stmts at) back.expr back.there in
     let facts = found.1 in
-    moves_paid c c' (it.Block stmts at) (want.Go (Left (Return v))) purse units c.thread c.work affords
+    moves_paid c c' (it.Block stmts at) (want.Go (Left (Return v))) budget units c.thread c.work affords
     (costs_as
     (sym (order_goes (run a) stmts at found.0 s k facts.0)
     ∙ ap (λ (p : Piece). p s behind) (ap (run a) (sym (roll-out-Stmt found.0) ∙ ap roll-Stmt facts.1) ∙ runs_rolled a (Stmt-F.Return (Some back.expr)) back.expr refl))
@@ -318,7 +318,7 @@ first_and_rest (u ∷ vs) rest v h r = ap (λ (x : Value). x ∷ vs) (some_same 
 
 -- the first value is called with the others
 pub call_applied : (c c' : Course) (e : Expr) (vs others : List Value) (v : Value) → is_call (out-Expr e) ≡ true → slice_get vs 0 ≡ Some v → others ≡ remove vs 0
-    → c' ≡ record { purse = c.purse; held = c.held; thread = c.thread; work = frame.Sized ∷ c.work } → remains c (want.Then (it.Apply e vs)) ≡ remains c' (want.Then (it.Call v others))
+    → c' ≡ record { budget = c.budget; held = c.held; thread = c.thread; work = frame.Sized ∷ c.work } → remains c (want.Then (it.Apply e vs)) ≡ remains c' (want.Then (it.Call v others))
 call_applied c c' e vs others v h first behind is =
     let s = c.thread.state in
     let a = around_at sources c.thread.left in
@@ -338,7 +338,7 @@ only (u ∷ w ∷ vs) v one h = absurd (omega (arith, one))
 
 -- the attribute of the one value is read
 pub member_applied : (c c' : Course) (e : Expr) (vs : List Value) (v : Value) (x : List ℕ) → attribute_name (out-Expr e) ≡ Some x → length vs ≡ 1 → slice_get vs 0 ≡ Some v
-    → c' ≡ record { purse = c.purse; held = c.held; thread = c.thread; work = frame.Sized ∷ c.work } → remains c (want.Then (it.Apply e vs)) ≡ remains c' (want.Then (it.Member v x))
+    → c' ≡ record { budget = c.budget; held = c.held; thread = c.thread; work = frame.Sized ∷ c.work } → remains c (want.Then (it.Apply e vs)) ≡ remains c' (want.Then (it.Member v x))
 member_applied c c' e vs v x name one first is =
     let s = c.thread.state in
     let a = around_at sources c.thread.left in
@@ -352,18 +352,18 @@ operand_stmt None e h = absurd (cc h)
 operand_stmt (Some stmt) e h = (stmt, (refl, h))
 
 -- the first operand of a statement comes
-pub statement_begins : (c blocked ready : Course) (stmts : List Stmt) (at : ℕ) (operand : Expr) (none : List Value) (purse : Purse) → none ≡ [] → operand_at (slice_get stmts at) ≡ Some operand → Affords c.purse purse 1
-    → blocked ≡ record { purse = purse; held = c.held; thread = c.thread; work = frame.Block stmts (at + 1) ∷ c.work }
-    → ready ≡ record { purse = blocked.purse; held = blocked.held; thread = blocked.thread; work = frame.Operands (Statement stmts at) none ∷ blocked.work }
-    → Reaches c.purse (remains c (want.Then (it.Block stmts at))) ready.purse (remains ready (want.Then (it.Eval operand)))
-statement_begins c blocked ready stmts at operand none purse empty first affords is-blocked is =
+pub statement_begins : (c blocked ready : Course) (stmts : List Stmt) (at : ℕ) (operand : Expr) (none : List Value) (budget : Budget) → none ≡ [] → operand_at (slice_get stmts at) ≡ Some operand → Affords c.budget budget 1
+    → blocked ≡ record { budget = budget; held = c.held; thread = c.thread; work = frame.Block stmts (at + 1) ∷ c.work }
+    → ready ≡ record { budget = blocked.budget; held = blocked.held; thread = blocked.thread; work = frame.Operands (Statement stmts at) none ∷ blocked.work }
+    → Reaches c.budget (remains c (want.Then (it.Block stmts at))) ready.budget (remains ready (want.Then (it.Eval operand)))
+statement_begins c blocked ready stmts at operand none budget empty first affords is-blocked is =
     let found = operand_stmt (slice_get stmts at) operand first in
     let facts = found.1 in
-    rw is (operands_begin c blocked stmts at found.0 operand operand none purse refl empty facts.0 facts.1 affords is-blocked)
+    rw is (operands_begin c blocked stmts at found.0 operand operand none budget refl empty facts.0 facts.1 affords is-blocked)
 
 -- the test of a turn comes
-pub test_begins : (c ready : Course) (test test' : Expr) (body : List Stmt) (n m : ℕ) (purse : Purse) → m ≡ suc n → test' ≡ test → Affords c.purse purse 1
-    → ready ≡ record { purse = purse; held = c.held; thread = c.thread; work = frame.Decide test body n ∷ c.work }
-    → Reaches c.purse (remains c (want.Then (it.Turn test body m))) ready.purse (remains ready (want.Then (it.Eval test')))
-test_begins c ready test test' body n m purse more same affords is =
-    rw is (test_comes c (record { purse = purse; held = c.held; thread = c.thread; work = c.work }) test test' body n m purse more same affords refl)
+pub test_begins : (c ready : Course) (test test' : Expr) (body : List Stmt) (n m : ℕ) (budget : Budget) → m ≡ suc n → test' ≡ test → Affords c.budget budget 1
+    → ready ≡ record { budget = budget; held = c.held; thread = c.thread; work = frame.Decide test body n ∷ c.work }
+    → Reaches c.budget (remains c (want.Then (it.Turn test body m))) ready.budget (remains ready (want.Then (it.Eval test')))
+test_begins c ready test test' body n m budget more same affords is =
+    rw is (test_comes c (record { budget = budget; held = c.held; thread = c.thread; work = c.work }) test test' body n m budget more same affords refl)

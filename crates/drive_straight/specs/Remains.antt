@@ -27,7 +27,7 @@ use Rattle.py_frames.specs.declared.work.Item.{Item}
 use Rattle.py_frames.specs.declared.work.Item.TheVariants as it
 use Rattle.drive_account.specs.At.{At}
 use Rattle.drive_account.specs.Holds.{held_in}
-use Rattle.drive_account.specs.declared.purse.Purse.{Purse}
+use Rattle.drive_account.specs.declared.payments.Budget.{Budget}
 use Rattle.step_straight.specs.Costs.{Costs}
 use Rattle.step_straight.specs.Comes.{Comes, given_does}
 use Rattle.step_straight.specs.declared.given.Given.{Given}
@@ -41,7 +41,7 @@ use Rattle.drive_straight.specs.declared.next.Next.TheVariants as next
 
 -- nothing was done yet
 pub record Fresh (script fuel : ℕ) (c : Course) : Type 0 where
-  pub purse : c.purse ≡ record { budget = fuel; read = None; of_tree = false }
+  pub budget : c.budget ≡ record { left = fuel; read = None; of_tree = false }
   pub held : held_in c.held ≡ []
   pub thread : c.thread ≡ record { left = 200; state = first_state script }
   pub work : c.work ≡ []
@@ -51,9 +51,9 @@ abbrev pub remains : Course → Want → Run
 remains c want = want_does sources c.thread.left want (rest sources c.work) c.thread.state
 
 -- whatever script stood at `run` stands at what is wanted
-abbrev pub Moves : Purse → Run → Course → Want → Type 0
-Moves purse run c w = (files : Option Files) (whole : Run) (fuel : ℕ) (mine : List (Event × Reply))
-    → At files whole fuel mine purse run → At files whole fuel mine c.purse (remains c w)
+abbrev pub Moves : Budget → Run → Course → Want → Type 0
+Moves budget run c w = (files : Option Files) (whole : Run) (fuel : ℕ) (mine : List (Event × Reply))
+    → At files whole fuel mine budget run → At files whole fuel mine c.budget (remains c w)
 
 -- what there is to do in a state, and then the work that waits
 abbrev pub Due : Type 0
@@ -94,14 +94,14 @@ comes e given c = given_does sources c.thread.left e given (rest sources c.work)
 -- whatever script stood at what was due stands at what comes next
 abbrev pub LeadsTo : Course → Due → Course → Next → Type 0
 LeadsTo old was new next = (files : Option Files) (whole : Run) (fuel : ℕ) (mine : List (Event × Reply))
-    → At files whole fuel mine old.purse (was old) → At files whole fuel mine new.purse (due next new)
+    → At files whole fuel mine old.budget (was old) → At files whole fuel mine new.budget (due next new)
 
 -- the same, if memory was not wanted
 abbrev pub Leads : Course → Due → Course → Result Next NoMemory → Type 0
 Leads old was new r = IfOk r (LeadsTo old was new)
 
 -- so many units were paid: whatever script stood at a run that costs them stands where that goes on
-abbrev pub Affords : Purse → Purse → ℕ → Type 0
+abbrev pub Affords : Budget → Budget → ℕ → Type 0
 Affords old new units = (files : Option Files) (whole : Run) (fuel : ℕ) (mine : List (Event × Reply)) (run next : Run)
     → Costs units run next → At files whole fuel mine old run → At files whole fuel mine new next
 
@@ -148,7 +148,7 @@ place_behind at false = at
 -- whatever script stood at the statements from a place on stands behind the first of them, if that was done
 abbrev pub Did : Course → List Stmt → ℕ → Course → Bool → Type 0
 Did old stmts at new is_done =
-    Moves old.purse (remains old (want.Then (it.Block stmts at))) new
+    Moves old.budget (remains old (want.Then (it.Block stmts at))) new
     (want.Then (it.Block stmts (place_behind at is_done)))
 
 -- the first operand of a simple statement that has one and may be begun with it; of `x += e` the name is read first,

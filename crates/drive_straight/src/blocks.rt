@@ -70,7 +70,7 @@ fn assign(
         Operand::Other(_) => Ok(false),
         Operand::Value(value, units) => {
             let name = name.copy()?;
-            if !afford(&mut course.purse, units) {
+            if !afford(&mut course.budget, units) {
                 return Ok(false);
             }
             set_local(&mut course.thread, name, value)?;
@@ -126,7 +126,7 @@ fn begin_operands(
     ensures moves { Leads course.old (begins (items.Block stmts at)) course.new result }
     ensures held { course.new.held ≡ course.old.held }
 {
-    if !afford(&mut course.purse, 1) {
+    if !afford(&mut course.budget, 1) {
         return Ok(Next::Piece(Boxed::new(alloc, Item::Block { stmts, at })?));
     }
     let count = stmts.get().len();
@@ -212,7 +212,7 @@ fn leave_block(
     ensures moves { Leads course.old (begins (items.Block stmts at)) course.new result }
     ensures held { course.new.held ≡ course.old.held }
 {
-    if !afford(&mut course.purse, units) {
+    if !afford(&mut course.budget, units) {
         return Ok(Next::Piece(Boxed::new(alloc, Item::Block { stmts, at })?));
     }
     Ok(Next::Left(Leave::Return(value)))

@@ -26,7 +26,7 @@ fn begin_if(
     ensures moves { Leads course.old (begins (items.Block stmts at)) course.new result }
     ensures held { course.new.held ≡ course.old.held }
 {
-    if !afford(&mut course.purse, 1) {
+    if !afford(&mut course.budget, 1) {
         return Ok(Next::Piece(Boxed::new(alloc, Item::Block { stmts, at })?));
     }
     let count = stmts.get().len();
@@ -79,7 +79,7 @@ fn begin_paid(
     if is_left(stmts.get(), at) {
         return Ok(Next::Piece(Boxed::new(alloc, Item::Block { stmts, at })?));
     }
-    if !afford(&mut course.purse, 1) {
+    if !afford(&mut course.budget, 1) {
         return Ok(Next::Piece(Boxed::new(alloc, Item::Block { stmts, at })?));
     }
     let count = stmts.get().len();

@@ -1,7 +1,7 @@
 //! What a running script keeps.
 ghost use Rattle.drive_straight.specs.Remains.{Fresh};
 
-use drive_account::{Held, Purse};
+use drive_account::{Budget, Held};
 use meaning_state::{Scope, Stack, State, Thread};
 use py_frames::Work;
 use spec_core::NumberMap;
@@ -11,7 +11,7 @@ use std::alloc::Global;
 /// the work that waits.
 #[derive(Drop)]
 pub struct Course {
-    pub purse: Purse,
+    pub budget: Budget,
     pub held: Held,
     pub thread: Thread,
     pub work: Work,
@@ -26,8 +26,8 @@ impl Course {
         ensures { Fresh script fuel result }
     {
         Course {
-            purse: Purse {
-                budget: fuel,
+            budget: Budget {
+                left: fuel,
                 read: None,
                 of_tree: false,
             },

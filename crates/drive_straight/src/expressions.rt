@@ -65,7 +65,7 @@ pub fn take(
     match found {
         None => begin(alloc, course, expr),
         Some(Priced { given, units }) => {
-            if !afford(&mut course.purse, units) {
+            if !afford(&mut course.budget, units) {
                 return Ok(Next::Piece(Boxed::new(alloc, Item::Eval(expr))?));
             }
             come(alloc, course, expr, given)

@@ -110,7 +110,7 @@ fn apply(
     ensures moves { Leads course.old (begins (items.Operands (Expression expr) values)) course.new result }
     ensures held { course.new.held ≡ course.old.held }
 {
-    if !afford(&mut course.purse, 1) {
+    if !afford(&mut course.budget, 1) {
         let form = Form::Expression(expr);
         return Ok(Next::Piece(Boxed::new(alloc, Item::Operands { form, done: values })?));
     }
@@ -147,7 +147,7 @@ pub fn gather(
                 return reach(alloc, course, operand);
             }
             Some(bought) => {
-                if !afford(&mut course.purse, bought.units) {
+                if !afford(&mut course.budget, bought.units) {
                     let form = Form::Expression(expr);
                     return Ok(Next::Piece(Boxed::new(
                         alloc,

@@ -32,7 +32,7 @@ fn begin_test(
     ensures moves { Leads course.old (begins (items.Turn test body turns)) course.new result }
     ensures held { course.new.held ≡ course.old.held }
 {
-    if !afford(&mut course.purse, 1) {
+    if !afford(&mut course.budget, 1) {
         return Ok(Next::Piece(Boxed::new(alloc, Item::Turn { test, body, turns })?));
     }
     let expr = test.share()?;
@@ -61,7 +61,7 @@ pub fn turn(
             if is_listed(&value) {
                 return Ok(Next::Piece(Boxed::new(alloc, Item::Turn { test, body, turns })?));
             }
-            if !afford(&mut course.purse, units) {
+            if !afford(&mut course.budget, units) {
                 return Ok(Next::Piece(Boxed::new(alloc, Item::Turn { test, body, turns })?));
             }
             if !truth(&value) {

@@ -25,7 +25,7 @@ pub fn ask(alloc: Global, course: &mut Course, expr: Shared<Expr>) -> Result<Nex
     if is_local_name(&course.thread, &name) {
         return Ok(Next::Piece(Boxed::new(alloc, Item::Eval(expr))?));
     }
-    if !afford(&mut course.purse, 1) {
+    if !afford(&mut course.budget, 1) {
         return Ok(Next::Piece(Boxed::new(alloc, Item::Eval(expr))?));
     }
     course.work.push(Frame::Sized)?;

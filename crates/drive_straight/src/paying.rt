@@ -7,30 +7,30 @@ ghost use Rattle.meaning_runs.specs.Runs.{Run, Pays};
 ghost use Rattle.drive_account.specs.At.{At};
 ghost use Rattle.drive_straight.specs.Remains.{Affords};
 
-use drive_account::Purse;
+use drive_account::Budget;
 
 /// Pays units in one sum, if they are there. Else nothing changes.
-pub fn afford(purse: &mut Purse, units: u64) -> bool
-    ensures unpaid { result ≡ false → purse.new ≡ purse.old }
-    ensures paid { IsTrue result → Affords purse.old purse.new units }
+pub fn afford(budget: &mut Budget, units: u64) -> bool
+    ensures unpaid { result ≡ false → budget.new ≡ budget.old }
+    ensures paid { IsTrue result → Affords budget.old budget.new units }
 {
-    if purse.budget < units {
+    if budget.left < units {
         return false;
     }
-    let _ = purse.pay(false, units);
+    let _ = budget.pay(false, units);
     true
 }
 
 /// Pays units, for a call of the tree or not, if they are there. Else nothing changes.
-pub fn spend(purse: &mut Purse, of_tree: bool, units: u64) -> bool
-    ensures unpaid { result ≡ false → purse.new ≡ purse.old }
+pub fn spend(budget: &mut Budget, of_tree: bool, units: u64) -> bool
+    ensures unpaid { result ≡ false → budget.new ≡ budget.old }
     ensures paid { IsTrue result → (files : Option Files) (whole : Run) (fuel : ℕ) (mine : List (Event × Reply))
-        (next : Run) → At files whole fuel mine purse.old (Pays of_tree units next)
-        → At files whole fuel mine purse.new next }
+        (next : Run) → At files whole fuel mine budget.old (Pays of_tree units next)
+        → At files whole fuel mine budget.new next }
 {
-    if purse.budget < units {
+    if budget.left < units {
         return false;
     }
-    let _ = purse.pay(of_tree, units);
+    let _ = budget.pay(of_tree, units);
     true
 }

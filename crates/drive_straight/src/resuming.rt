@@ -94,7 +94,7 @@ fn resume_expression(
             gather(alloc, course, expr, values)
         }
         Some(Priced { given, units }) => {
-            if !afford(&mut course.purse, units) {
+            if !afford(&mut course.budget, units) {
                 let form = Form::Expression(expr);
                 return Ok(Next::Frame(Boxed::new(
                     alloc,
@@ -147,7 +147,7 @@ pub fn resume_sized(alloc: Global, course: &mut Course, value: Value) -> Result<
     ensures moves { Leads course.old (goes_on frames.Sized (Went value)) course.new result }
     ensures held { course.new.held ≡ course.old.held }
 {
-    if !afford(&mut course.purse, size(&value)) {
+    if !afford(&mut course.budget, size(&value)) {
         return Ok(Next::Frame(Boxed::new(alloc, (Frame::Sized, Flow::Went(value)))?));
     }
     give_operand(alloc, course, value)

@@ -31,65 +31,65 @@ use Rattle.py_run.specs.Turns.{Stepped, Wants, remains, replied_at}
 use Rattle.drive_straight.specs.declared.course.Course.{Course}
 use Rattle.py_run.specs.declared.course.Turn.{Turn}
 use Rattle.py_run.specs.declared.course.Turn.TheVariants as turn
-use Rattle.drive_account.specs.declared.purse.Purse.{Purse}
+use Rattle.drive_account.specs.declared.payments.Budget.{Budget}
 
 -- the same of what a step wants next
-abbrev pub LeadsOn : Purse → Run → Course → Result Want NoMemory → Type 0
-LeadsOn purse run c r = IfOk r (λ next. Moves purse run c next)
+abbrev pub LeadsOn : Budget → Run → Course → Result Want NoMemory → Type 0
+LeadsOn budget run c r = IfOk r (λ next. Moves budget run c next)
 
-pub wanted : (purse : Purse) (run : Run) (c : Course) (w w' : Want) → w ≡ w' → Moves purse run c w → Moves purse run c w'
-wanted purse run c w w' is moves = subst (λ (w : Want). Moves purse run c w) is moves
+pub wanted : (budget : Budget) (run : Run) (c : Course) (w w' : Want) → w ≡ w' → Moves budget run c w → Moves budget run c w'
+wanted budget run c w w' is moves = subst (λ (w : Want). Moves budget run c w) is moves
 
 -- what was due is done as far as it can be
-pub leads_by : (purse : Purse) (run : Run) (c mid after : Course) (w : Want) (was : Due) (r r' : Result Want NoMemory) → Moves purse run c w
-    → ((files : Option Files) (whole : Run) (fuel : ℕ) (mine : List (Event × Reply)) → At files whole fuel mine c.purse (remains c w) → At files whole fuel mine mid.purse (was mid))
-    → r ≡ r' → Wants mid was after r' → LeadsOn purse run after r
-leads_by purse run c mid after w was r r' moves due is wants =
+pub leads_by : (budget : Budget) (run : Run) (c mid after : Course) (w : Want) (was : Due) (r r' : Result Want NoMemory) → Moves budget run c w
+    → ((files : Option Files) (whole : Run) (fuel : ℕ) (mine : List (Event × Reply)) → At files whole fuel mine c.budget (remains c w) → At files whole fuel mine mid.budget (was mid))
+    → r ≡ r' → Wants mid was after r' → LeadsOn budget run after r
+leads_by budget run c mid after w was r r' moves due is wants =
     rw is (IfOk-weaker r' _ _ (λ w' on. λ files whole fuel mine a. on files whole fuel mine (due files whole fuel mine (moves files whole fuel mine a))) wants)
 
 -- a way on comes to a frame that was taken off
 pub comes_on : (c : Course) (flow : Flow) (frame : Frame) (frames : List Frame) → ((d : ℕ) (s : State) → rest sources c.work d flow s ≡ frame_does sources d frame (rest sources frames) flow s)
-    → (files : Option Files) (whole : Run) (fuel : ℕ) (mine : List (Event × Reply)) → At files whole fuel mine c.purse (remains c (want.Go flow))
-    → At files whole fuel mine c.purse (goes_on frame flow (record { purse = c.purse; held = c.held; thread = c.thread; work = frames }))
-comes_on c flow frame frames comes files whole fuel mine a = subst (λ (r : Run). At files whole fuel mine c.purse r) (comes c.thread.left c.thread.state) a
+    → (files : Option Files) (whole : Run) (fuel : ℕ) (mine : List (Event × Reply)) → At files whole fuel mine c.budget (remains c (want.Go flow))
+    → At files whole fuel mine c.budget (goes_on frame flow (record { budget = c.budget; held = c.held; thread = c.thread; work = frames }))
+comes_on c flow frame frames comes files whole fuel mine a = subst (λ (r : Run). At files whole fuel mine c.budget r) (comes c.thread.left c.thread.state) a
 
 -- the same of one whose cost is paid, where it leads to what is wanted
 pub replied_on : (old after : Course) (on : OnReply) (reply : Reply) (thread : Thread) (r : Result Want NoMemory) (w : Want)
-    → after ≡ record { purse = old.purse; held = old.held; thread = thread; work = old.work } → r ≡ Ok w
-    → IfOk r (DoesIn sources thread (replies on reply old.thread sources)) → Moves old.purse (replied_at on reply old) after w
+    → after ≡ record { budget = old.budget; held = old.held; thread = thread; work = old.work } → r ≡ Ok w
+    → IfOk r (DoesIn sources thread (replies on reply old.thread sources)) → Moves old.budget (replied_at on reply old) after w
 replied_on old after on reply thread r w is came does files whole fuel mine a =
     let done : DoesIn sources thread (replies on reply old.thread sources) w = subst (λ (r : Result Want NoMemory). IfOk r (DoesIn sources thread (replies on reply old.thread sources))) came does in
-    rw is (subst (λ (run : Run). At files whole fuel mine old.purse run) (sym (done.does (rest sources old.work))) a)
+    rw is (subst (λ (run : Run). At files whole fuel mine old.budget run) (sym (done.does (rest sources old.work))) a)
 
 -- a frame that was put first waits for the item
 pub begins_pushed : (c : Course) (frames : List Frame) (item : Item) (frame : Frame) → frames ≡ frame ∷ c.work
-    → (files : Option Files) (whole : Run) (fuel : ℕ) (mine : List (Event × Reply)) → At files whole fuel mine c.purse (remains c (want.Both item frame))
-    → At files whole fuel mine c.purse (begins item (record { purse = c.purse; held = c.held; thread = c.thread; work = frames }))
+    → (files : Option Files) (whole : Run) (fuel : ℕ) (mine : List (Event × Reply)) → At files whole fuel mine c.budget (remains c (want.Both item frame))
+    → At files whole fuel mine c.budget (begins item (record { budget = c.budget; held = c.held; thread = c.thread; work = frames }))
 begins_pushed c frames item frame is files whole fuel mine a = rw is a
 
 -- the turn that leads elsewhere
-pub comes_to : (purse : Purse) (run : Run) (c c' : Course) (w : Want) (t : Turn) → Moves purse run c w → Stepped c.purse c' (remains c w) t → Stepped purse c' run t
-comes_to purse run c c' w t moves step files faults mine = record {
+pub comes_to : (budget : Budget) (run : Run) (c c' : Course) (w : Want) (t : Turn) → Moves budget run c w → Stepped c.budget c' (remains c w) t → Stepped budget c' run t
+comes_to budget run c c' w t moves step files faults mine = record {
   moves = λ whole fuel a. (step files faults mine).moves whole fuel (moves files whole fuel mine a);
   counts = (step files faults mine).counts;
 }
 
 -- what comes next is handed on
-pub hands_next : (purse : Purse) (run : Run) (c : Course) (next : Next)
-    → ((files : Option Files) (whole : Run) (fuel : ℕ) (mine : List (Event × Reply)) → At files whole fuel mine purse run → At files whole fuel mine c.purse (due next c)) → Stepped purse c run (turn.On next)
-hands_next purse run c next moves files faults mine = record {
+pub hands_next : (budget : Budget) (run : Run) (c : Course) (next : Next)
+    → ((files : Option Files) (whole : Run) (fuel : ℕ) (mine : List (Event × Reply)) → At files whole fuel mine budget run → At files whole fuel mine c.budget (due next c)) → Stepped budget c run (turn.On next)
+hands_next budget run c next moves files faults mine = record {
   moves = λ whole fuel a. moves files whole fuel mine a;
   counts = refl;
 }
 
 -- the same turn from a run in other words
-pub stepped_as : (purse : Purse) (after : Course) (t : Turn) (run run' : Run) → run ≡ run' → Stepped purse after run' t → Stepped purse after run t
-stepped_as purse after t run run' is step = subst (λ (run : Run). Stepped purse after run t) (sym is) step
+pub stepped_as : (budget : Budget) (after : Course) (t : Turn) (run run' : Run) → run ≡ run' → Stepped budget after run' t → Stepped budget after run t
+stepped_as budget after t run run' is step = subst (λ (run : Run). Stepped budget after run t) (sym is) step
 
 -- the turn behind a payment for the reply
-pub followed : (old new : Course) (paid : Purse) (on on' : OnReply) (reply reply' : Reply) (r : Result Turn Halt) → on ≡ on' → reply ≡ reply'
-    → ((files : Option Files) (whole : Run) (fuel : ℕ) (mine : List (Event × Reply)) (next : Run) → At files whole fuel mine old.purse (after_reply reply next) → At files whole fuel mine paid next)
-    → IfOk r (Stepped paid new (replied_at on' reply' old)) → IfOk r (Stepped old.purse new (remains old (want.Replied on reply)))
+pub followed : (old new : Course) (paid : Budget) (on on' : OnReply) (reply reply' : Reply) (r : Result Turn Halt) → on ≡ on' → reply ≡ reply'
+    → ((files : Option Files) (whole : Run) (fuel : ℕ) (mine : List (Event × Reply)) (next : Run) → At files whole fuel mine old.budget (after_reply reply next) → At files whole fuel mine paid next)
+    → IfOk r (Stepped paid new (replied_at on' reply' old)) → IfOk r (Stepped old.budget new (remains old (want.Replied on reply)))
 followed old new paid on on' reply reply' r is same pays = IfOk-weaker r _ _ (λ t step files faults mine. record {
   moves = λ whole fuel a.
       (step files faults mine).moves whole fuel

@@ -17,10 +17,10 @@ use Rattle.meaning_script.specs.Imports.{opens}
 use Rattle.py_run.specs.Turns.{Turned, Looked, IsFileStamp}
 use Rattle.drive_straight.specs.declared.course.Course.{Course}
 use Rattle.py_run.specs.declared.course.Turn.{Turn}
-use Rattle.drive_account.specs.declared.purse.Purse.{Purse}
+use Rattle.drive_account.specs.declared.payments.Budget.{Budget}
 
 -- where something is looked up the script goes on by what the tree told
-pub at_looked : {files : Option Files} {whole : Run} {fuel : ℕ} {mine : List (Event × Reply)} {purse : Purse} (q : Question) (a : Answer q) (next : Answer q → Run) → IsTold files q a → At files whole fuel mine purse (Looks q next) → At files whole fuel mine purse (next a)
+pub at_looked : {files : Option Files} {whole : Run} {fuel : ℕ} {mine : List (Event × Reply)} {budget : Budget} (q : Question) (a : Answer q) (next : Answer q → Run) → IsTold files q a → At files whole fuel mine budget (Looks q next) → At files whole fuel mine budget (next a)
 at_looked {mine = mine} q a next told s = record {
   stands = record { paid = s.stands.paid; sum = s.stands.sum; reaches = looks s.stands.paid mine q a next told s.stands.reaches };
   unread = s.unread;
@@ -60,12 +60,12 @@ if_some None f h = tt
 if_some (Some x) f h = f x h
 
 -- over a tree that told something, and is as it was
-pub turned_over : (files files' : Option Files) (failed failed' last : ℕ) (mine : List (Event × Reply)) (purse : Purse) (after : Course) (run : Run) (t : Turn) → files' ≡ files → failed' ≡ failed
-    → Turned files' failed' last mine mine purse after run t → Turned files failed last mine mine purse after run t
-turned_over files files' failed failed' last mine purse after run t same count h =
-    subst (λ (o : Option Files). Turned o failed last mine mine purse after run t) same (subst (λ (n : ℕ). Turned files' n last mine mine purse after run t) count h)
+pub turned_over : (files files' : Option Files) (failed failed' last : ℕ) (mine : List (Event × Reply)) (budget : Budget) (after : Course) (run : Run) (t : Turn) → files' ≡ files → failed' ≡ failed
+    → Turned files' failed' last mine mine budget after run t → Turned files failed last mine mine budget after run t
+turned_over files files' failed failed' last mine budget after run t same count h =
+    subst (λ (o : Option Files). Turned o failed last mine mine budget after run t) same (subst (λ (n : ℕ). Turned files' n last mine mine budget after run t) count h)
 
 -- by what stands at a path
-pub looked_by : (files : Option Files) (failed failed' : ℕ) (purse : Purse) (after : Course) (path : Path) (none : Run) (go : Option (List ℕ) → Run) (at at' : Stamp) (t : Turn)
-    → at ≡ at' → Looked files failed failed' purse after (opens path none go at') t → Looked files failed failed' purse after (opens path none go at) t
-looked_by files failed failed' purse after path none go at at' t is h = rw is h
+pub looked_by : (files : Option Files) (failed failed' : ℕ) (budget : Budget) (after : Course) (path : Path) (none : Run) (go : Option (List ℕ) → Run) (at at' : Stamp) (t : Turn)
+    → at ≡ at' → Looked files failed failed' budget after (opens path none go at') t → Looked files failed failed' budget after (opens path none go at) t
+looked_by files failed failed' budget after path none go at at' t is h = rw is h

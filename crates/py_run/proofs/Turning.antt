@@ -30,13 +30,13 @@ use Rattle.py_run.specs.Overs.{Begun, Fresh}
 use Rattle.py_run.specs.Starts.{StartsAs}
 use Rattle.drive_straight.specs.declared.course.Course.{Course}
 use Rattle.py_run.specs.declared.course.Turn.{Turn}
-use Rattle.drive_account.specs.declared.purse.Purse.{Purse}
+use Rattle.drive_account.specs.declared.payments.Budget.{Budget}
 
 -- at first a thread stands at the start of its meaning
 pub begins : (files : Option Files) (t fuel : ℕ) (whole : Run) (w : Want) (mine : List (Event × Reply)) (c : Course) → mine ≡ [] → Fresh t fuel c → StartsAs t whole w
-    → At files whole fuel mine c.purse (remains c w)
+    → At files whole fuel mine c.budget (remains c w)
 begins files t fuel whole w mine c none fresh starts =
-    rw none (rw fresh.purse (subst (λ (run : Run). At files whole fuel [] (record { budget = fuel; read = None; of_tree = false }) run) (sym (starts fuel c fresh))
+    rw none (rw fresh.budget (subst (λ (run : Run). At files whole fuel [] (record { left = fuel; read = None; of_tree = false }) run) (sym (starts fuel c fresh))
     (record { stands = stands_start whole fuel; unread = tt })))
 
 -- and stands somewhere, even where nothing is wanted yet
@@ -48,7 +48,7 @@ holds_first v script fuel c none fresh = rw none fresh.held
 
 -- the next turn may be done
 pub stood : {S : Type 0} (first v : View S) (files : Option Files) (script fuel : ℕ) (whole : Run) (c : Course) (next : Next)
-    → Begun first script → Stays first v → Holds v c.held → At files whole fuel v.mine c.purse (due next c) → Safe (shown_first script) whole → Stood v c.held (due next c)
+    → Begun first script → Stays first v → Holds v c.held → At files whole fuel v.mine c.budget (due next c) → Safe (shown_first script) whole → Stood v c.held (due next c)
 stood first v files script fuel whole c next begun stays holds at safe = record {
   ready = stays.ready begun.ready;
   holds = holds;
@@ -57,27 +57,27 @@ stood first v files script fuel whole c next begun stays holds at safe = record 
 
 -- over a tree whose files are as they were
 pub after_turn : (files files' : Option Files) (whole : Run) (fuel faults faults' : ℕ) (mine mine' : List (Event × Reply)) (c c' : Course) (next : Next) (t : Turn)
-    → files' ≡ files → At files whole fuel mine c.purse (due next c) → Turned files' faults faults' mine mine' c.purse c' (due next c) t → After files whole fuel mine' c' t
+    → files' ≡ files → At files whole fuel mine c.budget (due next c) → Turned files' faults faults' mine mine' c.budget c' (due next c) t → After files whole fuel mine' c' t
 after_turn files files' whole fuel faults faults' mine mine' c c' next t same at turned =
-    subst (λ (o : Option Files). After o whole fuel mine' c' t) same (turned.moves whole fuel (subst (λ (o : Option Files). At o whole fuel mine c.purse (due next c)) (sym same) at))
+    subst (λ (o : Option Files). After o whole fuel mine' c' t) same (turned.moves whole fuel (subst (λ (o : Option Files). At o whole fuel mine c.budget (due next c)) (sym same) at))
 
 pub parted : (files files' : Option Files) (whole : Run) (fuel : ℕ) (mine mine' : List (Event × Reply)) (c : Course) (next : Next)
-    → files' ≡ files → At files whole fuel mine c.purse (due next c) → Parted files' mine mine' c.purse (due next c) → StandsIn files whole fuel mine'
+    → files' ≡ files → At files whole fuel mine c.budget (due next c) → Parted files' mine mine' c.budget (due next c) → StandsIn files whole fuel mine'
 parted files files' whole fuel mine mine' c next same at part =
-    subst (λ (o : Option Files). StandsIn o whole fuel mine') same (part whole fuel (subst (λ (o : Option Files). At o whole fuel mine c.purse (due next c)) (sym same) at))
+    subst (λ (o : Option Files). StandsIn o whole fuel mine') same (part whole fuel (subst (λ (o : Option Files). At o whole fuel mine c.budget (due next c)) (sym same) at))
 
 pub refused_at : {S : Type 0} (v : View S) (files files' : Option Files) (whole : Run) (fuel : ℕ) (mine : List (Event × Reply)) (c : Course) (next : Next)
-    → files' ≡ files → At files whole fuel mine c.purse (due next c) → Refused v files' mine c.purse (due next c) → RefusedAt v files whole fuel
+    → files' ≡ files → At files whole fuel mine c.budget (due next c) → Refused v files' mine c.budget (due next c) → RefusedAt v files whole fuel
 refused_at v files files' whole fuel mine c next same at refused =
-    subst (λ (o : Option Files). RefusedAt v o whole fuel) same (refused whole fuel (subst (λ (o : Option Files). At o whole fuel mine c.purse (due next c)) (sym same) at))
+    subst (λ (o : Option Files). RefusedAt v o whole fuel) same (refused whole fuel (subst (λ (o : Option Files). At o whole fuel mine c.budget (due next c)) (sym same) at))
 
 -- a turn over a count that is as it was
 pub counts_same : {faults faults' : ℕ} → faults' ≡ faults → (t : Turn) → Counts faults faults t → Counts faults faults' t
 counts_same {faults = faults} same t counts = subst (λ (n : ℕ). Counts faults n t) (sym same) counts
 
 -- where nothing was done, a script stands somewhere
-pub parted_here : {files : Option Files} {mine : List (Event × Reply)} (purse : Purse) (run : Run) → Parted files mine mine purse run
-parted_here purse run whole fuel a = in_some a.stands
+pub parted_here : {files : Option Files} {mine : List (Event × Reply)} (budget : Budget) (run : Run) → Parted files mine mine budget run
+parted_here budget run whole fuel a = in_some a.stands
 
 -- the event by which an attribute of a module is read
 pub member_by : (c : Course) (m : ModRef) (x y : List ℕ) (k : ℕ) → y ≡ x → k ≡ m.mid → due (nexts.Member m x) c ≡ remains c (want.Call (e.GetVar k y false) (on.Member m x false))

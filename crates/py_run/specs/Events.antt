@@ -8,22 +8,22 @@ use Rattle.drive_account.specs.Ending.{Holds}
 use Rattle.drive_account.specs.Asking.{Parted, Refused}
 use Rattle.drive_account.specs.declared.port.Halt.{Halt}
 use Rattle.drive_account.specs.declared.port.Halt.TheVariants as halts
-use Rattle.drive_account.specs.declared.purse.Purse.{Purse}
+use Rattle.drive_account.specs.declared.payments.Budget.{Budget}
 use Rattle.drive_straight.specs.declared.course.Course.{Course}
 use Rattle.py_run.specs.Turns.{TurnedByEvent}
 use Rattle.py_run.specs.declared.course.Turn.{Turn}
 
 -- the event that is due at `run` is made, and what comes of it is a turn
-pub record MakesEvent {S A : Type 0} (old new : View S) (purse : Purse) (run : Run) (after : Course) (turn : A → Turn) (result : Result A Halt) : Type 0 where
+pub record MakesEvent {S A : Type 0} (old new : View S) (budget : Budget) (run : Run) (after : Course) (turn : A → Turn) (result : Result A Halt) : Type 0 where
   -- the port is the same script's
   pub stays : Stays old new
   -- whatever script stood at the event stands where the turn leads
-  pub turned : IfOk result (λ came. TurnedByEvent old.mine new.mine purse after run (turn came))
+  pub turned : IfOk result (λ came. TurnedByEvent old.mine new.mine budget after run (turn came))
   -- no listing that the script's events keep is lost
   pub grows : OnOk result (lists_in old.mine ≤ lists_in new.mine)
   -- what the script holds is known
   pub holds : OnOk result (Holds new after.held)
   -- where memory is wanted, the script stands somewhere
-  pub part : OnErr result ((files : Option Files) → Parted files old.mine new.mine purse run)
+  pub part : OnErr result ((files : Option Files) → Parted files old.mine new.mine budget run)
   -- only an event that is due is refused
-  pub refused : IsErrOf result halts.Refused → (files : Option Files) → Refused new files old.mine purse run
+  pub refused : IsErrOf result halts.Refused → (files : Option Files) → Refused new files old.mine budget run

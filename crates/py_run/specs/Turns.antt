@@ -30,7 +30,7 @@ use Rattle.drive_straight.specs.declared.course.Course.{Course}
 use Rattle.drive_straight.specs.declared.next.Next.TheVariants as nexts
 use Rattle.py_run.specs.declared.course.Turn.{Turn}
 use Rattle.py_run.specs.declared.course.Turn.TheVariants as turn
-use Rattle.drive_account.specs.declared.purse.Purse.{Purse}
+use Rattle.drive_account.specs.declared.payments.Budget.{Budget}
 pub use Rattle.drive_straight.specs.Remains.{remains}
 use Rattle.drive_straight.specs.Remains.{Due, Moves, due}
 
@@ -63,9 +63,9 @@ ended flow = Over (Ended (outcome_of flow))
 
 -- where a turn leads
 abbrev pub After : Option Files → Run → ℕ → List (Event × Reply) → Course → Turn → Type 0
-After files whole fuel mine c (turn.On next) = At files whole fuel mine c.purse (due next c)
-After files whole fuel mine c (turn.Came flow) = At files whole fuel mine c.purse (ended flow)
-After files whole fuel mine c turn.Out = IsShort files whole fuel mine c.purse.budget c.purse.of_tree
+After files whole fuel mine c (turn.On next) = At files whole fuel mine c.budget (due next c)
+After files whole fuel mine c (turn.Came flow) = At files whole fuel mine c.budget (ended flow)
+After files whole fuel mine c turn.Out = IsShort files whole fuel mine c.budget.left c.budget.of_tree
 After files whole fuel mine c (turn.Unread left) = IsUnread files whole fuel mine left
 
 -- a call of the tree fails only where its count of faults rose; where none failed, that is as it was
@@ -75,17 +75,17 @@ Counts old new t = new ≡ old
 
 -- a turn from `run` on: whatever script stood there stands
 -- where the turn leads; and how the tree's count of faults went
-pub record Turned (files : Option Files) (faults faults' : ℕ) (mine mine' : List (Event × Reply)) (purse : Purse) (after : Course) (run : Run) (t : Turn) : Type 0 where
-  pub moves : (whole : Run) (fuel : ℕ) → At files whole fuel mine purse run → After files whole fuel mine' after t
+pub record Turned (files : Option Files) (faults faults' : ℕ) (mine mine' : List (Event × Reply)) (budget : Budget) (after : Course) (run : Run) (t : Turn) : Type 0 where
+  pub moves : (whole : Run) (fuel : ℕ) → At files whole fuel mine budget run → After files whole fuel mine' after t
   pub counts : Counts faults faults' t
 
 -- a turn that makes no event and asks no tree
-abbrev pub Stepped : Purse → Course → Run → Turn → Type 0
-Stepped purse after run t = (files : Option Files) (faults : ℕ) (mine : List (Event × Reply)) → Turned files faults faults mine mine purse after run t
+abbrev pub Stepped : Budget → Course → Run → Turn → Type 0
+Stepped budget after run t = (files : Option Files) (faults : ℕ) (mine : List (Event × Reply)) → Turned files faults faults mine mine budget after run t
 
 -- a turn that asks the tree
-abbrev pub Looked : Option Files → ℕ → ℕ → Purse → Course → Run → Turn → Type 0
-Looked files faults faults' purse after run t = (mine : List (Event × Reply)) → Turned files faults faults' mine mine purse after run t
+abbrev pub Looked : Option Files → ℕ → ℕ → Budget → Course → Run → Turn → Type 0
+Looked files faults faults' budget after run t = (mine : List (Event × Reply)) → Turned files faults faults' mine mine budget after run t
 
 -- a file stands there
 abbrev pub IsFileStamp : Stamp → Type 0
@@ -94,8 +94,8 @@ IsFileStamp (stamps.Dir time) = ⊥
 IsFileStamp stamps.Absent = ⊥
 
 -- a turn that makes an event
-abbrev pub TurnedByEvent : List (Event × Reply) → List (Event × Reply) → Purse → Course → Run → Turn → Type 0
-TurnedByEvent mine mine' purse after run t = (files : Option Files) (faults : ℕ) → Turned files faults faults mine mine' purse after run t
+abbrev pub TurnedByEvent : List (Event × Reply) → List (Event × Reply) → Budget → Course → Run → Turn → Type 0
+TurnedByEvent mine mine' budget after run t = (files : Option Files) (faults : ℕ) → Turned files faults faults mine mine' budget after run t
 
 -- where an event leads to which this reply came, or none since its unit was not there
 abbrev pub made : OnReply → Option Reply → Turn
@@ -110,4 +110,4 @@ pub record Stood {S : Type 0} (v : View S) (held : Held) (run : Run) : Type 0 wh
 
 -- whatever script stood at what was due stands at what is wanted, if memory was not wanted
 abbrev pub Wants : Course → Due → Course → Result Want NoMemory → Type 0
-Wants old was new r = IfOk r (λ want. Moves old.purse (was old) new want)
+Wants old was new r = IfOk r (λ want. Moves old.budget (was old) new want)

@@ -81,7 +81,7 @@ pub fn run<P: Port, T: Tree>(
             Turn::Came(flow) => return Ok(Over::Came(flow)),
             Turn::Out => {
                 return Ok(Over::Out {
-                    of_tree: course.purse.of_tree,
+                    of_tree: course.budget.of_tree,
                 });
             }
             Turn::Unread(left) => return Ok(Over::Unread(left)),

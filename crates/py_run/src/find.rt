@@ -31,7 +31,7 @@ fn found(
     sought: Sought,
 ) -> Result<Turn, Halt>
     ensures after { IfOk result (λ turn. (files : Option Files) (whole : Run) (fuel : ℕ) (mine : List (Event × Reply))
-        → AfterSought files whole fuel mine course.old.purse
+        → AfterSought files whole fuel mine course.old.budget
         (λ answer. feeds course.old procedure (given.Found answer)) sought
         → After files whole fuel mine course.new turn) }
     ensures counts { IfOk result (λ turn. (old new : ℕ) → CountsSought old new sought → Counts old new turn) }
@@ -64,18 +64,18 @@ pub fn find<P: Port, T: Tree>(
     requires stood { Stood (P.view port.old) course.old.held (remains course.old (wants.Find name path procedure)) }
     ensures stays { Stays (P.view port.old) (P.view port.new) }
     ensures turned { IfOk result (Turned (T.files tree.old) (T.faults tree.old) (T.faults tree.new)
-        (P.view port.old).mine (P.view port.new).mine course.old.purse course.new
+        (P.view port.old).mine (P.view port.new).mine course.old.budget course.new
         (remains course.old (wants.Find name path procedure))) }
     ensures kept { OnOk result (AllKept (T.lists tree.old) (T.lists tree.new) (P.view port.old).mine
         (P.view port.new).mine) }
     ensures holds { OnOk result (Holds (P.view port.new) course.new.held) }
     ensures part { OnErr result (Parted (T.files tree.old) (P.view port.old).mine
-        (P.view port.new).mine course.old.purse (remains course.old (wants.Find name path procedure))) }
+        (P.view port.new).mine course.old.budget (remains course.old (wants.Find name path procedure))) }
     ensures refused { IsErrOf result Halt.Refused → Refused (P.view port.new) (T.files tree.old)
-        (P.view port.old).mine course.old.purse (remains course.old (wants.Find name path procedure)) }
+        (P.view port.old).mine course.old.budget (remains course.old (wants.Find name path procedure)) }
     ensures asked { Asked (T.files tree.old) (T.files tree.new) (T.faults tree.old) (T.faults tree.new) }
 {
-    match seek(port, tree, &mut course.purse, name, path) {
+    match seek(port, tree, &mut course.budget, name, path) {
         Ok(sought) => found(alloc, course, procedure, sought),
         Err(halt) => {
             drop(procedure);

@@ -25,9 +25,9 @@ use tree_files::{Stamp, Tree, TreeFault};
 fn unread(course: &Course) -> Result<Turn, Halt>
     ensures refused { IsErrOf result Halt.Refused → ⊥ }
     ensures looked { IfOk result (λ turn. (files : Option Files) (old new : ℕ) (run : Run) → Rose old new
-        → Looked files old new course.now.purse course.now run turn) }
+        → Looked files old new course.now.budget course.now run turn) }
 {
-    match course.purse.read {
+    match course.budget.read {
         Some(left) => Ok(Turn::Unread(left)),
         None => Err(Halt::NoMemory),
     }
@@ -43,14 +43,14 @@ fn load<T: Tree>(
 ) -> Result<Turn, Halt>
     requires file { ForSome (T.files tree.old) (λ f. IsFileAt f path.now) }
     ensures turned { IfOk result (Looked (T.files tree.old) (T.faults tree.old)
-        (T.faults tree.new) course.old.purse course.new (Pays true 1
+        (T.faults tree.new) course.old.budget course.new (Pays true 1
         (Looks (TextOf path.now) (λ text. feeds course.old procedure (given.Opened (Some text)))))) }
     ensures held { course.new.held ≡ course.old.held }
     ensures refused { IsErrOf result Halt.Refused → ⊥ }
     ensures asked { Asked (T.files tree.old) (T.files tree.new) (T.faults tree.old) (T.faults tree.new) }
     ensures lists_stay { T.lists tree.new ≡ T.lists tree.old }
 {
-    if !course.purse.pay(true, 1) {
+    if !course.budget.pay(true, 1) {
         drop(procedure);
         return Ok(Turn::Out);
     }
@@ -79,7 +79,7 @@ fn seen<T: Tree>(
 ) -> Result<Turn, Halt>
     requires file { IsFileStamp stamp → ForSome (T.files tree.old) (λ f. IsFileAt f path.now) }
     ensures turned { IfOk result (Looked (T.files tree.old) (T.faults tree.old)
-        (T.faults tree.new) course.old.purse course.new (opens path.now
+        (T.faults tree.new) course.old.budget course.new (opens path.now
         (feeds course.old procedure (given.Opened None)) (λ text. feeds course.old procedure
         (given.Opened (Some text))) stamp)) }
     ensures held { course.new.held ≡ course.old.held }
@@ -103,7 +103,7 @@ pub fn file<T: Tree>(
     procedure: Procedure,
 ) -> Result<Turn, Halt>
     ensures turned { IfOk result (Looked (T.files tree.old) (T.faults tree.old)
-        (T.faults tree.new) course.old.purse course.new (remains course.old (wants.File path.now procedure))) }
+        (T.faults tree.new) course.old.budget course.new (remains course.old (wants.File path.now procedure))) }
     ensures held { course.new.held ≡ course.old.held }
     ensures refused { IsErrOf result Halt.Refused → ⊥ }
     ensures asked { Asked (T.files tree.old) (T.files tree.new) (T.faults tree.old) (T.faults tree.new) }

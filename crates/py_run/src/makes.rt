@@ -26,7 +26,7 @@ fn make<P: Port>(
     on: &OnReply,
 ) -> Result<Option<Reply>, Halt>
     requires stood { Stood (P.view port.old) course.old.held (remains course.old (wants.Call event on.now)) }
-    ensures { MakesEvent (P.view port.old) (P.view port.new) course.old.purse
+    ensures { MakesEvent (P.view port.old) (P.view port.new) course.old.budget
         (remains course.old (wants.Call event on.now)) course.new (made on.now) result }
 {
     let _on = on;
@@ -37,11 +37,11 @@ fn make<P: Port>(
             return Err(Halt::NoMemory);
         }
     };
-    if !course.purse.pay(false, 1) {
+    if !course.budget.pay(false, 1) {
         drop(event);
         return Ok(None);
     }
-    course.purse.read = None;
+    course.budget.read = None;
     match port.call(event) {
         Ok(reply) => match course.held.change(change, &reply) {
             Ok(()) => Ok(Some(reply)),
@@ -63,7 +63,7 @@ pub fn call<P: Port>(
     on: OnReply,
 ) -> Result<Turn, Halt>
     requires stood { Stood (P.view port.old) course.old.held (remains course.old (wants.Call event on)) }
-    ensures { MakesEvent (P.view port.old) (P.view port.new) course.old.purse
+    ensures { MakesEvent (P.view port.old) (P.view port.new) course.old.budget
         (remains course.old (wants.Call event on)) course.new (λ turn. turn) result }
 {
     let made = match make(port, course, event, &on) {
@@ -90,7 +90,7 @@ pub fn read<P: Port>(
     name: Text,
 ) -> Result<Turn, Halt>
     requires stood { Stood (P.view port.old) course.old.held (due (nexts.ReadGlobal name) course.old) }
-    ensures { MakesEvent (P.view port.old) (P.view port.new) course.old.purse
+    ensures { MakesEvent (P.view port.old) (P.view port.new) course.old.budget
         (due (nexts.ReadGlobal name) course.old) course.new (λ turn. turn) result }
 {
     let copied = match name.copy() {
@@ -115,7 +115,7 @@ pub fn read_member<P: Port>(
 ) -> Result<Turn, Halt>
     requires stood { Stood (P.view port.old) course.old.held (due (nexts.Member «module» name)
         course.old) }
-    ensures { MakesEvent (P.view port.old) (P.view port.new) course.old.purse
+    ensures { MakesEvent (P.view port.old) (P.view port.new) course.old.budget
         (due (nexts.Member «module» name) course.old) course.new (λ turn. turn) result }
 {
     let copied = match name.copy() {
@@ -146,7 +146,7 @@ pub fn bind<P: Port>(
 ) -> Result<Turn, Halt>
     requires global { is_local_name course.old.thread.state name ≡ false }
     requires stood { Stood (P.view port.old) course.old.held (due (nexts.Store name value) course.old) }
-    ensures { MakesEvent (P.view port.old) (P.view port.new) course.old.purse
+    ensures { MakesEvent (P.view port.old) (P.view port.new) course.old.budget
         (due (nexts.Store name value) course.old) course.new (λ turn. turn) result }
 {
     let event = Event::SetVar {
@@ -166,10 +166,10 @@ pub fn wait<P: Port>(
     item: Item,
 ) -> Result<Turn, Halt>
     requires stood { Stood (P.view port.old) course.old.held (remains course.old (wants.Wait item)) }
-    ensures { MakesEvent (P.view port.old) (P.view port.new) course.old.purse
+    ensures { MakesEvent (P.view port.old) (P.view port.new) course.old.budget
         (remains course.old (wants.Wait item)) course.new (λ turn. turn) result }
 {
-    course.purse.read = None;
+    course.budget.read = None;
     match port.wait() {
         Ok(reply) => {
             drop(reply);

@@ -29,12 +29,12 @@ fn give_wanted<P: Port, T: Tree>(
     requires stood { Stood (P.view port.old) course.old.held (remains course.old want) }
     ensures stays { Stays (P.view port.old) (P.view port.new) }
     ensures turned { IfOk result (Turned (T.files tree.old) (T.faults tree.old) (T.faults tree.new)
-        (P.view port.old).mine (P.view port.new).mine course.old.purse course.new (remains course.old want)) }
+        (P.view port.old).mine (P.view port.new).mine course.old.budget course.new (remains course.old want)) }
     ensures holds { OnOk result (Holds (P.view port.new) course.new.held) }
     ensures part { OnErr result (Parted (T.files tree.old) (P.view port.old).mine
-        (P.view port.new).mine course.old.purse (remains course.old want)) }
+        (P.view port.new).mine course.old.budget (remains course.old want)) }
     ensures refused { IsErrOf result Halt.Refused → Refused (P.view port.new) (T.files tree.old)
-        (P.view port.old).mine course.old.purse (remains course.old want) }
+        (P.view port.old).mine course.old.budget (remains course.old want) }
     ensures asked { Asked (T.files tree.old) (T.files tree.new) (T.faults tree.old) (T.faults tree.new) }
     ensures kept { OnOk result (AllKept (T.lists tree.old) (T.lists tree.new) (P.view port.old).mine
         (P.view port.new).mine) }
@@ -63,12 +63,12 @@ pub fn give<P: Port, T: Tree>(
     requires stood { Stood (P.view port.old) course.old.held (due next course.old) }
     ensures stays { Stays (P.view port.old) (P.view port.new) }
     ensures turned { IfOk result (Turned (T.files tree.old) (T.faults tree.old) (T.faults tree.new)
-        (P.view port.old).mine (P.view port.new).mine course.old.purse course.new (due next course.old)) }
+        (P.view port.old).mine (P.view port.new).mine course.old.budget course.new (due next course.old)) }
     ensures holds { OnOk result (Holds (P.view port.new) course.new.held) }
     ensures part { OnErr result (Parted (T.files tree.old) (P.view port.old).mine
-        (P.view port.new).mine course.old.purse (due next course.old)) }
+        (P.view port.new).mine course.old.budget (due next course.old)) }
     ensures refused { IsErrOf result Halt.Refused → Refused (P.view port.new) (T.files tree.old)
-        (P.view port.old).mine course.old.purse (due next course.old) }
+        (P.view port.old).mine course.old.budget (due next course.old) }
     ensures asked { Asked (T.files tree.old) (T.files tree.new) (T.faults tree.old) (T.faults tree.new) }
     ensures kept { OnOk result (AllKept (T.lists tree.old) (T.lists tree.new) (P.view port.old).mine
         (P.view port.new).mine) }

@@ -137,7 +137,7 @@ fn lead(alloc: Global, course: &mut Course, first: Want) -> Result<Next, NoMemor
                 units,
                 item,
             } => {
-                if !spend(&mut course.purse, of_tree, units) {
+                if !spend(&mut course.budget, of_tree, units) {
                     return wanted(
                         alloc,
                         Want::Pay {
@@ -251,7 +251,7 @@ fn straight(alloc: Global, course: &mut Course, first: Next) -> Result<Next, NoM
 
 /// A way on comes to the work that waits. Where none is left, that is the end.
 fn finish(alloc: Global, course: &mut Course, flow: Flow) -> Result<Turn, Halt>
-    ensures turned { IfOk result (Stepped course.old.purse course.new (remains course.old (wants.Go flow))) }
+    ensures turned { IfOk result (Stepped course.old.budget course.new (remains course.old (wants.Go flow))) }
     ensures held { course.new.held ≡ course.old.held }
     ensures refused { IsErrOf result Halt.Refused → ⊥ }
 {
@@ -266,7 +266,7 @@ fn finish(alloc: Global, course: &mut Course, flow: Flow) -> Result<Turn, Halt>
 
 /// What comes next, until the end or until something is to be asked of the machine or the tree.
 pub fn go_straight(alloc: Global, course: &mut Course, next: Next) -> Result<Turn, Halt>
-    ensures turned { IfOk result (Stepped course.old.purse course.new (due next course.old)) }
+    ensures turned { IfOk result (Stepped course.old.budget course.new (due next course.old)) }
     ensures held { course.new.held ≡ course.old.held }
     ensures refused { IsErrOf result Halt.Refused → ⊥ }
 {
@@ -278,7 +278,7 @@ pub fn go_straight(alloc: Global, course: &mut Course, next: Next) -> Result<Tur
 
 /// What is wanted comes next, until the end or until something is to be asked of the machine or the tree.
 pub fn lead_on(alloc: Global, course: &mut Course, want: Want) -> Result<Turn, Halt>
-    ensures turned { IfOk result (Stepped course.old.purse course.new (remains course.old want)) }
+    ensures turned { IfOk result (Stepped course.old.budget course.new (remains course.old want)) }
     ensures held { course.new.held ≡ course.old.held }
     ensures refused { IsErrOf result Halt.Refused → ⊥ }
 {
@@ -290,7 +290,7 @@ pub fn lead_on(alloc: Global, course: &mut Course, want: Want) -> Result<Turn, H
 
 /// A reply whose cost is paid comes to what waits for it.
 fn reply_to(alloc: Global, course: &mut Course, on: OnReply, reply: Reply) -> Result<Turn, Halt>
-    ensures turned { IfOk result (Stepped course.old.purse course.new (replied_at on reply course.old)) }
+    ensures turned { IfOk result (Stepped course.old.budget course.new (replied_at on reply course.old)) }
     ensures held { course.new.held ≡ course.old.held }
     ensures refused { IsErrOf result Halt.Refused → ⊥ }
 {
@@ -345,11 +345,11 @@ fn brought(reply: Reply) -> Value
 
 /// The reply to an event comes to what waits for it, once its cost is paid, and then all is done that can be in place.
 pub fn follow(alloc: Global, course: &mut Course, on: OnReply, reply: Reply) -> Result<Turn, Halt>
-    ensures turned { IfOk result (Stepped course.old.purse course.new (remains course.old (wants.Replied on reply))) }
+    ensures turned { IfOk result (Stepped course.old.budget course.new (remains course.old (wants.Replied on reply))) }
     ensures held { course.new.held ≡ course.old.held }
     ensures refused { IsErrOf result Halt.Refused → ⊥ }
 {
-    if !pay_reply(&mut course.purse, &reply) {
+    if !pay_reply(&mut course.budget, &reply) {
         drop(on);
         drop(reply);
         return Ok(Turn::Out);
@@ -363,7 +363,7 @@ pub fn follow(alloc: Global, course: &mut Course, on: OnReply, reply: Reply) -> 
 
 /// What is wanted that is to be asked neither of the machine nor of the tree.
 pub fn work_on(alloc: Global, course: &mut Course, want: Want) -> Result<Turn, Halt>
-    ensures turned { IfOk result (Stepped course.old.purse course.new (remains course.old want)) }
+    ensures turned { IfOk result (Stepped course.old.budget course.new (remains course.old want)) }
     ensures held { course.new.held ≡ course.old.held }
     ensures refused { IsErrOf result Halt.Refused → ⊥ }
 {
@@ -373,7 +373,7 @@ pub fn work_on(alloc: Global, course: &mut Course, want: Want) -> Result<Turn, H
             units,
             item,
         } => {
-            if !course.purse.pay(of_tree, units) {
+            if !course.budget.pay(of_tree, units) {
                 drop(item);
                 return Ok(Turn::Out);
             }
@@ -392,7 +392,7 @@ pub fn feed(
     procedure: Procedure,
     input: In,
 ) -> Result<Turn, Halt>
-    ensures turned { IfOk result (Stepped course.old.purse course.new (feeds course.old procedure input)) }
+    ensures turned { IfOk result (Stepped course.old.budget course.new (feeds course.old procedure input)) }
     ensures held { course.new.held ≡ course.old.held }
     ensures refused { IsErrOf result Halt.Refused → ⊥ }
 {

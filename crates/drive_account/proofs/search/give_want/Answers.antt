@@ -15,7 +15,7 @@ keep-requires-clause-runs g c = may_at (shown (g.P.Port.view c.args.port.now).nu
 pub returns-in-Pay-clause-given : goal.returns-in-Pay-clause-given
 returns-in-Pay-clause-given g c =
     let old = g.P.Port.view c.args.port.now in
-    given_at old.number old.mine old.mine c.args.purse.now _ c.args.want (wanted.Pay c.in-Pay.tree) c.pay_unit.result c.in-Pay.is (c.pay_unit.ensures old.number old.mine)
+    given_at old.number old.mine old.mine c.args.budget.now _ c.args.want (wanted.Pay c.in-Pay.tree) c.pay_unit.result c.in-Pay.is (c.pay_unit.ensures old.number old.mine)
 
 pub returns-in-Pay-clause-holds : goal.returns-in-Pay-clause-holds
 returns-in-Pay-clause-holds g c = λ held known. known
@@ -23,7 +23,7 @@ returns-in-Pay-clause-holds g c = λ held known. known
 pub returns-in-DirGet-clause-given : goal.returns-in-DirGet-clause-given
 returns-in-DirGet-clause-given g c =
     let old = g.P.Port.view c.args.port.now in
-    IfOk-weaker c.ask.result _ _ (λ it given. given_at old.number old.mine _ c.args.purse.now _ c.args.want (wanted.DirGet c.in-DirGet.dir c.in-DirGet.part) it c.in-DirGet.is given) c.ask.ensures.given
+    IfOk-weaker c.ask.result _ _ (λ it given. given_at old.number old.mine _ c.args.budget.now _ c.args.want (wanted.DirGet c.in-DirGet.dir c.in-DirGet.part) it c.in-DirGet.is given) c.ask.ensures.given
 
 pub returns-in-DirGet-clause-part : goal.returns-in-DirGet-clause-part
 returns-in-DirGet-clause-part g c = on_err_then c.ask.result c.ask.ensures.part (λ parted. rw c.in-DirGet.is parted)
@@ -34,7 +34,7 @@ returns-in-DirGet-clause-refused g c = λ is. rw c.in-DirGet.is (c.ask.ensures.r
 pub returns-in-DirSet-clause-given : goal.returns-in-DirSet-clause-given
 returns-in-DirSet-clause-given g c =
     let old = g.P.Port.view c.args.port.now in
-    IfOk-weaker c.keep.result _ _ (λ it given. given_at old.number old.mine _ c.args.purse.now _ c.args.want (wanted.DirSet c.in-DirSet.dir c.in-DirSet.listing) it c.in-DirSet.is given) c.keep.ensures.given
+    IfOk-weaker c.keep.result _ _ (λ it given. given_at old.number old.mine _ c.args.budget.now _ c.args.want (wanted.DirSet c.in-DirSet.dir c.in-DirSet.listing) it c.in-DirSet.is given) c.keep.ensures.given
 
 pub returns-in-DirSet-clause-part : goal.returns-in-DirSet-clause-part
 returns-in-DirSet-clause-part g c = on_err_then c.keep.result c.keep.ensures.part (λ parted. rw c.in-DirSet.is parted)

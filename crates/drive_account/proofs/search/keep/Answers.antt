@@ -20,7 +20,7 @@ returns-in-Ok-clause-given g c =
     let event = e.DirSet c.args.dir c.args.listing in
     record {
       moves = λ files go k whole fuel a.
-          c.kept.ensures.moves files go k whole fuel new.mine (owed_names c.texts_size-units.result _ _ c.texts_size-units.ensures (at_made old.mine new.mine c.args.purse.now event c.in-Ok.reply _ c.in-Ok.ensures.ok.mine a));
+          c.kept.ensures.moves files go k whole fuel new.mine (owed_names c.texts_size-units.result _ _ c.texts_size-units.ensures (at_made old.mine new.mine c.args.budget.now event c.in-Ok.reply _ c.in-Ok.ensures.ok.mine a));
       safe = λ go k h. c.kept.ensures.safe (shown old.number new.mine) go k (safe_made old.number old.mine new.mine event c.in-Ok.reply (λ reply. pay (texts_units c.args.listing.names) (searches_in (go given.Kept) k)) c.in-Ok.ensures.ok.mine h);
       fits = c.kept.ensures.fits;
       counts = c.kept.ensures.counts;
@@ -36,4 +36,4 @@ returns-in-Err-clause-part g c = λ files go k whole fuel a. in_at (g.P.Port.vie
 pub returns-in-Err-clause-refused : goal.returns-in-Err-clause-refused
 returns-in-Err-clause-refused g c = λ is files go k whole fuel a.
     let same : c.in-Err.halt ≡ Refused = cc in
-    refused_here (g.P.Port.view c.call.new.self) files whole fuel (g.P.Port.view c.args.port.now).mine c.args.purse.now (e.DirSet c.args.dir c.args.listing) _ (c.in-Err.ensures.refused (ap Err same)) c.in-Err.ensures.err a
+    refused_here (g.P.Port.view c.call.new.self) files whole fuel (g.P.Port.view c.args.port.now).mine c.args.budget.now (e.DirSet c.args.dir c.args.listing) _ (c.in-Err.ensures.refused (ap Err same)) c.in-Err.ensures.err a

@@ -51,10 +51,10 @@ steps-preserved g c =
     let old = g.P.Port.view c.steps.port in
     let new = g.P.Port.view c.take_step.new.port in
     let files = g.T.Tree.files c.args.tree.now in
-    let taken = took files (g.T.Tree.files c.steps.tree) _ _ old.number first.number old.mine new.mine c.steps.purse c.take_step.new.purse _ _ c.in-Ok.step c.steps.invariant.asked.files c.steps.invariant.stays.number c.in-Ok.ensures.taken in
+    let taken = took files (g.T.Tree.files c.steps.tree) _ _ old.number first.number old.mine new.mine c.steps.budget c.take_step.new.budget _ _ c.in-Ok.step c.steps.invariant.asked.files c.steps.invariant.stays.number c.in-Ok.ensures.taken in
     record {
       stays = stays_trans _ _ _ c.steps.invariant.stays c.take_step.ensures.stays;
-      moves = λ k whole fuel a. subst (λ (it : Step). AfterStep files whole fuel new.mine c.take_step.new.purse (means c.take_step.new.look) k it) c.in-On.is (taken.moves k whole fuel (c.steps.invariant.moves k whole fuel a));
+      moves = λ k whole fuel a. subst (λ (it : Step). AfterStep files whole fuel new.mine c.take_step.new.budget (means c.take_step.new.look) k it) c.in-On.is (taken.moves k whole fuel (c.steps.invariant.moves k whole fuel a));
       safe =
           let k = c.steps.invariant.safe.0 in
           (k, subst (λ (it : Step). SafeStep (shown first.number new.mine) (means c.take_step.new.look) k it) c.in-On.is (taken.safe k c.steps.invariant.safe.1));
@@ -72,9 +72,9 @@ returns-in-Over-clause-searched g c =
     let old = g.P.Port.view c.steps.port in
     let new = g.P.Port.view c.take_step.new.port in
     let files = g.T.Tree.files c.args.tree.now in
-    let taken = took files (g.T.Tree.files c.steps.tree) _ _ old.number first.number old.mine new.mine c.steps.purse c.take_step.new.purse _ _ c.in-Ok.step c.steps.invariant.asked.files c.steps.invariant.stays.number c.in-Ok.ensures.taken in
+    let taken = took files (g.T.Tree.files c.steps.tree) _ _ old.number first.number old.mine new.mine c.steps.budget c.take_step.new.budget _ _ c.in-Ok.step c.steps.invariant.asked.files c.steps.invariant.stays.number c.in-Ok.ensures.taken in
     record {
-      moves = λ k whole fuel a. subst (λ (it : Step). AfterStep files whole fuel new.mine c.take_step.new.purse (means c.take_step.new.look) k it) c.in-Over.is (taken.moves k whole fuel (c.steps.invariant.moves k whole fuel a));
+      moves = λ k whole fuel a. subst (λ (it : Step). AfterStep files whole fuel new.mine c.take_step.new.budget (means c.take_step.new.look) k it) c.in-Over.is (taken.moves k whole fuel (c.steps.invariant.moves k whole fuel a));
       counts = over_counts _ _ _ c.in-Over.sought c.steps.invariant.unfailed (subst (λ (it : Step). CountsStep (g.T.Tree.faults c.steps.tree) (g.T.Tree.faults c.take_step.new.tree) it) c.in-Over.is taken.counts);
     }
 

@@ -15,8 +15,8 @@ use Rattle.drive_account.proofs.search.search.Given as goal
 abbrev pub invariant-steps : goal.invariant-steps
 invariant-steps g l = record {
   stays : Stays (g.P.Port.view l.fn.port) (g.P.Port.view l.port);
-  moves : (k : Option Found → Run) (whole : Run) (fuel : ℕ) → At (g.T.Tree.files l.fn.tree) whole fuel (g.P.Port.view l.fn.port).mine l.fn.purse (searches_in (means l.fn.look given.Start) k)
-      → At (g.T.Tree.files l.fn.tree) whole fuel (g.P.Port.view l.port).mine l.purse (searches_in (means l.look l.input) k);
+  moves : (k : Option Found → Run) (whole : Run) (fuel : ℕ) → At (g.T.Tree.files l.fn.tree) whole fuel (g.P.Port.view l.fn.port).mine l.fn.budget (searches_in (means l.fn.look given.Start) k)
+      → At (g.T.Tree.files l.fn.tree) whole fuel (g.P.Port.view l.port).mine l.budget (searches_in (means l.look l.input) k);
   safe : IsSafe (shown (g.P.Port.view l.fn.port).number (g.P.Port.view l.port).mine) (means l.look l.input);
   fits : awaits l.look.stage ≡ input_kind l.input;
   suits : ForSome (g.T.Tree.files l.fn.tree) (λ f. Suits l.look.stage f);

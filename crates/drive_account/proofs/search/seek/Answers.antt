@@ -13,14 +13,14 @@ search-sought-requires-clause-safe g c = subst (λ (it : Search). IsSafe (shown 
 
 pub returns-clause-searched : goal.returns-clause-searched
 returns-clause-searched g c =
-    subst (λ (it : Search). IfOk c.search-sought.result (Searched (g.T.Tree.files c.args.tree.now) (g.T.Tree.faults c.args.tree.now) (g.T.Tree.faults c.search-sought.new.tree) (g.P.Port.view c.args.port.now).mine (g.P.Port.view c.search-sought.new.port).mine c.args.purse.now c.search-sought.new.purse it))
+    subst (λ (it : Search). IfOk c.search-sought.result (Searched (g.T.Tree.files c.args.tree.now) (g.T.Tree.faults c.args.tree.now) (g.T.Tree.faults c.search-sought.new.tree) (g.P.Port.view c.args.port.now).mine (g.P.Port.view c.search-sought.new.port).mine c.args.budget.now c.search-sought.new.budget it))
     c.in-Ok.ensures.means c.search-sought.ensures.searched
 
 pub returns-clause-part : goal.returns-clause-part
 returns-clause-part g c =
-    subst (λ (it : Search). OnErr c.search-sought.result (SearchParted (g.T.Tree.files c.args.tree.now) (g.P.Port.view c.args.port.now).mine (g.P.Port.view c.search-sought.new.port).mine c.args.purse.now it))
+    subst (λ (it : Search). OnErr c.search-sought.result (SearchParted (g.T.Tree.files c.args.tree.now) (g.P.Port.view c.args.port.now).mine (g.P.Port.view c.search-sought.new.port).mine c.args.budget.now it))
     c.in-Ok.ensures.means c.search-sought.ensures.part
 
 pub returns-clause-refused : goal.returns-clause-refused
 returns-clause-refused g c = λ is.
-    subst (λ (it : Search). SearchRefused (g.P.Port.view c.search-sought.new.port) (g.T.Tree.files c.args.tree.now) (g.P.Port.view c.args.port.now).mine c.args.purse.now it) c.in-Ok.ensures.means (c.search-sought.ensures.refused is)
+    subst (λ (it : Search). SearchRefused (g.P.Port.view c.search-sought.new.port) (g.T.Tree.files c.args.tree.now) (g.P.Port.view c.args.port.now).mine c.args.budget.now it) c.in-Ok.ensures.means (c.search-sought.ensures.refused is)

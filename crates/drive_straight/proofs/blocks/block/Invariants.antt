@@ -6,7 +6,7 @@ use Rattle.drive_straight.proofs.blocks.block.Given as goal
 
 abbrev pub invariant-statements : goal.invariant-statements
 invariant-statements l = record {
-  moves : Moves l.fn.course.purse (remains l.fn.course (want.Then (it.Block l.fn.stmts l.fn.first))) l.course (want.Then (it.Block l.fn.stmts l.at));
+  moves : Moves l.fn.course.budget (remains l.fn.course (want.Then (it.Block l.fn.stmts l.fn.first))) l.course (want.Then (it.Block l.fn.stmts l.at));
   held : l.course.held ≡ l.fn.course.held;
   block : l.stmts ≡ l.fn.stmts;
 }

@@ -9,6 +9,6 @@ use Rattle.drive_straight.proofs.choices.begin_if.Goals as goal
 
 pub returns-clause-moves : goal.returns-clause-moves
 returns-clause-moves c = λ files whole fuel mine a.
-    let mid : Course = record { purse = c.afford.new.purse; held = c.args.course.now.held; thread = c.args.course.now.thread; work = c.push.new.self } in
-    subst (λ (item : Item). At files whole fuel mine c.afford.new.purse (remains mid (want.Then item))) (sym c.in_ok-new-2.ensures)
-    (if_begins c.args.course.now mid c.args.stmts c.args.at c.args.branches c.args.otherwise c.afford.new.purse c.requires.form (c.if-not-afford.ensures.paid refl) (search rules) files whole fuel mine a)
+    let mid : Course = record { budget = c.afford.new.budget; held = c.args.course.now.held; thread = c.args.course.now.thread; work = c.push.new.self } in
+    subst (λ (item : Item). At files whole fuel mine c.afford.new.budget (remains mid (want.Then item))) (sym c.in_ok-new-2.ensures)
+    (if_begins c.args.course.now mid c.args.stmts c.args.at c.args.branches c.args.otherwise c.afford.new.budget c.requires.form (c.if-not-afford.ensures.paid refl) (search rules) files whole fuel mine a)

@@ -10,11 +10,11 @@ pub returns-in-Value-clause-moves : goal.returns-in-Value-clause-moves
 returns-in-Value-clause-moves c =
     let old = c.args.course.now in
     leads_behind old old c.give.new.course (comes c.args.expr c.args.given) (gives c.in-Value.value) c.give.result
-    (same_run old.purse _ _ (ap (λ (g : Given). comes c.args.expr g old) c.in-Value.is)) c.give.ensures.moves
+    (same_run old.budget _ _ (ap (λ (g : Given). comes c.args.expr g old) c.in-Value.is)) c.give.ensures.moves
 
 pub returns-in_ok-push-in-Waits-clause-moves : goal.returns-in_ok-push-in-Waits-clause-moves
 returns-in_ok-push-in-Waits-clause-moves c =
     let old = c.args.course.now in
-    let mid : Course = record { purse = old.purse; held = old.held; thread = old.thread; work = c.push.new.self } in
+    let mid : Course = record { budget = old.budget; held = old.held; thread = old.thread; work = c.push.new.self } in
     leads_behind old mid c.reach.new.course (comes c.args.expr c.args.given) (begins (it.Eval c.in-Waits.operand)) c.reach.result
-    (same_run old.purse _ _ (operand_given old mid c.args.expr c.args.given c.in-Waits.operand c.in-Waits.done c.in-Waits.is (search rules))) c.reach.ensures.moves
+    (same_run old.budget _ _ (operand_given old mid c.args.expr c.args.given c.in-Waits.operand c.in-Waits.done c.in-Waits.is (search rules))) c.reach.ensures.moves

@@ -11,23 +11,23 @@ use Rattle.drive_straight.proofs.coming.give.Goals as goal
 pub returns-in-Statement-clause-moves : goal.returns-in-Statement-clause-moves
 returns-in-Statement-clause-moves c =
     let old = c.args.course.now in
-    let mid : Course = record { purse = old.purse; held = old.held; thread = old.thread; work = c.pop.new.self } in
+    let mid : Course = record { budget = old.budget; held = old.held; thread = old.thread; work = c.pop.new.self } in
     let f : Frame = frame.Operands (Statement c.in-Statement.stmts c.in-Statement.at) c.in-Some-Operands.done in
     leads_behind old mid c.resume_statement.new.course (gives c.args.value) (goes_on f (Went c.args.value)) c.resume_statement.result
-    (same_run old.purse _ _ (taken old f c.pop.new.self c.args.value (search rules))) c.resume_statement.ensures.moves
+    (same_run old.budget _ _ (taken old f c.pop.new.self c.args.value (search rules))) c.resume_statement.ensures.moves
 
 pub returns-in-Some-Decide-clause-moves : goal.returns-in-Some-Decide-clause-moves
 returns-in-Some-Decide-clause-moves c =
     let old = c.args.course.now in
-    let mid : Course = record { purse = old.purse; held = old.held; thread = old.thread; work = c.pop.new.self } in
+    let mid : Course = record { budget = old.budget; held = old.held; thread = old.thread; work = c.pop.new.self } in
     let f : Frame = frame.Decide c.in-Some-Decide.test c.in-Some-Decide.body c.in-Some-Decide.turns in
     leads_behind old mid c.decide.new.course (gives c.args.value) (goes_on f (Went c.args.value)) c.decide.result
-    (same_run old.purse _ _ (taken old f c.pop.new.self c.args.value (search rules))) c.decide.ensures.moves
+    (same_run old.budget _ _ (taken old f c.pop.new.self c.args.value (search rules))) c.decide.ensures.moves
 
 pub returns-in-Some-Test-clause-moves : goal.returns-in-Some-Test-clause-moves
 returns-in-Some-Test-clause-moves c =
     let old = c.args.course.now in
-    let mid : Course = record { purse = old.purse; held = old.held; thread = old.thread; work = c.pop.new.self } in
+    let mid : Course = record { budget = old.budget; held = old.held; thread = old.thread; work = c.pop.new.self } in
     let f : Frame = frame.Test c.in-Some-Test.branches c.in-Some-Test.at c.in-Some-Test.otherwise in
     leads_behind old mid c.pick.new.course (gives c.args.value) (goes_on f (Went c.args.value)) c.pick.result
-    (same_run old.purse _ _ (taken old f c.pop.new.self c.args.value (search rules))) c.pick.ensures.moves
+    (same_run old.budget _ _ (taken old f c.pop.new.self c.args.value (search rules))) c.pick.ensures.moves

@@ -9,4 +9,4 @@ pub returns-then-is_operated-clause-moves : goal.returns-then-is_operated-clause
 returns-then-is_operated-clause-moves c =
     let old = c.args.course.now in
     leads_behind old old c.gather.new.course (begins (it.Eval c.args.expr)) (begins (it.Operands (Expression c.args.expr) c.new.result)) c.gather.result
-    (same_run old.purse _ _ (operated old c.args.expr c.new.result (search rules) c.new.ensures)) c.gather.ensures.moves
+    (same_run old.budget _ _ (operated old c.args.expr c.new.result (search rules) c.new.ensures)) c.gather.ensures.moves

@@ -8,6 +8,6 @@ use Rattle.drive_straight.proofs.expressions.take.Goals as goal
 pub returns-else-not-afford-clause-moves : goal.returns-else-not-afford-clause-moves
 returns-else-not-afford-clause-moves c =
     let old = c.args.course.now in
-    let paid : Course = record { purse = c.afford.new.purse; held = old.held; thread = old.thread; work = old.work } in
+    let paid : Course = record { budget = c.afford.new.budget; held = old.held; thread = old.thread; work = old.work } in
     leads_behind old paid c.come.new.course (begins (it.Eval c.args.expr)) (comes c.args.expr c.in-Some.field-0.given) c.come.result
-    (expression_came old paid c.args.expr c.in-Some.field-0 c.afford.new.purse (c.if-not-afford.ensures.paid refl) (search rules) refl) c.come.ensures.moves
+    (expression_came old paid c.args.expr c.in-Some.field-0 c.afford.new.budget (c.if-not-afford.ensures.paid refl) (search rules) refl) c.come.ensures.moves

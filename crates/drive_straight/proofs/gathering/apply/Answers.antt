@@ -9,18 +9,18 @@ use Rattle.drive_straight.proofs.gathering.apply.Goals as goal
 pub returns-then-is_call-clause-moves : goal.returns-then-is_call-clause-moves
 returns-then-is_call-clause-moves c =
     let old = c.args.course.now in
-    let paid : Course = record { purse = c.afford.new.purse; held = old.held; thread = old.thread; work = old.work } in
+    let paid : Course = record { budget = c.afford.new.budget; held = old.held; thread = old.thread; work = old.work } in
     leads_behind old paid c.call.new.course (begins (it.Operands (Expression c.args.expr) c.args.values)) (begins (it.Apply c.args.expr c.args.values)) c.call.result
-    (applied old paid c.args.expr c.args.values c.afford.new.purse c.requires.all (c.if-not-afford.ensures.paid refl) refl) c.call.ensures.moves
+    (applied old paid c.args.expr c.args.values c.afford.new.budget c.requires.all (c.if-not-afford.ensures.paid refl) refl) c.call.ensures.moves
 
 pub returns-in_ok-name-in-Some-clause-moves : goal.returns-in_ok-name-in-Some-clause-moves
 returns-in_ok-name-in-Some-clause-moves c =
     let old = c.args.course.now in
-    let paid : Course = record { purse = c.afford.new.purse; held = old.held; thread = old.thread; work = old.work } in
+    let paid : Course = record { budget = c.afford.new.budget; held = old.held; thread = old.thread; work = old.work } in
     leads_behind old paid c.member.new.course (begins (it.Operands (Expression c.args.expr) c.args.values)) (begins (it.Apply c.args.expr c.args.values)) c.member.result
-    (applied old paid c.args.expr c.args.values c.afford.new.purse c.requires.all (c.if-not-afford.ensures.paid refl) refl) c.member.ensures.moves
+    (applied old paid c.args.expr c.args.values c.afford.new.budget c.requires.all (c.if-not-afford.ensures.paid refl) refl) c.member.ensures.moves
 
 pub returns-in-None-clause-moves : goal.returns-in-None-clause-moves
 returns-in-None-clause-moves c =
-    applied c.args.course.now (record { purse = c.afford.new.purse; held = c.args.course.now.held; thread = c.args.course.now.thread; work = c.args.course.now.work })
-    c.args.expr c.args.values c.afford.new.purse c.requires.all (c.if-not-afford.ensures.paid refl) refl
+    applied c.args.course.now (record { budget = c.afford.new.budget; held = c.args.course.now.held; thread = c.args.course.now.thread; work = c.args.course.now.work })
+    c.args.expr c.args.values c.afford.new.budget c.requires.all (c.if-not-afford.ensures.paid refl) refl

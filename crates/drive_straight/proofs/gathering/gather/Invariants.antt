@@ -9,7 +9,7 @@ use Rattle.drive_straight.proofs.gathering.gather.Given as goal
 
 abbrev pub invariant-operands : goal.invariant-operands
 invariant-operands l = record {
-  moves : Moves l.fn.course.purse (remains l.fn.course (want.Then (it.Operands (Expression l.fn.expr) l.fn.done))) l.course (want.Then (it.Operands (Expression l.expr) l.values));
+  moves : Moves l.fn.course.budget (remains l.fn.course (want.Then (it.Operands (Expression l.fn.expr) l.fn.done))) l.course (want.Then (it.Operands (Expression l.expr) l.values));
   held : l.course.held ≡ l.fn.course.held;
   expr : l.expr ≡ l.fn.expr;
 }

@@ -8,7 +8,7 @@ use Rattle.drive_straight.proofs.loops.begin_test.Goals as goal
 pub returns-clause-moves : goal.returns-clause-moves
 returns-clause-moves c =
     let old = c.args.course.now in
-    let ready : Course = record { purse = c.afford.new.purse; held = old.held; thread = old.thread; work = c.push.new.self } in
+    let ready : Course = record { budget = c.afford.new.budget; held = old.held; thread = old.thread; work = c.push.new.self } in
     leads_behind old ready c.take.new.course (begins (it.Turn c.args.test c.args.body c.args.turns)) (begins (it.Eval c.in_ok-expr.expr)) c.take.result
-    (test_begins old ready c.args.test c.in_ok-expr.expr c.args.body (c.args.turns - 1) c.args.turns c.afford.new.purse
+    (test_begins old ready c.args.test c.in_ok-expr.expr c.args.body (c.args.turns - 1) c.args.turns c.afford.new.budget
     (omega (arith, c.requires.some)) (search rules) (c.if-not-afford.ensures.paid refl) (search rules)) c.take.ensures.moves

@@ -10,18 +10,18 @@ use Rattle.drive_straight.proofs.resuming.give_operand.Goals as goal
 pub returns-in-Some-Operands-clause-moves : goal.returns-in-Some-Operands-clause-moves
 returns-in-Some-Operands-clause-moves c =
     let old = c.args.course.now in
-    let mid : Course = record { purse = old.purse; held = old.held; thread = old.thread; work = c.pop.new.self } in
+    let mid : Course = record { budget = old.budget; held = old.held; thread = old.thread; work = c.pop.new.self } in
     let f : Frame = frame.Operands c.in-Some-Operands.form c.in-Some-Operands.done in
     leads_behind old mid c.resume_operand.new.course (gives c.args.value) (goes_on f (Went c.args.value)) c.resume_operand.result
-    (same_run old.purse _ _ (taken old f c.pop.new.self c.args.value (search rules))) c.resume_operand.ensures.moves
+    (same_run old.budget _ _ (taken old f c.pop.new.self c.args.value (search rules))) c.resume_operand.ensures.moves
 
 pub returns-in_ok-push-in-Some : goal.returns-in_ok-push-in-Some
 returns-in_ok-push-in-Some c =
     let old = c.args.course.now in
-    let back : Course = record { purse = old.purse; held = old.held; thread = old.thread; work = c.push.new.self } in
+    let back : Course = record { budget = old.budget; held = old.held; thread = old.thread; work = c.push.new.self } in
     record {
       moves =
           leads_behind old back c.give.new.course (gives c.args.value) (gives c.args.value) c.give.result
-          (same_run old.purse _ _ (put_back old c.in-Some.frame c.pop.new.self c.push.new.self c.args.value (search rules) (search rules))) c.give.ensures.moves;
+          (same_run old.budget _ _ (put_back old c.in-Some.frame c.pop.new.self c.push.new.self c.args.value (search rules) (search rules))) c.give.ensures.moves;
       held = c.give.ensures.held;
     }

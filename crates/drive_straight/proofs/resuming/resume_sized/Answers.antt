@@ -10,6 +10,6 @@ use Rattle.drive_straight.proofs.resuming.resume_sized.Goals as goal
 pub returns-clause-moves : goal.returns-clause-moves
 returns-clause-moves c =
     let old = c.args.course.now in
-    let paid : Course = record { purse = c.afford.new.purse; held = old.held; thread = old.thread; work = old.work } in
+    let paid : Course = record { budget = c.afford.new.budget; held = old.held; thread = old.thread; work = old.work } in
     leads_behind old paid c.give_operand.new.course (goes_on frame.Sized (Went c.args.value)) (gives c.args.value) c.give_operand.result
-    (paid_size old (Went c.args.value) c.args.value c.size.result c.afford.new.purse refl (search rules) (c.if-not-afford.ensures.paid refl)) c.give_operand.ensures.moves
+    (paid_size old (Went c.args.value) c.args.value c.size.result c.afford.new.budget refl (search rules) (c.if-not-afford.ensures.paid refl)) c.give_operand.ensures.moves

@@ -18,7 +18,7 @@ pub turns-init : goal.turns-init
 turns-init g c = record {
   stays = stays_refl _;
   holds = holds_first (g.P.Port.view c.args.port.now) c.args.script c.args.fuel c.args.course.now c.requires.begun.first c.requires.fresh;
-  at = subst (λ (run : Run). At (g.T.Tree.files c.args.tree.now) (started c.args.script c.args.start) c.args.fuel (g.P.Port.view c.args.port.now).mine c.args.course.now.purse run) (sym (ap (λ (n : Next). due n c.args.course.now) c.in-Ok-wanted.ensures))
+  at = subst (λ (run : Run). At (g.T.Tree.files c.args.tree.now) (started c.args.script c.args.start) c.args.fuel (g.P.Port.view c.args.port.now).mine c.args.course.now.budget run) (sym (ap (λ (n : Next). due n c.args.course.now) c.in-Ok-wanted.ensures))
       (begins (g.T.Tree.files c.args.tree.now) c.args.script c.args.fuel (started c.args.script c.args.start) c.in-Ok.want (g.P.Port.view c.args.port.now).mine c.args.course.now c.requires.begun.first c.requires.fresh c.in-Ok.ensures);
   unfailed = refl;
   asked = asked_refl _ _;
@@ -69,7 +69,7 @@ returns-in-Came-clause-over g c =
     let mine' = (g.P.Port.view c.give.new.port).mine in
     let after = subst (λ (t : Turn). After files whole c.args.fuel mine' c.give.new.course t) c.in-Came.is
     (after_turn files (g.T.Tree.files c.turns.tree) whole c.args.fuel _ _ (g.P.Port.view c.turns.port).mine mine' c.turns.course c.give.new.course c.turns.next c.in-Ok-give.turn c.turns.invariant.asked.files c.turns.invariant.at c.in-Ok-give.ensures.turned) in
-    (c.give.new.course.purse.budget, after.stands)
+    (c.give.new.course.budget.left, after.stands)
 
 pub returns-in-Came-clause-unfailed : goal.returns-in-Came-clause-unfailed
 returns-in-Came-clause-unfailed g c = subst (λ (t : Turn). Counts (g.T.Tree.faults c.turns.tree) (g.T.Tree.faults c.give.new.tree) t) c.in-Came.is c.in-Ok-give.ensures.turned.counts ∙ c.turns.invariant.unfailed
@@ -81,7 +81,7 @@ returns-in-Out-clause-over g c =
     let mine' = (g.P.Port.view c.give.new.port).mine in
     let after = subst (λ (t : Turn). After files whole c.args.fuel mine' c.give.new.course t) c.in-Out.is
     (after_turn files (g.T.Tree.files c.turns.tree) whole c.args.fuel _ _ (g.P.Port.view c.turns.port).mine mine' c.turns.course c.give.new.course c.turns.next c.in-Ok-give.turn c.turns.invariant.asked.files c.turns.invariant.at c.in-Ok-give.ensures.turned) in
-    (c.give.new.course.purse.budget, after)
+    (c.give.new.course.budget.left, after)
 
 pub returns-in-Out-clause-unfailed : goal.returns-in-Out-clause-unfailed
 returns-in-Out-clause-unfailed g c = subst (λ (t : Turn). Counts (g.T.Tree.faults c.turns.tree) (g.T.Tree.faults c.give.new.tree) t) c.in-Out.is c.in-Ok-give.ensures.turned.counts ∙ c.turns.invariant.unfailed

@@ -25,7 +25,7 @@ returns-in-Ok-clause-turned g c =
 pub returns-in-Ok-clause-part : goal.returns-in-Ok-clause-part
 returns-in-Ok-clause-part g c = if_err c.found.result (λ _. λ whole fuel a.
     let k : Option Found → Run = λ answer. feeds c.args.course.now c.args.procedure (given.Found answer) in
-    in_sought c.seek.new.purse k c.in-Ok.sought (c.in-Ok.ensures.searched.moves k whole fuel a))
+    in_sought c.seek.new.budget k c.in-Ok.sought (c.in-Ok.ensures.searched.moves k whole fuel a))
 
 pub returns-in-Ok-clause-holds : goal.returns-in-Ok-clause-holds
 returns-in-Ok-clause-holds g c = if_ok c.found.result (λ _. rw c.found.ensures.held (c.in-Ok.ensures.holds c.args.course.now.held c.requires.stood.holds))

@@ -10,6 +10,6 @@ use Rattle.py_run.proofs.working.feed.Goals as goal
 pub returns-in-Ok-clause-turned : goal.returns-in-Ok-clause-turned
 returns-in-Ok-clause-turned c =
     let old = c.args.course.now in
-    let after : Course = record { purse = old.purse; held = old.held; thread = c.fed.new.thread; work = old.work } in
-    IfOk-weaker c.lead_on.result _ _ (λ t step. stepped_as old.purse c.lead_on.new.course t (feeds old c.args.procedure c.args.input) (remains after c.in-Ok.want)
+    let after : Course = record { budget = old.budget; held = old.held; thread = c.fed.new.thread; work = old.work } in
+    IfOk-weaker c.lead_on.result _ _ (λ t step. stepped_as old.budget c.lead_on.new.course t (feeds old c.args.procedure c.args.input) (remains after c.in-Ok.want)
     (sym (c.in-Ok.ensures.does (rest sources old.work))) step) c.lead_on.ensures.turned

@@ -21,7 +21,7 @@ returns-then-pieces-clause-moves c =
 
 pub returns-in-Go-clause-moves : goal.returns-in-Go-clause-moves
 returns-in-Go-clause-moves c files whole fuel mine a =
-    subst (λ (run : Run). At files whole fuel mine c.pieces.course.purse run) (sym (c.passing.ensures c.pieces.course))
+    subst (λ (run : Run). At files whole fuel mine c.pieces.course.budget run) (sym (c.passing.ensures c.pieces.course))
     (known_want c.args.course.now c.pieces.course (remains c.args.course.now c.args.first) c.pieces.want (wants.Go c.in-Go.flow) c.in-Go.is c.pieces.invariant.moves files whole fuel mine a)
 
 pub returns-in_default-clause-moves : goal.returns-in_default-clause-moves
@@ -32,7 +32,7 @@ pub returns-then-not-spend-clause-moves : goal.returns-then-not-spend-clause-mov
 returns-then-not-spend-clause-moves c =
     let old = c.args.course.now in
     let here : Course = c.pieces.course in
-    let unpaid : Course = record { purse = c.spend.new.purse; held = here.held; thread = here.thread; work = here.work } in
+    let unpaid : Course = record { budget = c.spend.new.budget; held = here.held; thread = here.thread; work = here.work } in
     let want = wants.Pay c.in-Pay.of_tree c.in-Pay.units c.in-Pay.item in
     led_wanted old unpaid (λ here. remains here c.args.first) want c.wanted-then-not-spend.result
     (λ files whole fuel mine a. rw (c.if-not-spend.ensures.unpaid refl) (known_want old here (remains old c.args.first) c.pieces.want want c.in-Pay.is c.pieces.invariant.moves files whole fuel mine a)) c.wanted-then-not-spend.ensures
@@ -42,7 +42,7 @@ returns-then-begins_in_place-clause-moves c =
     let old = c.args.course.now in
     let here : Course = c.pieces.course in
     let came = c.pieces.invariant.moves in
-    let begun : Reaches old.purse (remains old c.args.first) c.match-want.course.purse (begins c.match-want.item c.match-want.course) = elim c.match-want.branch [
+    let begun : Reaches old.budget (remains old c.args.first) c.match-want.course.budget (begins c.match-want.item c.match-want.course) = elim c.match-want.branch [
       | in-Then w ↦ λ files whole fuel mine a. rw (w.course-is, w.item-is) (known_want old here (remains old c.args.first) c.pieces.want (wants.Then w.in-Then.item) w.in-Then.is came files whole fuel mine a)
       | in-Both+in_ok-push-in-Both w ↦ λ files whole fuel mine a.
           rw (w.course-is, w.item-is) (begins_pushed here w.push.new.self w.in-Both.item w.in-Both.frame (search rules) files whole fuel mine
@@ -58,7 +58,7 @@ pieces-preserved c =
     let old = c.args.course.now in
     let here : Course = c.pieces.course in
     let came = c.pieces.invariant.moves in
-    let begun : Reaches old.purse (remains old c.args.first) c.match-want.course.purse (begins c.match-want.item c.match-want.course) = elim c.match-want.branch [
+    let begun : Reaches old.budget (remains old c.args.first) c.match-want.course.budget (begins c.match-want.item c.match-want.course) = elim c.match-want.branch [
       | in-Then w ↦ λ files whole fuel mine a. rw (w.course-is, w.item-is) (known_want old here (remains old c.args.first) c.pieces.want (wants.Then w.in-Then.item) w.in-Then.is came files whole fuel mine a)
       | in-Both+in_ok-push-in-Both w ↦ λ files whole fuel mine a.
           rw (w.course-is, w.item-is) (begins_pushed here w.push.new.self w.in-Both.item w.in-Both.frame (search rules) files whole fuel mine

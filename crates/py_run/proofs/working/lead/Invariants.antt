@@ -4,7 +4,7 @@ use Rattle.py_run.proofs.working.lead.Given as goal
 
 abbrev pub invariant-pieces : goal.invariant-pieces
 invariant-pieces l = record {
-  moves : Moves l.fn.course.purse (remains l.fn.course l.fn.first) l.course l.want;
+  moves : Moves l.fn.course.budget (remains l.fn.course l.fn.first) l.course l.want;
   held : l.course.held ≡ l.fn.course.held;
 }
 

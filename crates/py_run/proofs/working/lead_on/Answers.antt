@@ -6,4 +6,4 @@ pub returns-in-Ok-clause-turned : goal.returns-in-Ok-clause-turned
 returns-in-Ok-clause-turned c =
     let old = c.args.course.now in
     let mid = c.lead.new.course in
-    stepped_behind old.purse (remains old c.args.want) (due c.in-Ok.next mid) mid c.go_straight.new.course c.go_straight.result c.in-Ok.ensures.moves c.go_straight.ensures.turned
+    stepped_behind old.budget (remains old c.args.want) (due c.in-Ok.next mid) mid c.go_straight.new.course c.go_straight.result c.in-Ok.ensures.moves c.go_straight.ensures.turned

@@ -15,9 +15,9 @@ returns-clause-moves c =
     led_behind old c.match-frame.course c.lead.new.course (goes_on c.args.frame c.args.flow) (λ here. remains here c.match-frame.want) c.lead.result
     (elim c.match-frame.branch [
       | in-Back w ↦ λ files whole fuel mine a.
-          rw (w.course-is, w.want-is) (subst (λ (run : Run). At files whole fuel mine old.purse run) (sym (w.come_back-want.ensures.does sources (rest sources old.work))) (subst (λ (f : Frame). At files whole fuel mine old.purse (goes_on f c.args.flow old)) w.in-Back.is a))
+          rw (w.course-is, w.want-is) (subst (λ (run : Run). At files whole fuel mine old.budget run) (sym (w.come_back-want.ensures.does sources (rest sources old.work))) (subst (λ (f : Frame). At files whole fuel mine old.budget (goes_on f c.args.flow old)) w.in-Back.is a))
       | in-Imported w ↦ λ files whole fuel mine a.
-          rw (w.course-is, w.want-is) (subst (λ (run : Run). At files whole fuel mine old.purse run) (sym (w.go_on_imported-want.ensures.does sources (rest sources old.work))) (subst (λ (f : Frame). At files whole fuel mine old.purse (goes_on f c.args.flow old)) w.in-Imported.is a))
+          rw (w.course-is, w.want-is) (subst (λ (run : Run). At files whole fuel mine old.budget run) (sym (w.go_on_imported-want.ensures.does sources (rest sources old.work))) (subst (λ (f : Frame). At files whole fuel mine old.budget (goes_on f c.args.flow old)) w.in-Imported.is a))
       | in_default+in_ok-want-in_default w ↦ λ files whole fuel mine a.
-          rw (w.course-is, w.want-is) (subst (λ (run : Run). At files whole fuel mine old.purse run) (sym (w.in_ok-want-in_default.ensures.does (rest sources old.work))) a)
+          rw (w.course-is, w.want-is) (subst (λ (run : Run). At files whole fuel mine old.budget run) (sym (w.in_ok-want-in_default.ensures.does (rest sources old.work))) a)
     ]) c.lead.ensures.moves

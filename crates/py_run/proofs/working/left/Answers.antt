@@ -12,7 +12,7 @@ use Rattle.py_run.proofs.working.left.Goals as goal
 pub returns-in-None-clause-moves : goal.returns-in-None-clause-moves
 returns-in-None-clause-moves c =
     let old = c.args.course.now in
-    let over : Course = record { purse = old.purse; held = old.held; thread = old.thread; work = c.unwind.new.self } in
+    let over : Course = record { budget = old.budget; held = old.held; thread = old.thread; work = c.unwind.new.self } in
     let none : c.unwind.new.self ≡ [] = search rules in
     led_wanted old over (due (nexts.Left c.args.way)) (want.Go (Left c.args.way)) c.wanted.result
     (over_here old (Left c.args.way) c.unwind.new.self
@@ -21,7 +21,7 @@ returns-in-None-clause-moves c =
 pub returns-in-Some-clause-moves : goal.returns-in-Some-clause-moves
 returns-in-Some-clause-moves c =
     let old = c.args.course.now in
-    let mid : Course = record { purse = old.purse; held = old.held; thread = old.thread; work = c.unwind.new.self } in
+    let mid : Course = record { budget = old.budget; held = old.held; thread = old.thread; work = c.unwind.new.self } in
     led_behind old mid c.leave.new.course (due (nexts.Left c.args.way)) (goes_on c.in-Some.frame (Left c.args.way)) c.leave.result
     (comes_on old (Left c.args.way) c.in-Some.frame c.unwind.new.self
     (a_frame c.unwind.result old.work c.unwind.new.self (Left c.args.way) c.in-Some.frame c.in-Some.is (left_comes c.unwind.result old.work c.unwind.new.self c.args.way c.unwind.ensures))) c.leave.ensures.moves

@@ -9,6 +9,6 @@ use Rattle.py_run.proofs.working.reply_to.Goals as goal
 pub returns-in-Ok-clause-turned : goal.returns-in-Ok-clause-turned
 returns-in-Ok-clause-turned c =
     let old = c.args.course.now in
-    let after : Course = record { purse = old.purse; held = old.held; thread = c.replied.new.thread; work = old.work } in
-    stepped_behind old.purse (replied_at c.args.on c.args.reply old) (remains after c.in-Ok.want) after c.lead_on.new.course c.lead_on.result
+    let after : Course = record { budget = old.budget; held = old.held; thread = c.replied.new.thread; work = old.work } in
+    stepped_behind old.budget (replied_at c.args.on c.args.reply old) (remains after c.in-Ok.want) after c.lead_on.new.course c.lead_on.result
     (replied_on old after c.args.on c.args.reply c.replied.new.thread c.replied.result c.in-Ok.want refl c.in-Ok.is c.replied.ensures) c.lead_on.ensures.turned

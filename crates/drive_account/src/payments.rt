@@ -14,8 +14,8 @@ use machine_events::Reply;
 /// event and no payment came after it; and whether the last payment, made or not, was one for a
 /// call of the tree.
 #[derive(Drop)]
-pub struct Purse {
-    pub budget: u64,
+pub struct Budget {
+    pub left: u64,
     pub read: Option<u64>,
     pub of_tree: bool,
 }
@@ -31,31 +31,31 @@ fn told_of(budget: u64, of_tree: bool, units: u64) -> Option<u64>
     }
 }
 
-impl Purse {
+impl Budget {
     /// Takes units that are there, for a call of the tree or not. What a failed read would tell is of
     /// this payment alone: no older one counts.
     fn take(&mut self, of_tree: bool, units: u64)
-        requires { units ≤ self.old.budget }
-        ensures left { self.new.budget ≡ self.old.budget - units }
-        ensures told { self.new.read ≡ told_of self.old.budget of_tree units }
+        requires { units ≤ self.old.left }
+        ensures left { self.new.left ≡ self.old.left - units }
+        ensures told { self.new.read ≡ told_of self.old.left of_tree units }
         ensures kind { self.new.of_tree ≡ self.old.of_tree }
     {
-        self.read = told_of(self.budget, of_tree, units);
-        self.budget -= units;
+        self.read = told_of(self.left, of_tree, units);
+        self.left -= units;
     }
 
     /// Pays units, for a call of the tree or not, if they are there.
     pub fn pay(&mut self, of_tree: bool, units: u64) -> bool
-        ensures paid { result ≡ nat_le units self.old.budget }
-        ensures left { IsTrue result → self.new.budget ≡ self.old.budget - units }
-        ensures told { IsTrue result → self.new.read ≡ told_of self.old.budget of_tree units }
+        ensures paid { result ≡ nat_le units self.old.left }
+        ensures left { IsTrue result → self.new.left ≡ self.old.left - units }
+        ensures told { IsTrue result → self.new.read ≡ told_of self.old.left of_tree units }
         ensures kind { self.new.of_tree ≡ of_tree }
         ensures moves { (files : Option Files) (whole : Run) (fuel : ℕ) (mine : List (Event × Reply)) (next : Run)
             → At files whole fuel mine self.old (Pays of_tree units next)
             → AfterPay result files whole fuel mine self.new next }
     {
         self.of_tree = of_tree;
-        if self.budget < units {
+        if self.left < units {
             return false;
         }
         self.take(of_tree, units);
@@ -65,13 +65,13 @@ impl Purse {
 
 /// What the reply to an event costs is paid. Who is to wait for a lock pays nothing before that.
 #[tactic(auto, using(crate::proofs::Paying::paid_reply))]
-pub fn pay_reply(purse: &mut Purse, reply: &Reply) -> bool
+pub fn pay_reply(budget: &mut Budget, reply: &Reply) -> bool
     ensures { (files : Option Files) (whole : Run) (fuel : ℕ) (mine : List (Event × Reply)) (next : Run)
-        → At files whole fuel mine purse.old (after_reply reply.now next)
-        → AfterPay result files whole fuel mine purse.new next }
+        → At files whole fuel mine budget.old (after_reply reply.now next)
+        → AfterPay result files whole fuel mine budget.new next }
 {
     match reply {
         Reply::Wait(_) => true,
-        _ => purse.pay(false, reply_units(reply)),
+        _ => budget.pay(false, reply_units(reply)),
     }
 }

@@ -1,6 +1,6 @@
 use Rattle.std.proofs.Common.{arith}
 use Rattle.drive_account.proofs.Paying.{at_paid}
-use Rattle.drive_account.proofs.purse.Purse.pay.Goals as goal
+use Rattle.drive_account.proofs.payments.Budget.pay.Goals as goal
 
 pub returns-clause-moves : goal.returns-clause-moves
 returns-clause-moves c = λ files whole fuel mine next a.
