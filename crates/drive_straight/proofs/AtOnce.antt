@@ -52,7 +52,7 @@ use Rattle.step_straight.specs.Comes.{Comes, given_does}
 use Rattle.step_straight.specs.declared.given.Given.{Given}
 use Rattle.step_straight.specs.declared.given.Given.TheVariants as given
 use Rattle.drive_straight.specs.Remains.{Affords, Assigns, Did, IsValueOf, Moves, first_operand, goes_on, remains}
-use Rattle.drive_straight.specs.declared.course.Course.{Course}
+use Rattle.drive_straight.specs.declared.execution.Execution.{Execution}
 
 stands_behind : {files : Option Files} {whole : Run} {fuel : ℕ} {mine : List (Event × Reply)} {next : Run} (ns : List ℕ) (b : ℕ) → in_all ns ≤ b
     → Stands files whole fuel mine b (paying ns next) → Stands files whole fuel mine (b - in_all ns) next
@@ -72,29 +72,29 @@ affords old new units enough left told files whole fuel mine run next costs a = 
 }
 
 -- what was paid for stands behind, in other words
-pub moves_paid : (c c' : Course) (item : Item) (w : Want) (budget : Budget) (units : ℕ) (thread : Thread) (work : List Frame) → Affords c.budget budget units
+pub moves_paid : (c c' : Execution) (item : Item) (w : Want) (budget : Budget) (units : ℕ) (thread : Thread) (work : List Frame) → Affords c.budget budget units
     → Costs units (remains c (want.Then item)) (remains (record { budget = budget; held = c.held; thread = thread; work = work }) w)
     → c' ≡ record { budget = budget; held = c.held; thread = thread; work = work } → Moves c.budget (remains c (want.Then item)) c' w
 moves_paid c c' item w budget units thread work affords costs is =
-    subst (λ (after : Course). Moves c.budget (remains c (want.Then item)) after w) (sym is) (λ files whole fuel mine a. affords files whole fuel mine _ _ costs a)
+    subst (λ (after : Execution). Moves c.budget (remains c (want.Then item)) after w) (sym is) (λ files whole fuel mine a. affords files whole fuel mine _ _ costs a)
 
 -- one move behind the other
-pub moves_on : (budget : Budget) (run : Run) (c c' : Course) (w : Want) (next : Run) → Moves budget run c w
+pub moves_on : (budget : Budget) (run : Run) (c c' : Execution) (w : Want) (next : Run) → Moves budget run c w
     → ((files : Option Files) (whole : Run) (fuel : ℕ) (mine : List (Event × Reply)) → At files whole fuel mine c.budget (remains c w) → At files whole fuel mine c'.budget next)
     → (files : Option Files) (whole : Run) (fuel : ℕ) (mine : List (Event × Reply)) → At files whole fuel mine budget run → At files whole fuel mine c'.budget next
 moves_on budget run c c' w next first second files whole fuel mine a = second files whole fuel mine (first files whole fuel mine a)
 
 -- a statement was not done, or was
-pub did_not : (c c' : Course) (stmts : List Stmt) (at : ℕ) (b : Bool) → b ≡ false → Did c stmts at c' b
+pub did_not : (c c' : Execution) (stmts : List Stmt) (at : ℕ) (b : Bool) → b ≡ false → Did c stmts at c' b
     → Moves c.budget (remains c (want.Then (it.Block stmts at))) c' (want.Then (it.Block stmts at))
 did_not c c' stmts at b is did = subst (λ (b : Bool). Did c stmts at c' b) is did
 
-pub did_one : (c c' : Course) (stmts : List Stmt) (at : ℕ) (b : Bool) → b ≡ true → Did c stmts at c' b
+pub did_one : (c c' : Execution) (stmts : List Stmt) (at : ℕ) (b : Bool) → b ≡ true → Did c stmts at c' b
     → Moves c.budget (remains c (want.Then (it.Block stmts at))) c' (want.Then (it.Block stmts (at + 1)))
 did_one c c' stmts at b is did = subst (λ (b : Bool). Did c stmts at c' b) is did
 
 -- an expression that came to a value, behind one unit more
-pub valued : (c : Course) (e : Expr) (g : Given) (n sum : ℕ) (v : Value) → g ≡ given.Value v → sum ≡ n + 1 → Comes e c.thread (record { given = g; units = n }) → IsValueOf e c v sum
+pub valued : (c : Execution) (e : Expr) (g : Given) (n sum : ℕ) (v : Value) → g ≡ given.Value v → sum ≡ n + 1 → Comes e c.thread (record { given = g; units = n }) → IsValueOf e c v sum
 valued c e g n sum v is more comes w next =
     let h = comes w next in
     record {
@@ -104,7 +104,7 @@ valued c e g n sum v is more comes w next =
     }
 
 -- the size of a value is paid
-pub paid_size : (c : Course) (flow : Flow) (v : Value) (units : ℕ) (budget : Budget) → flow ≡ Went v → units ≡ units_of v → Affords c.budget budget units
+pub paid_size : (c : Execution) (flow : Flow) (v : Value) (units : ℕ) (budget : Budget) → flow ≡ Went v → units ≡ units_of v → Affords c.budget budget units
     → (files : Option Files) (whole : Run) (fuel : ℕ) (mine : List (Event × Reply)) → At files whole fuel mine c.budget (goes_on frame.Sized flow c)
     → At files whole fuel mine budget (rest sources c.work c.thread.left (Went v) c.thread.state)
 paid_size c flow v units budget is size affords files whole fuel mine a =
@@ -132,7 +132,7 @@ runs_assign a stmt target e is =
 stored_local : (s : State) (x : List ℕ) (v : Value) (k : Onward) → is_local_name s x ≡ true → stores x v s k ≡ k done (with_local s x v)
 stored_local s x v k local = rw local refl
 
-pub assigned : (c c' : Course) (stmts : List Stmt) (at : ℕ) (x : List ℕ) (e : Expr) (v : Value) (units : ℕ) (budget : Budget) → Assigns stmts at x e → is_local_name c.thread.state x ≡ true
+pub assigned : (c c' : Execution) (stmts : List Stmt) (at : ℕ) (x : List ℕ) (e : Expr) (v : Value) (units : ℕ) (budget : Budget) → Assigns stmts at x e → is_local_name c.thread.state x ≡ true
     → IsValueOf e c v units → Affords c.budget budget units
     → c' ≡ record { budget = budget; held = c.held; thread = record { left = c.thread.left; state = with_local c.thread.state x v }; work = c.work }
     → Moves c.budget (remains c (want.Then (it.Block stmts at))) c' (want.Then (it.Block stmts (at + 1)))
@@ -179,7 +179,7 @@ runs_rolled a (Stmt-F.Try body hs otherwise last) e h = absurd (cc h)
 runs_rolled a (Stmt-F.Def f) e h = absurd (cc h)
 
 -- the unit of a statement is paid, and its first operand comes
-pub operands_begin : (c c' : Course) (stmts : List Stmt) (at : ℕ) (stmt : Stmt) (e operand : Expr) (none : List Value) (budget : Budget) → operand ≡ e → none ≡ [] → slice_get stmts at ≡ Some stmt → first_operand (out-Stmt stmt) ≡ Some e
+pub operands_begin : (c c' : Execution) (stmts : List Stmt) (at : ℕ) (stmt : Stmt) (e operand : Expr) (none : List Value) (budget : Budget) → operand ≡ e → none ≡ [] → slice_get stmts at ≡ Some stmt → first_operand (out-Stmt stmt) ≡ Some e
     → Affords c.budget budget 1 → c' ≡ record { budget = budget; held = c.held; thread = c.thread; work = frame.Block stmts (at + 1) ∷ c.work }
     → Moves c.budget (remains c (want.Then (it.Block stmts at))) c' (want.Both (it.Eval operand) (frame.Operands (Statement stmts at) none))
 operands_begin c c' stmts at stmt e operand none budget same empty there first affords is =
@@ -197,7 +197,7 @@ operands_begin c c' stmts at stmt e operand none budget same empty there first a
     (record { payments = 1 ∷ []; all = refl; same = refl })) is)
 
 -- a block is over
-pub block_over : (c : Course) (stmts : List Stmt) (at : ℕ) → length stmts ≤ at → remains c (want.Then (it.Block stmts at)) ≡ remains c (want.Go (Went values.Nothing))
+pub block_over : (c : Execution) (stmts : List Stmt) (at : ℕ) → length stmts ≤ at → remains c (want.Then (it.Block stmts at)) ≡ remains c (want.Go (Went values.Nothing))
 block_over c stmts at past =
     ap (λ (stmts : List Stmt). run_all (around_at sources c.thread.left) stmts c.thread.state (rest sources c.work c.thread.left)) (drop_of_length-le stmts past)
 
@@ -210,7 +210,7 @@ reads_module s a x k other = rw other refl
 pub named : (e : Expr) (x y : List ℕ) → e ≡ tree.Name x → y ≡ x → out-Expr e ≡ Expr-F.Name y
 named e x y is same = ap out-Expr (is ∙ sym (rolls-Name x)) ∙ out-roll-Expr (Expr-F.Name x) ∙ ap (λ (x : List ℕ). Expr-F.Name x) (sym same)
 
-pub global_asked : (c c' : Course) (e : Expr) (x : List ℕ) (budget : Budget) → out-Expr e ≡ Expr-F.Name x → is_local_name c.thread.state x ≡ false → Affords c.budget budget 1
+pub global_asked : (c c' : Execution) (e : Expr) (x : List ℕ) (budget : Budget) → out-Expr e ≡ Expr-F.Name x → is_local_name c.thread.state x ≡ false → Affords c.budget budget 1
     → c' ≡ record { budget = budget; held = c.held; thread = c.thread; work = frame.Sized ∷ c.work }
     → Moves c.budget (remains c (want.Then (it.Eval e))) c' (want.Then (it.ReadGlobal x))
 global_asked c c' e x budget is other affords same =
@@ -227,7 +227,7 @@ global_asked c c' e x budget is other affords same =
 -- ---- turns
 
 -- the unit of a turn is paid, and its test comes
-pub test_comes : (c c' : Course) (test test' : Expr) (body : List Stmt) (n m : ℕ) (budget : Budget) → m ≡ suc n → test' ≡ test → Affords c.budget budget 1
+pub test_comes : (c c' : Execution) (test test' : Expr) (body : List Stmt) (n m : ℕ) (budget : Budget) → m ≡ suc n → test' ≡ test → Affords c.budget budget 1
     → c' ≡ record { budget = budget; held = c.held; thread = c.thread; work = c.work }
     → Moves c.budget (remains c (want.Then (it.Turn test body m))) c' (want.Both (it.Eval test') (frame.Decide test body n))
 test_comes c c' test test' body n m budget more same affords is =
@@ -237,7 +237,7 @@ test_comes c c' test test' body n m budget more same affords is =
 pub decided : (v : Value) (good bad : Piece) → is_listed v ≡ false → decides v good bad ≡ (if is_true v then good else bad)
 decided v good bad plain = unlisted v (λ u. if is_true u then good else bad) plain
 
-turned : (c : Course) (test : Expr) (body : List Stmt) (n : ℕ) (v : Value) (units : ℕ) → IsValueOf test c v units → is_listed v ≡ false
+turned : (c : Execution) (test : Expr) (body : List Stmt) (n : ℕ) (v : Value) (units : ℕ) → IsValueOf test c v units → is_listed v ≡ false
     → let a = around_at sources c.thread.left in let k = rest sources c.work c.thread.left in
     Costs units (remains c (want.Then (it.Turn test body (suc n))))
     ((if is_true v then (λ (s : State) (k : Onward). run_all a body s (looped k (turns n (eval a test) (run_all a body)))) else passes) c.thread.state k)
@@ -250,7 +250,7 @@ turned c test body n v units value plain =
     costs_as refl (ap (λ (p : Piece). p s k) (decided v good passes plain)) (value sources (λ _. on_value k (λ v s. decides v good passes s k)))
 
 -- the test does not hold: the loop is over
-pub loop_over : (c c' : Course) (test : Expr) (body : List Stmt) (n m : ℕ) (v : Value) (units : ℕ) (budget : Budget) → m ≡ suc n → IsValueOf test c v units → is_listed v ≡ false → is_true v ≡ false
+pub loop_over : (c c' : Execution) (test : Expr) (body : List Stmt) (n m : ℕ) (v : Value) (units : ℕ) (budget : Budget) → m ≡ suc n → IsValueOf test c v units → is_listed v ≡ false → is_true v ≡ false
     → Affords c.budget budget units → c' ≡ record { budget = budget; held = c.held; thread = c.thread; work = c.work }
     → Moves c.budget (remains c (want.Then (it.Turn test body m))) c' (want.Go (Went values.Nothing))
 loop_over c c' test body n m v units budget more value plain fails affords is =
@@ -260,7 +260,7 @@ loop_over c c' test body n m v units budget more value plain fails affords is =
     (turned c test body n v units value plain)) is)
 
 -- it holds: the block comes
-pub loop_turns : (c c' : Course) (test : Expr) (body : List Stmt) (n m : ℕ) (v : Value) (units : ℕ) (budget : Budget) → m ≡ suc n → IsValueOf test c v units → is_listed v ≡ false → is_true v ≡ true
+pub loop_turns : (c c' : Execution) (test : Expr) (body : List Stmt) (n m : ℕ) (v : Value) (units : ℕ) (budget : Budget) → m ≡ suc n → IsValueOf test c v units → is_listed v ≡ false → is_true v ≡ true
     → Affords c.budget budget units → c' ≡ record { budget = budget; held = c.held; thread = c.thread; work = frame.Loop test body n ∷ c.work }
     → Moves c.budget (remains c (want.Then (it.Turn test body m))) c' (want.Then (it.Block body 0))
 loop_turns c c' test body n m v units budget more value plain holds affords is =

@@ -48,7 +48,7 @@ use Rattle.step_straight.specs.declared.given.Given.{Given}
 use Rattle.step_straight.specs.declared.given.Given.TheVariants as given
 use Rattle.step_straight.specs.declared.given.Priced.{Priced}
 use Rattle.drive_straight.specs.Remains.{Affords, Due, IsIf, Leads, Moves, Returns, attribute_name, comes, first_operand, gives, goes_on, is_attribute, is_left, is_left_at, is_operated, operand_at, remains, returned_at, returned_of}
-use Rattle.drive_straight.specs.declared.course.Course.{Course}
+use Rattle.drive_straight.specs.declared.execution.Execution.{Execution}
 use Rattle.drive_straight.specs.declared.next.Next.{Next}
 use Rattle.drive_straight.proofs.AtOnce.{decided, moves_paid, operands_begin, runs_rolled, test_comes}
 
@@ -57,7 +57,7 @@ abbrev pub Reaches : Budget → Run → Budget → Run → Type 0
 Reaches p run q next = (files : Option Files) (whole : Run) (fuel : ℕ) (mine : List (Event × Reply)) → At files whole fuel mine p run → At files whole fuel mine q next
 
 -- what follows a way that was gone
-pub leads_behind : (old mid new : Course) (was between : Due) (r : Result Next NoMemory) → Reaches old.budget (was old) mid.budget (between mid) → Leads mid between new r → Leads old was new r
+pub leads_behind : (old mid new : Execution) (was between : Due) (r : Result Next NoMemory) → Reaches old.budget (was old) mid.budget (between mid) → Leads mid between new r → Leads old was new r
 leads_behind old mid new was between r first =
     IfOk-weaker r _ _ (λ next second files whole fuel mine a. second files whole fuel mine (first files whole fuel mine a))
 
@@ -72,7 +72,7 @@ reaches_on p q r run mid next first second files whole fuel mine a = second file
 -- ---- operands
 
 -- the operand behind those that have values has its value, which is paid
-pub operand_paid : (c c' : Course) (e operand : Expr) (vs vs' : List Value) (v : Value) (units : ℕ) (budget : Budget) → slice_get (operands_at (out-Expr e)) (length vs) ≡ Some operand → Gives operand c.thread.state v units
+pub operand_paid : (c c' : Execution) (e operand : Expr) (vs vs' : List Value) (v : Value) (units : ℕ) (budget : Budget) → slice_get (operands_at (out-Expr e)) (length vs) ≡ Some operand → Gives operand c.thread.state v units
     → Affords c.budget budget units → vs' ≡ vs ++ v ∷ [] → c' ≡ record { budget = budget; held = c.held; thread = c.thread; work = c.work }
     → Moves c.budget (remains c (want.Then (it.Operands (Expression e) vs))) c' (want.Then (it.Operands (Expression e) vs'))
 operand_paid c c' e operand vs vs' v units budget there value affords more is =
@@ -89,7 +89,7 @@ operand_paid c c' e operand vs vs' v units budget there value affords more is =
     (value a (on_value k (λ v s. gathers (map (eval a) (drop (suc (length vs)) es)) (vs ++ v ∷ []) go s k)))) is)
 
 -- it is waited for
-pub operand_waits : (c c' : Course) (e operand : Expr) (vs : List Value) → slice_get (operands_at (out-Expr e)) (length vs) ≡ Some operand
+pub operand_waits : (c c' : Execution) (e operand : Expr) (vs : List Value) → slice_get (operands_at (out-Expr e)) (length vs) ≡ Some operand
     → c' ≡ record { budget = c.budget; held = c.held; thread = c.thread; work = frame.Operands (Expression e) vs ∷ c.work }
     → remains c (want.Then (it.Operands (Expression e) vs)) ≡ remains c' (want.Then (it.Eval operand))
 operand_waits c c' e operand vs there is =
@@ -97,7 +97,7 @@ operand_waits c c' e operand vs there is =
     rw is (ap (λ (es : List Expr). gathers (map (eval a) es) vs (completes a (Expression e)) c.thread.state (rest sources c.work c.thread.left)) (drop_some (operands_at (out-Expr e)) (length vs) operand there))
 
 -- all have values, and the unit of the expression is paid
-pub applied : (c c' : Course) (e : Expr) (vs : List Value) (budget : Budget) → slice_get (operands_at (out-Expr e)) (length vs) ≡ None → Affords c.budget budget 1
+pub applied : (c c' : Execution) (e : Expr) (vs : List Value) (budget : Budget) → slice_get (operands_at (out-Expr e)) (length vs) ≡ None → Affords c.budget budget 1
     → c' ≡ record { budget = budget; held = c.held; thread = c.thread; work = c.work } → Moves c.budget (remains c (want.Then (it.Operands (Expression e) vs))) c' (want.Then (it.Apply e vs))
 applied c c' e vs budget none affords is =
     let a = around_at sources c.thread.left in
@@ -106,7 +106,7 @@ applied c c' e vs budget none affords is =
     (record { payments = 1 ∷ []; all = refl; same = refl })) is
 
 -- the next one has come
-pub operand_came : (c : Course) (e : Expr) (vs vs' : List Value) (v : Value) → vs' ≡ vs ++ v ∷ []
+pub operand_came : (c : Execution) (e : Expr) (vs vs' : List Value) (v : Value) → vs' ≡ vs ++ v ∷ []
     → goes_on (frame.Operands (Expression e) vs) (Went v) c ≡ remains c (want.Then (it.Operands (Expression e) vs'))
 operand_came c e vs vs' v more =
     let a = around_at sources c.thread.left in
@@ -149,7 +149,7 @@ operated_at around Expr-F.False s k h = absurd (false≢true h)
 operated_at around (Expr-F.And a b) s k h = absurd (false≢true h)
 operated_at around (Expr-F.Or a b) s k h = absurd (false≢true h)
 
-pub operated : (c : Course) (e : Expr) (none : List Value) → is_operated (out-Expr e) ≡ true → none ≡ [] → remains c (want.Then (it.Eval e)) ≡ remains c (want.Then (it.Operands (Expression e) none))
+pub operated : (c : Execution) (e : Expr) (none : List Value) → is_operated (out-Expr e) ≡ true → none ≡ [] → remains c (want.Then (it.Eval e)) ≡ remains c (want.Then (it.Operands (Expression e) none))
 operated c e none h empty =
     let s = c.thread.state in
     let a = around_at sources c.thread.left in
@@ -158,12 +158,12 @@ operated c e none h empty =
 
 -- ---- what came to its price
 
-pub expression_came : (c c' : Course) (e : Expr) (p : Priced) (budget : Budget) → Affords c.budget budget p.units → Comes e c.thread p → c' ≡ record { budget = budget; held = c.held; thread = c.thread; work = c.work }
+pub expression_came : (c c' : Execution) (e : Expr) (p : Priced) (budget : Budget) → Affords c.budget budget p.units → Comes e c.thread p → c' ≡ record { budget = budget; held = c.held; thread = c.thread; work = c.work }
     → Reaches c.budget (remains c (want.Then (it.Eval e))) c'.budget (comes e p.given c')
 expression_came c c' e p budget affords priced is files whole fuel mine a =
     rw is (affords files whole fuel mine _ _ (priced sources (rest sources c.work)) a)
 
-pub operator_came : (c c' : Course) (e : Expr) (vs : List Value) (v : Value) (p : Priced) (budget : Budget) → Affords c.budget budget p.units → Resumes e vs v c.thread p
+pub operator_came : (c c' : Execution) (e : Expr) (vs : List Value) (v : Value) (p : Priced) (budget : Budget) → Affords c.budget budget p.units → Resumes e vs v c.thread p
     → c' ≡ record { budget = budget; held = c.held; thread = c.thread; work = c.work } → Reaches c.budget (goes_on (frame.Operands (Expression e) vs) (Went v) c) c'.budget (comes e p.given c')
 operator_came c c' e vs v p budget affords priced is files whole fuel mine a =
     rw is (affords files whole fuel mine _ _ (priced sources (rest sources c.work)) a)
@@ -171,16 +171,16 @@ operator_came c c' e vs v p budget affords priced is files whole fuel mine a =
 -- ---- frames
 
 -- a value comes to the frame that is taken off
-pub taken : (c : Course) (f : Frame) (frames : List Frame) (v : Value) → c.work ≡ f ∷ frames → gives v c ≡ goes_on f (Went v) (record { budget = c.budget; held = c.held; thread = c.thread; work = frames })
+pub taken : (c : Execution) (f : Frame) (frames : List Frame) (v : Value) → c.work ≡ f ∷ frames → gives v c ≡ goes_on f (Went v) (record { budget = c.budget; held = c.held; thread = c.thread; work = frames })
 taken c f frames v is = ap (λ (fs : List Frame). rest sources fs c.thread.left (Went v) c.thread.state) is
 
 -- or to the one that is put back
-pub put_back : (c : Course) (f : Frame) (frames work : List Frame) (v : Value) → c.work ≡ f ∷ frames → work ≡ f ∷ frames
+pub put_back : (c : Execution) (f : Frame) (frames work : List Frame) (v : Value) → c.work ≡ f ∷ frames → work ≡ f ∷ frames
     → gives v c ≡ gives v (record { budget = c.budget; held = c.held; thread = c.thread; work = work })
 put_back c f frames work v is back = ap (λ (fs : List Frame). rest sources fs c.thread.left (Went v) c.thread.state) (is ∙ sym back)
 
 -- what an expression waits for, before the frame that was pushed
-pub operand_given : (c c' : Course) (e : Expr) (g : Given) (operand : Expr) (vs : List Value) → g ≡ given.Waits operand vs
+pub operand_given : (c c' : Execution) (e : Expr) (g : Given) (operand : Expr) (vs : List Value) → g ≡ given.Waits operand vs
     → c' ≡ record { budget = c.budget; held = c.held; thread = c.thread; work = frame.Operands (Expression e) vs ∷ c.work } → comes e g c ≡ remains c' (want.Then (it.Eval operand))
 operand_given c c' e g operand vs same is = rw (same, is) refl
 
@@ -189,7 +189,7 @@ operand_given c c' e g operand vs same is = rw (same, is) refl
 abbrev again : Around → Expr → List Stmt → ℕ → Piece
 again a test body n s k = run_all a body s (looped k (turns n (eval a test) (run_all a body)))
 
-pub test_holds : (c c' : Course) (test : Expr) (body stmts : List Stmt) (n : ℕ) (v : Value) → stmts ≡ body → is_listed v ≡ false → is_true v ≡ true
+pub test_holds : (c c' : Execution) (test : Expr) (body stmts : List Stmt) (n : ℕ) (v : Value) → stmts ≡ body → is_listed v ≡ false → is_true v ≡ true
     → c' ≡ record { budget = c.budget; held = c.held; thread = c.thread; work = frame.Loop test body n ∷ c.work } → goes_on (frame.Decide test body n) (Went v) c ≡ remains c' (want.Then (it.Block stmts 0))
 test_holds c c' test body stmts n v same plain holds is =
     let s = c.thread.state in
@@ -205,7 +205,7 @@ runs_if a stmt bs otherwise is =
     ∙ fold-roll-Stmt Piece BranchPiece DefPiece HandlerPiece (stmt_at a) (branch_at a) def_at (handler_at a) (Stmt-F.If bs otherwise)
 
 -- its unit is paid, and its branches come
-pub if_begins : (c c' : Course) (stmts : List Stmt) (at : ℕ) (bs : List Branch) (otherwise : List Stmt) (budget : Budget) → IsIf stmts at bs otherwise → Affords c.budget budget 1
+pub if_begins : (c c' : Execution) (stmts : List Stmt) (at : ℕ) (bs : List Branch) (otherwise : List Stmt) (budget : Budget) → IsIf stmts at bs otherwise → Affords c.budget budget 1
     → c' ≡ record { budget = budget; held = c.held; thread = c.thread; work = frame.Block stmts (at + 1) ∷ c.work } → Moves c.budget (remains c (want.Then (it.Block stmts at))) c' (want.Then (it.Branches bs 0 otherwise))
 if_begins c c' stmts at bs otherwise budget form affords is =
     let s = c.thread.state in
@@ -244,7 +244,7 @@ within_some (stmt ∷ stmts) zero h = (stmt, refl)
 within_some (stmt ∷ stmts) (suc at) h = within_some stmts at (omega (arith, h))
 
 -- its unit is paid
-pub other_begins : (c c' : Course) (stmts : List Stmt) (at : ℕ) (budget : Budget) → at < length stmts → is_left (slice_get stmts at) ≡ false → Affords c.budget budget 1
+pub other_begins : (c c' : Execution) (stmts : List Stmt) (at : ℕ) (budget : Budget) → at < length stmts → is_left (slice_get stmts at) ≡ false → Affords c.budget budget 1
     → c' ≡ record { budget = budget; held = c.held; thread = c.thread; work = frame.Block stmts (at + 1) ∷ c.work } → Moves c.budget (remains c (want.Then (it.Block stmts at))) c' (want.Then (it.Begun stmts at))
 other_begins c c' stmts at budget within plain affords is =
     let s = c.thread.state in
@@ -273,7 +273,7 @@ return_stmt : (o : Option Stmt) (e : Expr) → returned_at o ≡ Some e → (stm
 return_stmt None e h = absurd (cc h)
 return_stmt (Some stmt) e h = (stmt, (refl, return_form (out-Stmt stmt) e h))
 
-pub returned_at_once : (c c' : Course) (stmts : List Stmt) (at : ℕ) (v : Value) (units : ℕ) (budget : Budget) → Returns stmts at c v units → Affords c.budget budget units
+pub returned_at_once : (c c' : Execution) (stmts : List Stmt) (at : ℕ) (v : Value) (units : ℕ) (budget : Budget) → Returns stmts at c v units → Affords c.budget budget units
     → c' ≡ record { budget = budget; held = c.held; thread = c.thread; work = c.work } → Moves c.budget (remains c (want.Then (it.Block stmts at))) c' (want.Go (Left (Return v)))
 returned_at_once c c' stmts at v units budget back affords is =
     let s = c.thread.state in
@@ -317,7 +317,7 @@ first_and_rest [] rest v h r = absurd (cc h)
 first_and_rest (u ∷ vs) rest v h r = ap (λ (x : Value). x ∷ vs) (some_same h) ∙ ap (λ (xs : List Value). v ∷ xs) (sym r)
 
 -- the first value is called with the others
-pub call_applied : (c c' : Course) (e : Expr) (vs others : List Value) (v : Value) → is_call (out-Expr e) ≡ true → slice_get vs 0 ≡ Some v → others ≡ remove vs 0
+pub call_applied : (c c' : Execution) (e : Expr) (vs others : List Value) (v : Value) → is_call (out-Expr e) ≡ true → slice_get vs 0 ≡ Some v → others ≡ remove vs 0
     → c' ≡ record { budget = c.budget; held = c.held; thread = c.thread; work = frame.Sized ∷ c.work } → remains c (want.Then (it.Apply e vs)) ≡ remains c' (want.Then (it.Call v others))
 call_applied c c' e vs others v h first behind is =
     let s = c.thread.state in
@@ -337,7 +337,7 @@ only (u ∷ []) v one h = ap (λ (x : Value). x ∷ []) (some_same h)
 only (u ∷ w ∷ vs) v one h = absurd (omega (arith, one))
 
 -- the attribute of the one value is read
-pub member_applied : (c c' : Course) (e : Expr) (vs : List Value) (v : Value) (x : List ℕ) → attribute_name (out-Expr e) ≡ Some x → length vs ≡ 1 → slice_get vs 0 ≡ Some v
+pub member_applied : (c c' : Execution) (e : Expr) (vs : List Value) (v : Value) (x : List ℕ) → attribute_name (out-Expr e) ≡ Some x → length vs ≡ 1 → slice_get vs 0 ≡ Some v
     → c' ≡ record { budget = c.budget; held = c.held; thread = c.thread; work = frame.Sized ∷ c.work } → remains c (want.Then (it.Apply e vs)) ≡ remains c' (want.Then (it.Member v x))
 member_applied c c' e vs v x name one first is =
     let s = c.thread.state in
@@ -352,7 +352,7 @@ operand_stmt None e h = absurd (cc h)
 operand_stmt (Some stmt) e h = (stmt, (refl, h))
 
 -- the first operand of a statement comes
-pub statement_begins : (c blocked ready : Course) (stmts : List Stmt) (at : ℕ) (operand : Expr) (none : List Value) (budget : Budget) → none ≡ [] → operand_at (slice_get stmts at) ≡ Some operand → Affords c.budget budget 1
+pub statement_begins : (c blocked ready : Execution) (stmts : List Stmt) (at : ℕ) (operand : Expr) (none : List Value) (budget : Budget) → none ≡ [] → operand_at (slice_get stmts at) ≡ Some operand → Affords c.budget budget 1
     → blocked ≡ record { budget = budget; held = c.held; thread = c.thread; work = frame.Block stmts (at + 1) ∷ c.work }
     → ready ≡ record { budget = blocked.budget; held = blocked.held; thread = blocked.thread; work = frame.Operands (Statement stmts at) none ∷ blocked.work }
     → Reaches c.budget (remains c (want.Then (it.Block stmts at))) ready.budget (remains ready (want.Then (it.Eval operand)))
@@ -362,7 +362,7 @@ statement_begins c blocked ready stmts at operand none budget empty first afford
     rw is (operands_begin c blocked stmts at found.0 operand operand none budget refl empty facts.0 facts.1 affords is-blocked)
 
 -- the test of a turn comes
-pub test_begins : (c ready : Course) (test test' : Expr) (body : List Stmt) (n m : ℕ) (budget : Budget) → m ≡ suc n → test' ≡ test → Affords c.budget budget 1
+pub test_begins : (c ready : Execution) (test test' : Expr) (body : List Stmt) (n m : ℕ) (budget : Budget) → m ≡ suc n → test' ≡ test → Affords c.budget budget 1
     → ready ≡ record { budget = budget; held = c.held; thread = c.thread; work = frame.Decide test body n ∷ c.work }
     → Reaches c.budget (remains c (want.Then (it.Turn test body m))) ready.budget (remains ready (want.Then (it.Eval test')))
 test_begins c ready test test' body n m budget more same affords is =

@@ -35,29 +35,29 @@ use Rattle.drive_straight.specs.declared.blocks.Operand.{Operand}
 use Rattle.drive_straight.specs.declared.blocks.Operand.TheVariants as operand
 use Rattle.drive_straight.specs.declared.coming.Use.{Use}
 use Rattle.drive_straight.specs.declared.coming.Use.TheVariants as uses
-use Rattle.drive_straight.specs.declared.course.Course.{Course}
+use Rattle.drive_straight.specs.declared.execution.Execution.{Execution}
 use Rattle.drive_straight.specs.declared.next.Next.{Next}
 use Rattle.drive_straight.specs.declared.next.Next.TheVariants as next
 
 -- nothing was done yet
-pub record Fresh (script fuel : ℕ) (c : Course) : Type 0 where
+pub record Fresh (script fuel : ℕ) (c : Execution) : Type 0 where
   pub budget : c.budget ≡ record { left = fuel; read = None; of_tree = false }
   pub held : held_in c.held ≡ []
   pub thread : c.thread ≡ record { left = 200; state = first_state script }
   pub work : c.work ≡ []
 
 -- what remains of a script that wants this
-abbrev pub remains : Course → Want → Run
+abbrev pub remains : Execution → Want → Run
 remains c want = want_does sources c.thread.left want (rest sources c.work) c.thread.state
 
 -- whatever script stood at `run` stands at what is wanted
-abbrev pub Moves : Budget → Run → Course → Want → Type 0
+abbrev pub Moves : Budget → Run → Execution → Want → Type 0
 Moves budget run c w = (files : Option Files) (whole : Run) (fuel : ℕ) (mine : List (Event × Reply))
     → At files whole fuel mine budget run → At files whole fuel mine c.budget (remains c w)
 
 -- what there is to do in a state, and then the work that waits
 abbrev pub Due : Type 0
-Due = Course → Run
+Due = Execution → Run
 
 -- a piece of work begins
 abbrev pub begins : Item → Due
@@ -92,12 +92,12 @@ abbrev pub comes : Expr → Given → Due
 comes e given c = given_does sources c.thread.left e given (rest sources c.work) c.thread.state
 
 -- whatever script stood at what was due stands at what comes next
-abbrev pub LeadsTo : Course → Due → Course → Next → Type 0
+abbrev pub LeadsTo : Execution → Due → Execution → Next → Type 0
 LeadsTo old was new next = (files : Option Files) (whole : Run) (fuel : ℕ) (mine : List (Event × Reply))
     → At files whole fuel mine old.budget (was old) → At files whole fuel mine new.budget (due next new)
 
 -- the same, if memory was not wanted
-abbrev pub Leads : Course → Due → Course → Result Next NoMemory → Type 0
+abbrev pub Leads : Execution → Due → Execution → Result Next NoMemory → Type 0
 Leads old was new r = IfOk r (LeadsTo old was new)
 
 -- so many units were paid: whatever script stood at a run that costs them stands where that goes on
@@ -106,13 +106,13 @@ Affords old new units = (files : Option Files) (whole : Run) (fuel : ℕ) (mine 
     → Costs units run next → At files whole fuel mine old run → At files whole fuel mine new next
 
 -- behind one unit more the expression has this value, for so many units in all
-abbrev pub IsValueOf : Expr → Course → Value → ℕ → Type 0
+abbrev pub IsValueOf : Expr → Execution → Value → ℕ → Type 0
 IsValueOf e c v units = (w : World) (next : Rest)
     → Costs units (pay 1 (want_does w c.thread.left (want.Then (it.Eval e)) next c.thread.state))
     (next c.thread.left (Went v) c.thread.state)
 
 -- what the expression of a statement comes to at once
-abbrev pub IsOperand : Expr → Course → Operand → Type 0
+abbrev pub IsOperand : Expr → Execution → Operand → Type 0
 IsOperand e c (operand.Value v units) = IsValueOf e c v units
 IsOperand e c (operand.Other found) = IfSome found (λ priced. Comes e c.thread priced)
 
@@ -135,7 +135,7 @@ returned_at None = None
 returned_at (Some stmt) = returned_of (out-Stmt stmt)
 
 -- the statement at the place returns the value of an expression that has it, for so many units in all
-pub record Returns (stmts : List Stmt) (at : ℕ) (c : Course) (v : Value) (units : ℕ) : Type 0 where
+pub record Returns (stmts : List Stmt) (at : ℕ) (c : Execution) (v : Value) (units : ℕ) : Type 0 where
   pub expr : Expr
   pub there : returned_at (slice_get stmts at) ≡ Some expr
   pub value : IsValueOf expr c v units
@@ -146,7 +146,7 @@ place_behind at true = at + 1
 place_behind at false = at
 
 -- whatever script stood at the statements from a place on stands behind the first of them, if that was done
-abbrev pub Did : Course → List Stmt → ℕ → Course → Bool → Type 0
+abbrev pub Did : Execution → List Stmt → ℕ → Execution → Bool → Type 0
 Did old stmts at new is_done =
     Moves old.budget (remains old (want.Then (it.Block stmts at))) new
     (want.Then (it.Block stmts (place_behind at is_done)))

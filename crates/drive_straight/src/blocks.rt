@@ -7,7 +7,7 @@ ghost use Rattle.drive_straight.specs.Remains.{Assigns, Did, IsOperand, Leads, R
 ghost use Rattle.drive_straight.specs.Remains.{first_operand, operand_at, returned_at, returned_of};
 
 use crate::choices::begin_other;
-use crate::course::Course;
+use crate::execution::Execution;
 use crate::expressions::evaluate;
 use crate::next::Next;
 use crate::paying::afford;
@@ -33,12 +33,12 @@ pub enum Operand {
 /// What the expression of a statement comes to at once.
 pub fn value_in_statement(
     alloc: Global,
-    course: &Course,
+    execution: &Execution,
     expr: &Shared<Expr>,
 ) -> Result<Operand, NoMemory>
-    ensures { IfOk result (λ operand. IsOperand expr.now course.now operand) }
+    ensures { IfOk result (λ operand. IsOperand expr.now execution.now operand) }
 {
-    match at_once(alloc, &course.thread, expr)? {
+    match at_once(alloc, &execution.thread, expr)? {
         None => Ok(Operand::Other(None)),
         Some(Priced { given, units }) => match given {
             Given::Value(value) => match units.checked_add(1) {
@@ -53,27 +53,27 @@ pub fn value_in_statement(
 /// A value is assigned to a local variable, if it has one at once. Whether it was.
 fn assign(
     alloc: Global,
-    course: &mut Course,
+    execution: &mut Execution,
     stmts: &Shared<Seq<Stmt>>,
     at: usize,
     name: &Text,
     value: &Shared<Expr>,
 ) -> Result<bool, NoMemory>
     requires form { Assigns stmts.now at name.now value.now }
-    ensures did { IfOk result (λ is_done. Did course.old stmts.now at course.new is_done) }
-    ensures held { course.new.held ≡ course.old.held }
+    ensures did { IfOk result (λ is_done. Did execution.old stmts.now at execution.new is_done) }
+    ensures held { execution.new.held ≡ execution.old.held }
 {
-    if !is_local_name(&course.thread, name) {
+    if !is_local_name(&execution.thread, name) {
         return Ok(false);
     }
-    match value_in_statement(alloc, course, value)? {
+    match value_in_statement(alloc, execution, value)? {
         Operand::Other(_) => Ok(false),
         Operand::Value(value, units) => {
             let name = name.copy()?;
-            if !afford(&mut course.budget, units) {
+            if !afford(&mut execution.budget, units) {
                 return Ok(false);
             }
-            set_local(&mut course.thread, name, value)?;
+            set_local(&mut execution.thread, name, value)?;
             Ok(true)
         }
     }
@@ -82,16 +82,16 @@ fn assign(
 /// A statement, if it can be done at once. Whether it was.
 fn statement(
     alloc: Global,
-    course: &mut Course,
+    execution: &mut Execution,
     stmts: &Shared<Seq<Stmt>>,
     at: usize,
 ) -> Result<bool, NoMemory>
-    ensures did { IfOk result (λ is_done. Did course.old stmts.now at course.new is_done) }
-    ensures held { course.new.held ≡ course.old.held }
+    ensures did { IfOk result (λ is_done. Did execution.old stmts.now at execution.new is_done) }
+    ensures held { execution.new.held ≡ execution.old.held }
 {
     match stmts.get().get(at) {
         Some(Stmt::Assign(target, value)) => match target.get() {
-            Expr::Name(name) => assign(alloc, course, stmts, at, name, value),
+            Expr::Name(name) => assign(alloc, execution, stmts, at, name, value),
             _ => Ok(false),
         },
         _ => Ok(false),
@@ -116,17 +116,17 @@ fn first_operand(stmt: &Stmt) -> Option<&Shared<Expr>>
 /// paid.
 fn begin_operands(
     alloc: Global,
-    course: &mut Course,
+    execution: &mut Execution,
     stmts: Shared<Seq<Stmt>>,
     at: usize,
     operand: Shared<Expr>,
 ) -> Result<Next, NoMemory>
     requires within { at < length stmts }
     requires first { operand_at (slice_get stmts at) ≡ Some operand }
-    ensures moves { Leads course.old (begins (items.Block stmts at)) course.new result }
-    ensures held { course.new.held ≡ course.old.held }
+    ensures moves { Leads execution.old (begins (items.Block stmts at)) execution.new result }
+    ensures held { execution.new.held ≡ execution.old.held }
 {
-    if !afford(&mut course.budget, 1) {
+    if !afford(&mut execution.budget, 1) {
         return Ok(Next::Piece(Boxed::new(alloc, Item::Block { stmts, at })?));
     }
     let count = stmts.get().len();
@@ -135,13 +135,13 @@ fn begin_operands(
         stmts: stmts.share()?,
         at: at + 1,
     };
-    course.work.push(block)?;
+    execution.work.push(block)?;
     let operands = Frame::Operands {
         form: Form::Statement(stmts, at),
         done: Seq::new(alloc),
     };
-    course.work.push(operands)?;
-    evaluate(alloc, course, operand)
+    execution.work.push(operands)?;
+    evaluate(alloc, execution, operand)
 }
 
 /// The first operand of the statement at a place.
@@ -184,15 +184,15 @@ fn returned_at(stmts: &Seq<Stmt>, at: usize) -> Option<&Shared<Expr>>
 /// the statement.
 fn returned(
     alloc: Global,
-    course: &Course,
+    execution: &Execution,
     stmts: &Seq<Stmt>,
     at: usize,
 ) -> Result<Option<(Value, u64)>, NoMemory>
-    ensures { IfOk result (λ found. IfSome found (λ p. Returns stmts.now at course.now p.0 p.1)) }
+    ensures { IfOk result (λ found. IfSome found (λ p. Returns stmts.now at execution.now p.0 p.1)) }
 {
     match returned_at(stmts, at) {
         None => Ok(None),
-        Some(expr) => match value_in_statement(alloc, course, expr)? {
+        Some(expr) => match value_in_statement(alloc, execution, expr)? {
             Operand::Other(_) => Ok(None),
             Operand::Value(value, units) => Ok(Some((value, units))),
         },
@@ -202,17 +202,17 @@ fn returned(
 /// The statements of a block from a place on: the first one returns a value.
 fn leave_block(
     alloc: Global,
-    course: &mut Course,
+    execution: &mut Execution,
     stmts: Shared<Seq<Stmt>>,
     at: usize,
     value: Value,
     units: u64,
 ) -> Result<Next, NoMemory>
-    requires returned { Returns stmts at course.old value units }
-    ensures moves { Leads course.old (begins (items.Block stmts at)) course.new result }
-    ensures held { course.new.held ≡ course.old.held }
+    requires returned { Returns stmts at execution.old value units }
+    ensures moves { Leads execution.old (begins (items.Block stmts at)) execution.new result }
+    ensures held { execution.new.held ≡ execution.old.held }
 {
-    if !afford(&mut course.budget, units) {
+    if !afford(&mut execution.budget, units) {
         return Ok(Next::Piece(Boxed::new(alloc, Item::Block { stmts, at })?));
     }
     Ok(Next::Left(Leave::Return(value)))
@@ -221,37 +221,37 @@ fn leave_block(
 /// The statements of a block from a place on: the first one begins, at once if it can.
 fn begin_statement(
     alloc: Global,
-    course: &mut Course,
+    execution: &mut Execution,
     stmts: Shared<Seq<Stmt>>,
     at: usize,
 ) -> Result<Next, NoMemory>
     requires within { at < length stmts }
-    ensures moves { Leads course.old (begins (items.Block stmts at)) course.new result }
-    ensures held { course.new.held ≡ course.old.held }
+    ensures moves { Leads execution.old (begins (items.Block stmts at)) execution.new result }
+    ensures held { execution.new.held ≡ execution.old.held }
 {
-    if let Some((value, units)) = returned(alloc, course, stmts.get(), at)? {
-        return leave_block(alloc, course, stmts, at, value, units);
+    if let Some((value, units)) = returned(alloc, execution, stmts.get(), at)? {
+        return leave_block(alloc, execution, stmts, at, value, units);
     }
     match operand_at(stmts.get(), at)? {
-        None => begin_other(alloc, course, stmts, at),
-        Some(operand) => begin_operands(alloc, course, stmts, at, operand),
+        None => begin_other(alloc, execution, stmts, at),
+        Some(operand) => begin_operands(alloc, execution, stmts, at, operand),
     }
 }
 
 /// The statements of a block from a place on, for as long as they can be done at once.
 pub fn block(
     alloc: Global,
-    course: &mut Course,
+    execution: &mut Execution,
     stmts: Shared<Seq<Stmt>>,
     first: usize,
 ) -> Result<Next, NoMemory>
-    ensures moves { Leads course.old (begins (items.Block stmts first)) course.new result }
-    ensures held { course.new.held ≡ course.old.held }
+    ensures moves { Leads execution.old (begins (items.Block stmts first)) execution.new result }
+    ensures held { execution.new.held ≡ execution.old.held }
 {
     let mut at = first;
     'statements: while at < stmts.get().len() {
-        if !statement(alloc, course, &stmts, at)? {
-            return begin_statement(alloc, course, stmts, at);
+        if !statement(alloc, execution, &stmts, at)? {
+            return begin_statement(alloc, execution, stmts, at);
         }
         at += 1;
     }

@@ -3,7 +3,7 @@ ghost use Rattle.std.specs.Prelude.{◌≡◌, ◌<◌, IfOk, IfSome, length, sl
 ghost use Rattle.py_frames.specs.declared.work.Item.TheVariants as items;
 ghost use Rattle.drive_straight.specs.Remains.{IsIf, Leads, begins, is_left};
 
-use crate::course::Course;
+use crate::execution::Execution;
 use crate::next::Next;
 use crate::paying::afford;
 use base_owners::{Boxed, Shared};
@@ -15,7 +15,7 @@ use std::alloc::Global;
 /// The statements of a block from a place on, of which the first is an `if`: its unit is paid, and its branches come.
 fn begin_if(
     alloc: Global,
-    course: &mut Course,
+    execution: &mut Execution,
     stmts: Shared<Seq<Stmt>>,
     at: usize,
     branches: Shared<Seq<Branch>>,
@@ -23,15 +23,15 @@ fn begin_if(
 ) -> Result<Next, NoMemory>
     requires within { at < length stmts }
     requires form { IsIf stmts at branches otherwise }
-    ensures moves { Leads course.old (begins (items.Block stmts at)) course.new result }
-    ensures held { course.new.held ≡ course.old.held }
+    ensures moves { Leads execution.old (begins (items.Block stmts at)) execution.new result }
+    ensures held { execution.new.held ≡ execution.old.held }
 {
-    if !afford(&mut course.budget, 1) {
+    if !afford(&mut execution.budget, 1) {
         return Ok(Next::Piece(Boxed::new(alloc, Item::Block { stmts, at })?));
     }
     let count = stmts.get().len();
     prove!(at < count);
-    course.work.push(Frame::Block { stmts, at: at + 1 })?;
+    execution.work.push(Frame::Block { stmts, at: at + 1 })?;
     let item = Item::Branches {
         branches,
         at: 0,
@@ -68,18 +68,18 @@ fn is_left(stmts: &Seq<Stmt>, at: usize) -> bool
 /// piece.
 fn begin_paid(
     alloc: Global,
-    course: &mut Course,
+    execution: &mut Execution,
     stmts: Shared<Seq<Stmt>>,
     at: usize,
 ) -> Result<Next, NoMemory>
     requires within { at < length stmts }
-    ensures moves { Leads course.old (begins (items.Block stmts at)) course.new result }
-    ensures held { course.new.held ≡ course.old.held }
+    ensures moves { Leads execution.old (begins (items.Block stmts at)) execution.new result }
+    ensures held { execution.new.held ≡ execution.old.held }
 {
     if is_left(stmts.get(), at) {
         return Ok(Next::Piece(Boxed::new(alloc, Item::Block { stmts, at })?));
     }
-    if !afford(&mut course.budget, 1) {
+    if !afford(&mut execution.budget, 1) {
         return Ok(Next::Piece(Boxed::new(alloc, Item::Block { stmts, at })?));
     }
     let count = stmts.get().len();
@@ -88,23 +88,23 @@ fn begin_paid(
         stmts: stmts.share()?,
         at: at + 1,
     };
-    course.work.push(block)?;
+    execution.work.push(block)?;
     Ok(Next::Begun { stmts, at })
 }
 
 /// The statements of a block from a place on, of which the first does not begin with an operand.
 pub fn begin_other(
     alloc: Global,
-    course: &mut Course,
+    execution: &mut Execution,
     stmts: Shared<Seq<Stmt>>,
     at: usize,
 ) -> Result<Next, NoMemory>
     requires within { at < length stmts }
-    ensures moves { Leads course.old (begins (items.Block stmts at)) course.new result }
-    ensures held { course.new.held ≡ course.old.held }
+    ensures moves { Leads execution.old (begins (items.Block stmts at)) execution.new result }
+    ensures held { execution.new.held ≡ execution.old.held }
 {
     match if_at(stmts.get(), at)? {
-        None => begin_paid(alloc, course, stmts, at),
-        Some((branches, otherwise)) => begin_if(alloc, course, stmts, at, branches, otherwise),
+        None => begin_paid(alloc, execution, stmts, at),
+        Some((branches, otherwise)) => begin_if(alloc, execution, stmts, at, branches, otherwise),
     }
 }

@@ -5,8 +5,8 @@ ghost use Rattle.py_frames.specs.declared.work.Form.TheVariants.{Statement};
 ghost use Rattle.py_frames.specs.declared.work.Frame.TheVariants as frames;
 ghost use Rattle.drive_straight.specs.Remains.{Leads, comes, gives, goes_on, use_at};
 
-use crate::course::Course;
 use crate::deciding::{decide, pick};
+use crate::execution::Execution;
 use crate::names::reach;
 use crate::next::Next;
 use base_owners::{Boxed, Shared};
@@ -52,15 +52,15 @@ fn use_at(stmts: &Seq<Stmt>, at: usize) -> Result<Use, NoMemory>
 /// The value of an operand of a statement came: the statement is done, if that is all that it needs.
 pub fn resume_statement(
     alloc: Global,
-    course: &mut Course,
+    execution: &mut Execution,
     stmts: Shared<Seq<Stmt>>,
     at: usize,
     done: Seq<Value>,
     value: Value,
 ) -> Result<Next, NoMemory>
-    ensures moves { Leads course.old (goes_on (frames.Operands (Statement stmts at) done) (Went value))
-        course.new result }
-    ensures held { course.new.held ≡ course.old.held }
+    ensures moves { Leads execution.old (goes_on (frames.Operands (Statement stmts at) done) (Went value))
+        execution.new result }
+    ensures held { execution.new.held ≡ execution.old.held }
 {
     if !done.is_empty() {
         let form = Form::Statement(stmts, at);
@@ -89,21 +89,23 @@ pub fn resume_statement(
 }
 
 /// A value comes to what waits for it: a statement, or a test.
-pub fn give(alloc: Global, course: &mut Course, value: Value) -> Result<Next, NoMemory>
-    ensures moves { Leads course.old (gives value) course.new result }
-    ensures held { course.new.held ≡ course.old.held }
+pub fn give(alloc: Global, execution: &mut Execution, value: Value) -> Result<Next, NoMemory>
+    ensures moves { Leads execution.old (gives value) execution.new result }
+    ensures held { execution.new.held ≡ execution.old.held }
 {
-    match course.work.pop() {
+    match execution.work.pop() {
         None => Ok(Next::Went(value)),
         Some(Frame::Operands { form, done }) => match form {
-            Form::Statement(stmts, at) => resume_statement(alloc, course, stmts, at, done, value),
+            Form::Statement(stmts, at) => resume_statement(
+                alloc, execution, stmts, at, done, value,
+            ),
             form => {
-                course.work.push(Frame::Operands { form, done })?;
+                execution.work.push(Frame::Operands { form, done })?;
                 Ok(Next::Went(value))
             }
         },
         Some(Frame::Decide { test, body, turns }) => decide(
-            alloc, course, test, body, turns, value,
+            alloc, execution, test, body, turns, value,
         ),
         Some(
             Frame::Test {
@@ -111,9 +113,9 @@ pub fn give(alloc: Global, course: &mut Course, value: Value) -> Result<Next, No
                 at,
                 otherwise,
             },
-        ) => pick(alloc, course, branches, at, otherwise, value),
+        ) => pick(alloc, execution, branches, at, otherwise, value),
         Some(frame) => {
-            course.work.push(frame)?;
+            execution.work.push(frame)?;
             Ok(Next::Went(value))
         }
     }
@@ -122,20 +124,20 @@ pub fn give(alloc: Global, course: &mut Course, value: Value) -> Result<Next, No
 /// What an expression came to comes to what waits for it.
 pub fn come(
     alloc: Global,
-    course: &mut Course,
+    execution: &mut Execution,
     expr: Shared<Expr>,
     given: Given,
 ) -> Result<Next, NoMemory>
-    ensures moves { Leads course.old (comes expr given) course.new result }
-    ensures held { course.new.held ≡ course.old.held }
+    ensures moves { Leads execution.old (comes expr given) execution.new result }
+    ensures held { execution.new.held ≡ execution.old.held }
 {
     match given {
-        Given::Value(value) => give(alloc, course, value),
+        Given::Value(value) => give(alloc, execution, value),
         Given::Raised(error) => Ok(Next::Left(Leave::Raised(error))),
         Given::Waits(operand, done) => {
             let form = Form::Expression(expr);
-            course.work.push(Frame::Operands { form, done })?;
-            reach(alloc, course, operand)
+            execution.work.push(Frame::Operands { form, done })?;
+            reach(alloc, execution, operand)
         }
     }
 }

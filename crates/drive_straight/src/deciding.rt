@@ -4,7 +4,7 @@ ghost use Rattle.meaning_state.specs.declared.flow.Flow.TheVariants.{Went};
 ghost use Rattle.py_frames.specs.declared.work.Frame.TheVariants as frames;
 ghost use Rattle.drive_straight.specs.Remains.{Leads, goes_on};
 
-use crate::course::Course;
+use crate::execution::Execution;
 use crate::next::Next;
 use base_owners::{Boxed, Shared};
 use base_types::{NoMemory, Seq};
@@ -17,14 +17,14 @@ use std::alloc::Global;
 /// The test of a loop has a value: its block comes, or its end.
 pub fn decide(
     alloc: Global,
-    course: &mut Course,
+    execution: &mut Execution,
     test: Shared<Expr>,
     body: Shared<Seq<Stmt>>,
     turns: u64,
     value: Value,
 ) -> Result<Next, NoMemory>
-    ensures moves { Leads course.old (goes_on (frames.Decide test body turns) (Went value)) course.new result }
-    ensures held { course.new.held ≡ course.old.held }
+    ensures moves { Leads execution.old (goes_on (frames.Decide test body turns) (Went value)) execution.new result }
+    ensures held { execution.new.held ≡ execution.old.held }
 {
     if is_listed(&value) {
         let frame = Frame::Decide { test, body, turns };
@@ -34,23 +34,24 @@ pub fn decide(
         return Ok(Next::Went(Value::Nothing));
     }
     let stmts = body.share()?;
-    course.work.push(Frame::Loop { test, body, turns })?;
+    execution.work.push(Frame::Loop { test, body, turns })?;
     Ok(Next::Block(stmts))
 }
 
 /// The test of a branch has a value: its block comes. Where it does not hold the branch is passed as any other.
 pub fn pick(
     alloc: Global,
-    course: &mut Course,
+    execution: &mut Execution,
     branches: Shared<Seq<Branch>>,
     at: usize,
     otherwise: Shared<Seq<Stmt>>,
     value: Value,
 ) -> Result<Next, NoMemory>
-    ensures moves { Leads course.old (goes_on (frames.Test branches at otherwise) (Went value)) course.new result }
-    ensures held { course.new.held ≡ course.old.held }
+    ensures moves { Leads execution.old (goes_on (frames.Test branches at otherwise) (Went value))
+        execution.new result }
+    ensures held { execution.new.held ≡ execution.old.held }
 {
-    let _ = course;
+    let _ = execution;
     if is_listed(&value) || !truth(&value) {
         let frame = Frame::Test {
             branches,

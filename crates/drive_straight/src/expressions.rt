@@ -6,7 +6,7 @@ ghost use Rattle.step_straight.specs.Comes.{Comes};
 ghost use Rattle.drive_straight.specs.Remains.{Leads, begins, is_attribute, is_operated};
 
 use crate::coming::come;
-use crate::course::Course;
+use crate::execution::Execution;
 use crate::gathering::gather;
 use crate::names::ask;
 use crate::next::Next;
@@ -41,43 +41,47 @@ fn is_operated(expr: &Expr) -> bool
 }
 
 /// An expression that has no value at once: its operands come, or the name is asked for.
-fn begin(alloc: Global, course: &mut Course, expr: Shared<Expr>) -> Result<Next, NoMemory>
-    ensures moves { Leads course.old (begins (items.Eval expr)) course.new result }
-    ensures held { course.new.held ≡ course.old.held }
+fn begin(alloc: Global, execution: &mut Execution, expr: Shared<Expr>) -> Result<Next, NoMemory>
+    ensures moves { Leads execution.old (begins (items.Eval expr)) execution.new result }
+    ensures held { execution.new.held ≡ execution.old.held }
 {
     if is_operated(expr.get()) {
-        return gather(alloc, course, expr, Seq::new(alloc));
+        return gather(alloc, execution, expr, Seq::new(alloc));
     }
-    ask(alloc, course, expr)
+    ask(alloc, execution, expr)
 }
 
 /// An expression, of which it was found what it comes to at once, if it comes to anything.
 pub fn take(
     alloc: Global,
-    course: &mut Course,
+    execution: &mut Execution,
     expr: Shared<Expr>,
     found: Option<Priced>,
 ) -> Result<Next, NoMemory>
-    requires found { IfSome found (λ priced. Comes expr course.old.thread priced) }
-    ensures moves { Leads course.old (begins (items.Eval expr)) course.new result }
-    ensures held { course.new.held ≡ course.old.held }
+    requires found { IfSome found (λ priced. Comes expr execution.old.thread priced) }
+    ensures moves { Leads execution.old (begins (items.Eval expr)) execution.new result }
+    ensures held { execution.new.held ≡ execution.old.held }
 {
     match found {
-        None => begin(alloc, course, expr),
+        None => begin(alloc, execution, expr),
         Some(Priced { given, units }) => {
-            if !afford(&mut course.budget, units) {
+            if !afford(&mut execution.budget, units) {
                 return Ok(Next::Piece(Boxed::new(alloc, Item::Eval(expr))?));
             }
-            come(alloc, course, expr, given)
+            come(alloc, execution, expr, given)
         }
     }
 }
 
 /// An expression, at once if it can be.
-pub fn evaluate(alloc: Global, course: &mut Course, expr: Shared<Expr>) -> Result<Next, NoMemory>
-    ensures moves { Leads course.old (begins (items.Eval expr)) course.new result }
-    ensures held { course.new.held ≡ course.old.held }
+pub fn evaluate(
+    alloc: Global,
+    execution: &mut Execution,
+    expr: Shared<Expr>,
+) -> Result<Next, NoMemory>
+    ensures moves { Leads execution.old (begins (items.Eval expr)) execution.new result }
+    ensures held { execution.new.held ≡ execution.old.held }
 {
-    let found = at_once(alloc, &course.thread, &expr)?;
-    take(alloc, course, expr, found)
+    let found = at_once(alloc, &execution.thread, &expr)?;
+    take(alloc, execution, expr, found)
 }

@@ -8,7 +8,7 @@ ghost use Rattle.py_frames.specs.declared.work.Item.TheVariants as items;
 ghost use Rattle.drive_straight.specs.Remains.{Leads, attribute_name, begins};
 ghost use Rattle.step_expressions.specs.OperatorForms.{is_call};
 
-use crate::course::Course;
+use crate::execution::Execution;
 use crate::names::reach;
 use crate::next::Next;
 use crate::paying::afford;
@@ -44,17 +44,17 @@ fn operand_of(expr: &Expr, at: usize) -> Option<&Shared<Expr>>
 }
 
 /// A call whose operands have values, and whose unit is paid.
-fn call(course: &mut Course, expr: Shared<Expr>, values: Seq<Value>) -> Result<Next, NoMemory>
+fn call(execution: &mut Execution, expr: Shared<Expr>, values: Seq<Value>) -> Result<Next, NoMemory>
     requires form { is_call (out-Expr expr) ≡ true }
-    ensures moves { Leads course.old (begins (items.Apply expr values)) course.new result }
-    ensures held { course.new.held ≡ course.old.held }
+    ensures moves { Leads execution.old (begins (items.Apply expr values)) execution.new result }
+    ensures held { execution.new.held ≡ execution.old.held }
 {
     if values.is_empty() {
         return Ok(Next::Apply { expr, values });
     }
     let mut arguments = values;
     let callee = arguments.remove(0);
-    course.work.push(Frame::Sized)?;
+    execution.work.push(Frame::Sized)?;
     Ok(Next::Call { callee, arguments })
 }
 
@@ -79,14 +79,14 @@ fn attribute_name(expr: &Expr) -> Option<&Text>
 
 /// An attribute whose object has a value, and whose unit is paid. That of a module is asked for.
 fn member(
-    course: &mut Course,
+    execution: &mut Execution,
     expr: Shared<Expr>,
     name: Text,
     values: Seq<Value>,
 ) -> Result<Next, NoMemory>
     requires form { attribute_name (out-Expr expr) ≡ Some name }
-    ensures moves { Leads course.old (begins (items.Apply expr values)) course.new result }
-    ensures held { course.new.held ≡ course.old.held }
+    ensures moves { Leads execution.old (begins (items.Apply expr values)) execution.new result }
+    ensures held { execution.new.held ≡ execution.old.held }
 {
     if values.len() != 1 {
         return Ok(Next::Apply { expr, values });
@@ -95,33 +95,33 @@ fn member(
         Some(Value::Module(module)) => module.copy()?,
         _ => return Ok(Next::Apply { expr, values }),
     };
-    course.work.push(Frame::Sized)?;
+    execution.work.push(Frame::Sized)?;
     Ok(Next::Member(module, name))
 }
 
 /// All operands have values: the unit of the expression is paid, and it is applied to them.
 fn apply(
     alloc: Global,
-    course: &mut Course,
+    execution: &mut Execution,
     expr: Shared<Expr>,
     values: Seq<Value>,
 ) -> Result<Next, NoMemory>
     requires all { slice_get (operands_at (out-Expr expr)) (length values) ≡ None }
-    ensures moves { Leads course.old (begins (items.Operands (Expression expr) values)) course.new result }
-    ensures held { course.new.held ≡ course.old.held }
+    ensures moves { Leads execution.old (begins (items.Operands (Expression expr) values)) execution.new result }
+    ensures held { execution.new.held ≡ execution.old.held }
 {
-    if !afford(&mut course.budget, 1) {
+    if !afford(&mut execution.budget, 1) {
         let form = Form::Expression(expr);
         return Ok(Next::Piece(Boxed::new(alloc, Item::Operands { form, done: values })?));
     }
     if is_call(expr.get()) {
-        return call(course, expr, values);
+        return call(execution, expr, values);
     }
     match attribute_name(expr.get()) {
         None => Ok(Next::Apply { expr, values }),
         Some(name) => {
             let name = name.copy()?;
-            member(course, expr, name, values)
+            member(execution, expr, name, values)
         }
     }
 }
@@ -130,24 +130,24 @@ fn apply(
 /// expression. Each is paid for when it has its value.
 pub fn gather(
     alloc: Global,
-    course: &mut Course,
+    execution: &mut Execution,
     expr: Shared<Expr>,
     done: Seq<Value>,
 ) -> Result<Next, NoMemory>
-    ensures moves { Leads course.old (begins (items.Operands (Expression expr) done)) course.new result }
-    ensures held { course.new.held ≡ course.old.held }
+    ensures moves { Leads execution.old (begins (items.Operands (Expression expr) done)) execution.new result }
+    ensures held { execution.new.held ≡ execution.old.held }
 {
     let mut values = done;
     'operands: while let Some(operand) = operand_of(expr.get(), values.len()) {
-        match atom(alloc, &course.thread, operand.get())? {
+        match atom(alloc, &execution.thread, operand.get())? {
             None => {
                 let operand = operand.share()?;
                 let form = Form::Expression(expr);
-                course.work.push(Frame::Operands { form, done: values })?;
-                return reach(alloc, course, operand);
+                execution.work.push(Frame::Operands { form, done: values })?;
+                return reach(alloc, execution, operand);
             }
             Some(bought) => {
-                if !afford(&mut course.budget, bought.units) {
+                if !afford(&mut execution.budget, bought.units) {
                     let form = Form::Expression(expr);
                     return Ok(Next::Piece(Boxed::new(
                         alloc,
@@ -158,5 +158,5 @@ pub fn gather(
             }
         }
     }
-    apply(alloc, course, expr, values)
+    apply(alloc, execution, expr, values)
 }

@@ -6,8 +6,8 @@
 mod blocks;
 mod choices;
 mod coming;
-mod course;
 mod deciding;
+mod execution;
 mod expressions;
 mod gathering;
 mod loops;
@@ -17,8 +17,8 @@ mod paying;
 mod resuming;
 
 pub use blocks::block;
-pub use course::Course;
 pub use deciding::decide;
+pub use execution::Execution;
 pub use expressions::evaluate;
 pub use loops::turn;
 pub use next::Next;

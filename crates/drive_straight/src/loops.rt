@@ -5,7 +5,7 @@ ghost use Rattle.step_straight.specs.Comes.{Comes};
 ghost use Rattle.drive_straight.specs.Remains.{Leads, begins};
 
 use crate::blocks::{Operand, block, value_in_statement};
-use crate::course::Course;
+use crate::execution::Execution;
 use crate::expressions::take;
 use crate::next::Next;
 use crate::paying::afford;
@@ -21,47 +21,47 @@ use step_straight::Priced;
 /// comes to at once, if it comes to anything.
 fn begin_test(
     alloc: Global,
-    course: &mut Course,
+    execution: &mut Execution,
     test: Shared<Expr>,
     body: Shared<Seq<Stmt>>,
     turns: u64,
     found: Option<Priced>,
 ) -> Result<Next, NoMemory>
     requires some { 0 < turns }
-    requires found { IfSome found (λ priced. Comes test course.old.thread priced) }
-    ensures moves { Leads course.old (begins (items.Turn test body turns)) course.new result }
-    ensures held { course.new.held ≡ course.old.held }
+    requires found { IfSome found (λ priced. Comes test execution.old.thread priced) }
+    ensures moves { Leads execution.old (begins (items.Turn test body turns)) execution.new result }
+    ensures held { execution.new.held ≡ execution.old.held }
 {
-    if !afford(&mut course.budget, 1) {
+    if !afford(&mut execution.budget, 1) {
         return Ok(Next::Piece(Boxed::new(alloc, Item::Turn { test, body, turns })?));
     }
     let expr = test.share()?;
     let turns = turns - 1;
-    course.work.push(Frame::Decide { test, body, turns })?;
-    take(alloc, course, expr, found)
+    execution.work.push(Frame::Decide { test, body, turns })?;
+    take(alloc, execution, expr, found)
 }
 
 /// A turn of a loop that can take so many: its test, and then its block, at once if they can be.
 pub fn turn(
     alloc: Global,
-    course: &mut Course,
+    execution: &mut Execution,
     test: Shared<Expr>,
     body: Shared<Seq<Stmt>>,
     turns: u64,
 ) -> Result<Next, NoMemory>
-    ensures moves { Leads course.old (begins (items.Turn test body turns)) course.new result }
-    ensures held { course.new.held ≡ course.old.held }
+    ensures moves { Leads execution.old (begins (items.Turn test body turns)) execution.new result }
+    ensures held { execution.new.held ≡ execution.old.held }
 {
     if turns == 0 {
         return Ok(Next::Piece(Boxed::new(alloc, Item::Turn { test, body, turns })?));
     }
-    match value_in_statement(alloc, course, &test)? {
-        Operand::Other(found) => begin_test(alloc, course, test, body, turns, found),
+    match value_in_statement(alloc, execution, &test)? {
+        Operand::Other(found) => begin_test(alloc, execution, test, body, turns, found),
         Operand::Value(value, units) => {
             if is_listed(&value) {
                 return Ok(Next::Piece(Boxed::new(alloc, Item::Turn { test, body, turns })?));
             }
-            if !afford(&mut course.budget, units) {
+            if !afford(&mut execution.budget, units) {
                 return Ok(Next::Piece(Boxed::new(alloc, Item::Turn { test, body, turns })?));
             }
             if !truth(&value) {
@@ -69,8 +69,8 @@ pub fn turn(
             }
             let stmts = body.share()?;
             let turns = turns - 1;
-            course.work.push(Frame::Loop { test, body, turns })?;
-            block(alloc, course, stmts, 0)
+            execution.work.push(Frame::Loop { test, body, turns })?;
+            block(alloc, execution, stmts, 0)
         }
     }
 }

@@ -8,7 +8,7 @@ ghost use Rattle.step_straight.specs.Comes.{Resumes};
 
 use crate::blocks::block;
 use crate::coming::{come, give, resume_statement};
-use crate::course::Course;
+use crate::execution::Execution;
 use crate::gathering::gather;
 use crate::loops::turn;
 use crate::next::Next;
@@ -25,53 +25,53 @@ use step_straight::{Priced, with_left, with_right};
 /// A statement of a block came to its end: the next ones follow.
 pub fn resume_block(
     alloc: Global,
-    course: &mut Course,
+    execution: &mut Execution,
     stmts: Shared<Seq<Stmt>>,
     at: usize,
     value: Value,
 ) -> Result<Next, NoMemory>
-    ensures moves { Leads course.old (goes_on (frames.Block stmts at) (Went value)) course.new result }
-    ensures held { course.new.held ≡ course.old.held }
+    ensures moves { Leads execution.old (goes_on (frames.Block stmts at) (Went value)) execution.new result }
+    ensures held { execution.new.held ≡ execution.old.held }
 {
     drop(value);
-    block(alloc, course, stmts, at)
+    block(alloc, execution, stmts, at)
 }
 
 /// The block of a loop came to its end: the next turn follows.
 pub fn resume_loop(
     alloc: Global,
-    course: &mut Course,
+    execution: &mut Execution,
     test: Shared<Expr>,
     body: Shared<Seq<Stmt>>,
     turns: u64,
     value: Value,
 ) -> Result<Next, NoMemory>
-    ensures moves { Leads course.old (goes_on (frames.Loop test body turns) (Went value)) course.new result }
-    ensures held { course.new.held ≡ course.old.held }
+    ensures moves { Leads execution.old (goes_on (frames.Loop test body turns) (Went value)) execution.new result }
+    ensures held { execution.new.held ≡ execution.old.held }
 {
     drop(value);
-    turn(alloc, course, test, body, turns)
+    turn(alloc, execution, test, body, turns)
 }
 
 /// What an operator on two operands comes to, where the value of one is here and the others were gathered before. None
 /// where it is to be done piece by piece.
 fn operator(
     alloc: Global,
-    course: &Course,
+    execution: &Execution,
     expr: &Shared<Expr>,
     done: &Seq<Value>,
     value: &Value,
 ) -> Result<Option<Priced>, NoMemory>
     ensures { IfOk result (λ found. IfSome found (λ priced.
-        Resumes expr.now done.now value.now course.now.thread priced)) }
+        Resumes expr.now done.now value.now execution.now.thread priced)) }
 {
     match done.get(0) {
-        None => with_left(alloc, &course.thread, expr, value),
+        None => with_left(alloc, &execution.thread, expr, value),
         Some(left) => {
             if done.len() != 1 {
                 return Ok(None);
             }
-            with_right(alloc, &course.thread, expr, left, value)
+            with_right(alloc, &execution.thread, expr, left, value)
         }
     }
 }
@@ -79,29 +79,30 @@ fn operator(
 /// The value of an operand of an expression came: an operator on two operands follows at once, if it can.
 fn resume_expression(
     alloc: Global,
-    course: &mut Course,
+    execution: &mut Execution,
     expr: Shared<Expr>,
     done: Seq<Value>,
     value: Value,
 ) -> Result<Next, NoMemory>
-    ensures moves { Leads course.old (goes_on (frames.Operands (Expression expr) done) (Went value)) course.new result }
-    ensures held { course.new.held ≡ course.old.held }
+    ensures moves { Leads execution.old (goes_on (frames.Operands (Expression expr) done) (Went value))
+        execution.new result }
+    ensures held { execution.new.held ≡ execution.old.held }
 {
-    match operator(alloc, course, &expr, &done, &value)? {
+    match operator(alloc, execution, &expr, &done, &value)? {
         None => {
             let mut values = done;
             values.push(value)?;
-            gather(alloc, course, expr, values)
+            gather(alloc, execution, expr, values)
         }
         Some(Priced { given, units }) => {
-            if !afford(&mut course.budget, units) {
+            if !afford(&mut execution.budget, units) {
                 let form = Form::Expression(expr);
                 return Ok(Next::Frame(Boxed::new(
                     alloc,
                     (Frame::Operands { form, done }, Flow::Went(value)),
                 )?));
             }
-            come(alloc, course, expr, given)
+            come(alloc, execution, expr, given)
         }
     }
 }
@@ -109,17 +110,17 @@ fn resume_expression(
 /// The value of an operand came.
 pub fn resume_operand(
     alloc: Global,
-    course: &mut Course,
+    execution: &mut Execution,
     form: Form,
     done: Seq<Value>,
     value: Value,
 ) -> Result<Next, NoMemory>
-    ensures moves { Leads course.old (goes_on (frames.Operands form done) (Went value)) course.new result }
-    ensures held { course.new.held ≡ course.old.held }
+    ensures moves { Leads execution.old (goes_on (frames.Operands form done) (Went value)) execution.new result }
+    ensures held { execution.new.held ≡ execution.old.held }
 {
     match form {
-        Form::Expression(expr) => resume_expression(alloc, course, expr, done, value),
-        Form::Statement(stmts, at) => resume_statement(alloc, course, stmts, at, done, value),
+        Form::Expression(expr) => resume_expression(alloc, execution, expr, done, value),
+        Form::Statement(stmts, at) => resume_statement(alloc, execution, stmts, at, done, value),
         form => Ok(Next::Frame(Boxed::new(
             alloc,
             (Frame::Operands { form, done }, Flow::Went(value)),
@@ -128,27 +129,31 @@ pub fn resume_operand(
 }
 
 /// A value comes to what waits for it: an operand of an expression, or what a statement or a test waits for.
-fn give_operand(alloc: Global, course: &mut Course, value: Value) -> Result<Next, NoMemory>
-    ensures moves { Leads course.old (gives value) course.new result }
-    ensures held { course.new.held ≡ course.old.held }
+fn give_operand(alloc: Global, execution: &mut Execution, value: Value) -> Result<Next, NoMemory>
+    ensures moves { Leads execution.old (gives value) execution.new result }
+    ensures held { execution.new.held ≡ execution.old.held }
 {
-    match course.work.pop() {
+    match execution.work.pop() {
         None => Ok(Next::Went(value)),
-        Some(Frame::Operands { form, done }) => resume_operand(alloc, course, form, done, value),
+        Some(Frame::Operands { form, done }) => resume_operand(alloc, execution, form, done, value),
         Some(frame) => {
-            course.work.push(frame)?;
-            give(alloc, course, value)
+            execution.work.push(frame)?;
+            give(alloc, execution, value)
         }
     }
 }
 
 /// The size of a value is paid.
-pub fn resume_sized(alloc: Global, course: &mut Course, value: Value) -> Result<Next, NoMemory>
-    ensures moves { Leads course.old (goes_on frames.Sized (Went value)) course.new result }
-    ensures held { course.new.held ≡ course.old.held }
+pub fn resume_sized(
+    alloc: Global,
+    execution: &mut Execution,
+    value: Value,
+) -> Result<Next, NoMemory>
+    ensures moves { Leads execution.old (goes_on frames.Sized (Went value)) execution.new result }
+    ensures held { execution.new.held ≡ execution.old.held }
 {
-    if !afford(&mut course.budget, size(&value)) {
+    if !afford(&mut execution.budget, size(&value)) {
         return Ok(Next::Frame(Boxed::new(alloc, (Frame::Sized, Flow::Went(value)))?));
     }
-    give_operand(alloc, course, value)
+    give_operand(alloc, execution, value)
 }

@@ -15,8 +15,8 @@ use Rattle.meaning_runs.specs.Runs.{Run, Looks, looks, Question, Answer, StampOf
 use Rattle.drive_account.specs.At.{At}
 use Rattle.meaning_script.specs.Imports.{opens}
 use Rattle.py_run.specs.Turns.{Turned, Looked, IsFileStamp}
-use Rattle.drive_straight.specs.declared.course.Course.{Course}
-use Rattle.py_run.specs.declared.course.Turn.{Turn}
+use Rattle.drive_straight.specs.declared.execution.Execution.{Execution}
+use Rattle.py_run.specs.declared.turns.Turn.{Turn}
 use Rattle.drive_account.specs.declared.payments.Budget.{Budget}
 
 -- where something is looked up the script goes on by what the tree told
@@ -60,12 +60,12 @@ if_some None f h = tt
 if_some (Some x) f h = f x h
 
 -- over a tree that told something, and is as it was
-pub turned_over : (files files' : Option Files) (failed failed' last : ℕ) (mine : List (Event × Reply)) (budget : Budget) (after : Course) (run : Run) (t : Turn) → files' ≡ files → failed' ≡ failed
+pub turned_over : (files files' : Option Files) (failed failed' last : ℕ) (mine : List (Event × Reply)) (budget : Budget) (after : Execution) (run : Run) (t : Turn) → files' ≡ files → failed' ≡ failed
     → Turned files' failed' last mine mine budget after run t → Turned files failed last mine mine budget after run t
 turned_over files files' failed failed' last mine budget after run t same count h =
     subst (λ (o : Option Files). Turned o failed last mine mine budget after run t) same (subst (λ (n : ℕ). Turned files' n last mine mine budget after run t) count h)
 
 -- by what stands at a path
-pub looked_by : (files : Option Files) (failed failed' : ℕ) (budget : Budget) (after : Course) (path : Path) (none : Run) (go : Option (List ℕ) → Run) (at at' : Stamp) (t : Turn)
+pub looked_by : (files : Option Files) (failed failed' : ℕ) (budget : Budget) (after : Execution) (path : Path) (none : Run) (go : Option (List ℕ) → Run) (at at' : Stamp) (t : Turn)
     → at ≡ at' → Looked files failed failed' budget after (opens path none go at') t → Looked files failed failed' budget after (opens path none go at) t
 looked_by files failed failed' budget after path none go at at' t is h = rw is h

@@ -17,12 +17,12 @@ use Rattle.drive_account.proofs.Staying.{stays_refl}
 use Rattle.drive_account.specs.declared.port.Halt.{Halt}
 use Rattle.drive_account.specs.declared.port.Halt.TheVariants as halts
 use Rattle.drive_account.specs.Asking.{Parted}
-use Rattle.drive_straight.specs.declared.course.Course.{Course}
+use Rattle.drive_straight.specs.declared.execution.Execution.{Execution}
 use Rattle.py_frames.specs.declared.replies.OnReply.{OnReply}
 use Rattle.py_frames.specs.declared.want.Want.TheVariants as want
 use Rattle.py_run.specs.Events.{MakesEvent}
 use Rattle.py_run.specs.Turns.{TurnedByEvent, Stepped, made, remains}
-use Rattle.py_run.specs.declared.course.Turn.{Turn}
+use Rattle.py_run.specs.declared.turns.Turn.{Turn}
 
 pub in_made : {files : Option Files} {whole : Run} {fuel : ℕ} (mine mine' : List (Event × Reply)) (budget : Budget) (event : Event) (reply : Reply) (next : Reply → Run)
     → mine' ≡ mine ++ (event, reply) ∷ [] → At files whole fuel mine budget (Makes event next) → StandsIn files whole fuel mine'
@@ -33,11 +33,11 @@ pub holds_woken : {S : Type 0} (old new : View S) (reply : Reply) (held : Held) 
 holds_woken old new reply held stays gains known = holds_made old new e.Wake reply held held stays gains known refl
 
 -- an event was made, or not, and its reply is known
-pub made_known : (mine mine' : List (Event × Reply)) (budget : Budget) (mid : Course) (run : Run) (on : OnReply) (r r' : Option Reply) → r ≡ r' → TurnedByEvent mine mine' budget mid run (made on r) → TurnedByEvent mine mine' budget mid run (made on r')
+pub made_known : (mine mine' : List (Event × Reply)) (budget : Budget) (mid : Execution) (run : Run) (on : OnReply) (r r' : Option Reply) → r ≡ r' → TurnedByEvent mine mine' budget mid run (made on r) → TurnedByEvent mine mine' budget mid run (made on r')
 made_known mine mine' budget mid run on r r' is was = subst (λ (r : Option Reply). TurnedByEvent mine mine' budget mid run (made on r)) is was
 
 -- an event was made, and then a turn led on
-pub made_on : (mine mine' : List (Event × Reply)) (budget : Budget) (mid new : Course) (run : Run) (on : OnReply) (reply : Reply) (t : Turn) → TurnedByEvent mine mine' budget mid run (made on (Some reply))
+pub made_on : (mine mine' : List (Event × Reply)) (budget : Budget) (mid new : Execution) (run : Run) (on : OnReply) (reply : Reply) (t : Turn) → TurnedByEvent mine mine' budget mid run (made on (Some reply))
     → Stepped mid.budget new (remains mid (want.Replied on reply)) t → TurnedByEvent mine mine' budget new run t
 made_on mine mine' budget mid new run on reply t was led files faults = record {
   moves = λ whole fuel a. (led files faults mine').moves whole fuel ((was files faults).moves whole fuel a);
@@ -45,7 +45,7 @@ made_on mine mine' budget mid new run on reply t was led files faults = record {
 }
 
 -- where memory is wanted behind an event, the script stands behind it
-pub made_stands : {A B : Type 0} (r : Result A B) (mine mine' : List (Event × Reply)) (budget : Budget) (mid : Course) (run : Run) (on : OnReply) (reply : Reply) → TurnedByEvent mine mine' budget mid run (made on (Some reply))
+pub made_stands : {A B : Type 0} (r : Result A B) (mine mine' : List (Event × Reply)) (budget : Budget) (mid : Execution) (run : Run) (on : OnReply) (reply : Reply) → TurnedByEvent mine mine' budget mid run (made on (Some reply))
     → OnErr r ((files : Option Files) → Parted files mine mine' budget run)
 made_stands (Ok a) mine mine' budget mid run on reply was = tt
 made_stands (Err e) mine mine' budget mid run on reply was = λ files whole fuel a. in_some ((was files 0).moves whole fuel a).stands
@@ -56,7 +56,7 @@ stands_behind (Ok a) mine mine' budget event reply next is = tt
 stands_behind (Err e) mine mine' budget event reply next is = λ files whole fuel a. in_made mine mine' budget event reply next is a
 
 -- where memory is wanted before anything is done
-pub nothing_made : {S A : Type 0} (v : View S) (budget : Budget) (run : Run) (after : Course) (turn : A → Turn) → MakesEvent v v budget run after turn (Err halts.NoMemory)
+pub nothing_made : {S A : Type 0} (v : View S) (budget : Budget) (run : Run) (after : Execution) (turn : A → Turn) → MakesEvent v v budget run after turn (Err halts.NoMemory)
 nothing_made v budget run after turn = record {
   stays = stays_refl v;
   turned = tt;
@@ -67,7 +67,7 @@ nothing_made v budget run after turn = record {
 }
 
 -- where an event was not made, all that it was to lead to is not done either
-pub not_made : {S A B : Type 0} {old new : View S} {budget : Budget} {run : Run} {mid after : Course} {turn : A → Turn} {turn' : B → Turn} (halt : Halt)
+pub not_made : {S A B : Type 0} {old new : View S} {budget : Budget} {run : Run} {mid after : Execution} {turn : A → Turn} {turn' : B → Turn} (halt : Halt)
     → MakesEvent old new budget run mid turn (Err halt) → MakesEvent old new budget run after turn' (Err halt)
 not_made halt was = record {
   stays = was.stays;

@@ -28,12 +28,12 @@ use Rattle.drive_straight.specs.declared.next.Next.TheVariants as nexts
 use Rattle.py_run.specs.Turns.{After, Counts, Turned, Stood, remains}
 use Rattle.py_run.specs.Overs.{Begun, Fresh}
 use Rattle.py_run.specs.Starts.{StartsAs}
-use Rattle.drive_straight.specs.declared.course.Course.{Course}
-use Rattle.py_run.specs.declared.course.Turn.{Turn}
+use Rattle.drive_straight.specs.declared.execution.Execution.{Execution}
+use Rattle.py_run.specs.declared.turns.Turn.{Turn}
 use Rattle.drive_account.specs.declared.payments.Budget.{Budget}
 
 -- at first a thread stands at the start of its meaning
-pub begins : (files : Option Files) (t fuel : ℕ) (whole : Run) (w : Want) (mine : List (Event × Reply)) (c : Course) → mine ≡ [] → Fresh t fuel c → StartsAs t whole w
+pub begins : (files : Option Files) (t fuel : ℕ) (whole : Run) (w : Want) (mine : List (Event × Reply)) (c : Execution) → mine ≡ [] → Fresh t fuel c → StartsAs t whole w
     → At files whole fuel mine c.budget (remains c w)
 begins files t fuel whole w mine c none fresh starts =
     rw none (rw fresh.budget (subst (λ (run : Run). At files whole fuel [] (record { left = fuel; read = None; of_tree = false }) run) (sym (starts fuel c fresh))
@@ -43,11 +43,11 @@ begins files t fuel whole w mine c none fresh starts =
 pub stands_first : (files : Option Files) (whole : Run) (fuel : ℕ) (mine : List (Event × Reply)) → mine ≡ [] → StandsIn files whole fuel mine
 stands_first files whole fuel mine none = rw none (in_some (stands_start {files = files} whole fuel))
 
-pub holds_first : {S : Type 0} (v : View S) (script fuel : ℕ) (c : Course) → v.mine ≡ [] → Fresh script fuel c → Holds v c.held
+pub holds_first : {S : Type 0} (v : View S) (script fuel : ℕ) (c : Execution) → v.mine ≡ [] → Fresh script fuel c → Holds v c.held
 holds_first v script fuel c none fresh = rw none fresh.held
 
 -- the next turn may be done
-pub stood : {S : Type 0} (first v : View S) (files : Option Files) (script fuel : ℕ) (whole : Run) (c : Course) (next : Next)
+pub stood : {S : Type 0} (first v : View S) (files : Option Files) (script fuel : ℕ) (whole : Run) (c : Execution) (next : Next)
     → Begun first script → Stays first v → Holds v c.held → At files whole fuel v.mine c.budget (due next c) → Safe (shown_first script) whole → Stood v c.held (due next c)
 stood first v files script fuel whole c next begun stays holds at safe = record {
   ready = stays.ready begun.ready;
@@ -56,17 +56,17 @@ stood first v files script fuel whole c next begun stays holds at safe = record 
 }
 
 -- over a tree whose files are as they were
-pub after_turn : (files files' : Option Files) (whole : Run) (fuel faults faults' : ℕ) (mine mine' : List (Event × Reply)) (c c' : Course) (next : Next) (t : Turn)
+pub after_turn : (files files' : Option Files) (whole : Run) (fuel faults faults' : ℕ) (mine mine' : List (Event × Reply)) (c c' : Execution) (next : Next) (t : Turn)
     → files' ≡ files → At files whole fuel mine c.budget (due next c) → Turned files' faults faults' mine mine' c.budget c' (due next c) t → After files whole fuel mine' c' t
 after_turn files files' whole fuel faults faults' mine mine' c c' next t same at turned =
     subst (λ (o : Option Files). After o whole fuel mine' c' t) same (turned.moves whole fuel (subst (λ (o : Option Files). At o whole fuel mine c.budget (due next c)) (sym same) at))
 
-pub parted : (files files' : Option Files) (whole : Run) (fuel : ℕ) (mine mine' : List (Event × Reply)) (c : Course) (next : Next)
+pub parted : (files files' : Option Files) (whole : Run) (fuel : ℕ) (mine mine' : List (Event × Reply)) (c : Execution) (next : Next)
     → files' ≡ files → At files whole fuel mine c.budget (due next c) → Parted files' mine mine' c.budget (due next c) → StandsIn files whole fuel mine'
 parted files files' whole fuel mine mine' c next same at part =
     subst (λ (o : Option Files). StandsIn o whole fuel mine') same (part whole fuel (subst (λ (o : Option Files). At o whole fuel mine c.budget (due next c)) (sym same) at))
 
-pub refused_at : {S : Type 0} (v : View S) (files files' : Option Files) (whole : Run) (fuel : ℕ) (mine : List (Event × Reply)) (c : Course) (next : Next)
+pub refused_at : {S : Type 0} (v : View S) (files files' : Option Files) (whole : Run) (fuel : ℕ) (mine : List (Event × Reply)) (c : Execution) (next : Next)
     → files' ≡ files → At files whole fuel mine c.budget (due next c) → Refused v files' mine c.budget (due next c) → RefusedAt v files whole fuel
 refused_at v files files' whole fuel mine c next same at refused =
     subst (λ (o : Option Files). RefusedAt v o whole fuel) same (refused whole fuel (subst (λ (o : Option Files). At o whole fuel mine c.budget (due next c)) (sym same) at))
@@ -80,7 +80,7 @@ pub parted_here : {files : Option Files} {mine : List (Event × Reply)} (budget 
 parted_here budget run whole fuel a = in_some a.stands
 
 -- the event by which an attribute of a module is read
-pub member_by : (c : Course) (m : ModRef) (x y : List ℕ) (k : ℕ) → y ≡ x → k ≡ m.mid → due (nexts.Member m x) c ≡ remains c (want.Call (e.GetVar k y false) (on.Member m x false))
+pub member_by : (c : Execution) (m : ModRef) (x y : List ℕ) (k : ℕ) → y ≡ x → k ≡ m.mid → due (nexts.Member m x) c ≡ remains c (want.Call (e.GetVar k y false) (on.Member m x false))
 member_by c m x y k same is =
     rw (same, is) (ap (λ (layer : Value-F Value). member_at (around_at sources c.thread.left).access layer x c.thread.state (rest sources c.work c.thread.left))
     (ap out-Value (sym (rolls-Module m)) ∙ out-roll-Value (Value-F.Module m)))

@@ -9,12 +9,12 @@ use Rattle.drive_account.specs.Asking.{Parted, Refused}
 use Rattle.drive_account.specs.declared.port.Halt.{Halt}
 use Rattle.drive_account.specs.declared.port.Halt.TheVariants as halts
 use Rattle.drive_account.specs.declared.payments.Budget.{Budget}
-use Rattle.drive_straight.specs.declared.course.Course.{Course}
+use Rattle.drive_straight.specs.declared.execution.Execution.{Execution}
 use Rattle.py_run.specs.Turns.{TurnedByEvent}
-use Rattle.py_run.specs.declared.course.Turn.{Turn}
+use Rattle.py_run.specs.declared.turns.Turn.{Turn}
 
 -- the event that is due at `run` is made, and what comes of it is a turn
-pub record MakesEvent {S A : Type 0} (old new : View S) (budget : Budget) (run : Run) (after : Course) (turn : A → Turn) (result : Result A Halt) : Type 0 where
+pub record MakesEvent {S A : Type 0} (old new : View S) (budget : Budget) (run : Run) (after : Execution) (turn : A → Turn) (result : Result A Halt) : Type 0 where
   -- the port is the same script's
   pub stays : Stays old new
   -- whatever script stood at the event stands where the turn leads

@@ -7,7 +7,7 @@ use Rattle.step_calls.specs.Sources.{sources}
 use Rattle.py_frames.specs.declared.want.Want.{Want}
 use Rattle.py_run.specs.Turns.{remains}
 use Rattle.py_run.specs.Overs.{Fresh}
-use Rattle.drive_straight.specs.declared.course.Course.{Course}
+use Rattle.drive_straight.specs.declared.execution.Execution.{Execution}
 use Rattle.py_run.specs.declared.start.Start.{Start}
 use Rattle.py_run.specs.declared.start.Start.TheVariants as start
 
@@ -18,4 +18,4 @@ started t (start.Module n) = meaning_of_name sources t n
 
 -- a thread that has done nothing yet and wants this does this run
 abbrev pub StartsAs : ℕ → Run → Want → Type 0
-StartsAs t run want = (fuel : ℕ) (c : Course) → Fresh t fuel c → remains c want ≡ run
+StartsAs t run want = (fuel : ℕ) (c : Execution) → Fresh t fuel c → remains c want ≡ run

@@ -26,16 +26,16 @@ use Rattle.py_frames.specs.declared.procedures.Procedure.{Procedure}
 use Rattle.find_load.specs.declared.words.In.{In}
 use Rattle.drive_account.specs.Ending.{Holds}
 use Rattle.drive_account.specs.At.{At, IsShort}
-use Rattle.drive_straight.specs.declared.course.Course.{Course}
+use Rattle.drive_straight.specs.declared.execution.Execution.{Execution}
 use Rattle.drive_straight.specs.declared.next.Next.TheVariants as nexts
-use Rattle.py_run.specs.declared.course.Turn.{Turn}
-use Rattle.py_run.specs.declared.course.Turn.TheVariants as turn
+use Rattle.py_run.specs.declared.turns.Turn.{Turn}
+use Rattle.py_run.specs.declared.turns.Turn.TheVariants as turn
 use Rattle.drive_account.specs.declared.payments.Budget.{Budget}
 pub use Rattle.drive_straight.specs.Remains.{remains}
 use Rattle.drive_straight.specs.Remains.{Due, Moves, due}
 
 -- what remains where a procedure is fed
-abbrev pub feeds : Course → Procedure → In → Run
+abbrev pub feeds : Execution → Procedure → In → Run
 feeds c p input = fed sources c.thread.left p input c.thread.state (rest sources c.work c.thread.left)
 
 -- what comes of a reply whose cost is paid
@@ -55,14 +55,14 @@ pub record HasPlainValue (reply : Reply) : Type 0 where
 
 -- such a reply brings its value, and nothing else is to be done
 abbrev pub IsPlain : OnReply → Reply → Type 0
-IsPlain on reply = (c : Course) → replied_at on reply c ≡ remains c (want.Go (Went (brought reply)))
+IsPlain on reply = (c : Execution) → replied_at on reply c ≡ remains c (want.Go (Went (brought reply)))
 
 -- where no work is left
 abbrev pub ended : Flow → Run
 ended flow = Over (Ended (outcome_of flow))
 
 -- where a turn leads
-abbrev pub After : Option Files → Run → ℕ → List (Event × Reply) → Course → Turn → Type 0
+abbrev pub After : Option Files → Run → ℕ → List (Event × Reply) → Execution → Turn → Type 0
 After files whole fuel mine c (turn.On next) = At files whole fuel mine c.budget (due next c)
 After files whole fuel mine c (turn.Came flow) = At files whole fuel mine c.budget (ended flow)
 After files whole fuel mine c turn.Out = IsShort files whole fuel mine c.budget.left c.budget.of_tree
@@ -75,16 +75,16 @@ Counts old new t = new ≡ old
 
 -- a turn from `run` on: whatever script stood there stands
 -- where the turn leads; and how the tree's count of faults went
-pub record Turned (files : Option Files) (faults faults' : ℕ) (mine mine' : List (Event × Reply)) (budget : Budget) (after : Course) (run : Run) (t : Turn) : Type 0 where
+pub record Turned (files : Option Files) (faults faults' : ℕ) (mine mine' : List (Event × Reply)) (budget : Budget) (after : Execution) (run : Run) (t : Turn) : Type 0 where
   pub moves : (whole : Run) (fuel : ℕ) → At files whole fuel mine budget run → After files whole fuel mine' after t
   pub counts : Counts faults faults' t
 
 -- a turn that makes no event and asks no tree
-abbrev pub Stepped : Budget → Course → Run → Turn → Type 0
+abbrev pub Stepped : Budget → Execution → Run → Turn → Type 0
 Stepped budget after run t = (files : Option Files) (faults : ℕ) (mine : List (Event × Reply)) → Turned files faults faults mine mine budget after run t
 
 -- a turn that asks the tree
-abbrev pub Looked : Option Files → ℕ → ℕ → Budget → Course → Run → Turn → Type 0
+abbrev pub Looked : Option Files → ℕ → ℕ → Budget → Execution → Run → Turn → Type 0
 Looked files faults faults' budget after run t = (mine : List (Event × Reply)) → Turned files faults faults' mine mine budget after run t
 
 -- a file stands there
@@ -94,7 +94,7 @@ IsFileStamp (stamps.Dir time) = ⊥
 IsFileStamp stamps.Absent = ⊥
 
 -- a turn that makes an event
-abbrev pub TurnedByEvent : List (Event × Reply) → List (Event × Reply) → Budget → Course → Run → Turn → Type 0
+abbrev pub TurnedByEvent : List (Event × Reply) → List (Event × Reply) → Budget → Execution → Run → Turn → Type 0
 TurnedByEvent mine mine' budget after run t = (files : Option Files) (faults : ℕ) → Turned files faults faults mine mine' budget after run t
 
 -- where an event leads to which this reply came, or none since its unit was not there
@@ -109,5 +109,5 @@ pub record Stood {S : Type 0} (v : View S) (held : Held) (run : Run) : Type 0 wh
   pub safe : Safe (shown v.number v.mine) run
 
 -- whatever script stood at what was due stands at what is wanted, if memory was not wanted
-abbrev pub Wants : Course → Due → Course → Result Want NoMemory → Type 0
+abbrev pub Wants : Execution → Due → Execution → Result Want NoMemory → Type 0
 Wants old was new r = IfOk r (λ want. Moves old.budget (was old) new want)

@@ -11,7 +11,7 @@ use crate::drive::{Over, run};
 use crate::script::copy_of;
 use crate::start::Start;
 use drive_account::{Halt, ReplayPort, budget_by, ends_came, ends_out, refused};
-use drive_straight::Course;
+use drive_straight::Execution;
 use machine_events::{Follow, Pair};
 use std::alloc::Global;
 use tree_files::{Tree, TreeFault};
@@ -41,11 +41,25 @@ pub fn follow<T: Tree>(
     let copy = copy_of(alloc, text)?;
     let budget = budget_by(fuel, own);
     let mut port = ReplayPort::new(script, own);
-    let mut course = Course::first(alloc, script, budget);
+    let mut execution = Execution::first(alloc, script, budget);
     let start = Start::Script(copy);
-    match run(alloc, &mut port, tree, &mut course, script, start, budget) {
+    match run(
+        alloc,
+        &mut port,
+        tree,
+        &mut execution,
+        script,
+        start,
+        budget,
+    ) {
         Ok(Over::Came(flow)) => ends_came(&mut port, flow, fuel, budget),
-        Ok(Over::Out { of_tree }) => ends_out(&mut port, &mut course.held, of_tree, fuel, budget),
+        Ok(Over::Out { of_tree }) => ends_out(
+            &mut port,
+            &mut execution.held,
+            of_tree,
+            fuel,
+            budget,
+        ),
         Ok(Over::Unread(_)) => Err(TreeFault::Failed),
         Err(Halt::Refused) => refused(&port),
         Err(Halt::NoMemory) => Err(TreeFault::NoMemory),

@@ -8,12 +8,12 @@ ghost use Rattle.drive_account.specs.Asking.{RefusedAt, Asked, AllKept};
 ghost use Rattle.py_run.specs.Overs.{Begun, Fresh, Overs, IsUnfailed};
 ghost use Rattle.py_run.specs.Starts.{started};
 
-use crate::course::Turn;
 use crate::start::{Start, first_want};
 use crate::turn::give;
+use crate::turns::Turn;
 use crate::working::wanted;
 use drive_account::{Halt, Port};
-use drive_straight::Course;
+use drive_straight::Execution;
 use meaning_state::Flow;
 use std::alloc::Global;
 use tree_files::Tree;
@@ -36,19 +36,19 @@ pub fn run<P: Port, T: Tree>(
     alloc: Global,
     port: &mut P,
     tree: &mut T,
-    course: &mut Course,
+    execution: &mut Execution,
     script: u32,
     start: Start,
     fuel: u64,
 ) -> Result<Over, Halt>
     requires begun { Begun (P.view port.old) script }
-    requires fresh { Fresh script fuel course.old }
+    requires fresh { Fresh script fuel execution.old }
     requires safe { Safe (shown_first script) (started script start) }
     ensures stays { Stays (P.view port.old) (P.view port.new) }
     ensures over { IfOk result (Overs (T.files tree.old) (T.faults tree.old) (T.faults tree.new)
         (started script start) fuel (P.view port.new).mine) }
     ensures unfailed { IfOk result (IsUnfailed (T.faults tree.old) (T.faults tree.new)) }
-    ensures holds { OnOk result (Holds (P.view port.new) course.new.held) }
+    ensures holds { OnOk result (Holds (P.view port.new) execution.new.held) }
     ensures part { OnErr result (StandsIn (T.files tree.old) (started script start) fuel
         (P.view port.new).mine) }
     ensures refused { IsErrOf result Halt.Refused → RefusedAt (P.view port.new) (T.files tree.old)
@@ -72,7 +72,7 @@ pub fn run<P: Port, T: Tree>(
             return Err(Halt::NoMemory);
         }
         turns += 1;
-        let turn = match give(alloc, port, tree, course, next) {
+        let turn = match give(alloc, port, tree, execution, next) {
             Ok(turn) => turn,
             Err(halt) => return Err(halt),
         };
@@ -81,7 +81,7 @@ pub fn run<P: Port, T: Tree>(
             Turn::Came(flow) => return Ok(Over::Came(flow)),
             Turn::Out => {
                 return Ok(Over::Out {
-                    of_tree: course.budget.of_tree,
+                    of_tree: execution.budget.of_tree,
                 });
             }
             Turn::Unread(left) => return Ok(Over::Unread(left)),

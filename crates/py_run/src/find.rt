@@ -12,10 +12,10 @@ ghost use Rattle.drive_account.specs.Searching.{AfterSought, CountsSought};
 ghost use Rattle.drive_account.specs.Asking.{Parted, Refused, Asked, AllKept};
 ghost use Rattle.py_run.specs.Turns.{Stood, Turned, After, Counts, remains, feeds};
 
-use crate::course::Turn;
+use crate::turns::Turn;
 use crate::working::feed;
 use drive_account::{Halt, Port, Sought, seek};
-use drive_straight::Course;
+use drive_straight::Execution;
 use find_load::In;
 use py_frames::Procedure;
 use py_value::Items;
@@ -26,20 +26,20 @@ use tree_files::Tree;
 /// What was found is what the procedure is fed.
 fn found(
     alloc: Global,
-    course: &mut Course,
+    execution: &mut Execution,
     procedure: Procedure,
     sought: Sought,
 ) -> Result<Turn, Halt>
     ensures after { IfOk result (λ turn. (files : Option Files) (whole : Run) (fuel : ℕ) (mine : List (Event × Reply))
-        → AfterSought files whole fuel mine course.old.budget
-        (λ answer. feeds course.old procedure (given.Found answer)) sought
-        → After files whole fuel mine course.new turn) }
+        → AfterSought files whole fuel mine execution.old.budget
+        (λ answer. feeds execution.old procedure (given.Found answer)) sought
+        → After files whole fuel mine execution.new turn) }
     ensures counts { IfOk result (λ turn. (old new : ℕ) → CountsSought old new sought → Counts old new turn) }
-    ensures held { course.new.held ≡ course.old.held }
+    ensures held { execution.new.held ≡ execution.old.held }
     ensures refused { IsErrOf result Halt.Refused → ⊥ }
 {
     match sought {
-        Sought::Found(answer) => feed(alloc, course, procedure, In::Found(answer)),
+        Sought::Found(answer) => feed(alloc, execution, procedure, In::Found(answer)),
         Sought::Out => {
             drop(procedure);
             Ok(Turn::Out)
@@ -56,27 +56,28 @@ pub fn find<P: Port, T: Tree>(
     alloc: Global,
     port: &mut P,
     tree: &mut T,
-    course: &mut Course,
+    execution: &mut Execution,
     name: Dotted,
     path: Items,
     procedure: Procedure,
 ) -> Result<Turn, Halt>
-    requires stood { Stood (P.view port.old) course.old.held (remains course.old (wants.Find name path procedure)) }
+    requires stood { Stood (P.view port.old) execution.old.held
+        (remains execution.old (wants.Find name path procedure)) }
     ensures stays { Stays (P.view port.old) (P.view port.new) }
     ensures turned { IfOk result (Turned (T.files tree.old) (T.faults tree.old) (T.faults tree.new)
-        (P.view port.old).mine (P.view port.new).mine course.old.budget course.new
-        (remains course.old (wants.Find name path procedure))) }
+        (P.view port.old).mine (P.view port.new).mine execution.old.budget execution.new
+        (remains execution.old (wants.Find name path procedure))) }
     ensures kept { OnOk result (AllKept (T.lists tree.old) (T.lists tree.new) (P.view port.old).mine
         (P.view port.new).mine) }
-    ensures holds { OnOk result (Holds (P.view port.new) course.new.held) }
+    ensures holds { OnOk result (Holds (P.view port.new) execution.new.held) }
     ensures part { OnErr result (Parted (T.files tree.old) (P.view port.old).mine
-        (P.view port.new).mine course.old.budget (remains course.old (wants.Find name path procedure))) }
+        (P.view port.new).mine execution.old.budget (remains execution.old (wants.Find name path procedure))) }
     ensures refused { IsErrOf result Halt.Refused → Refused (P.view port.new) (T.files tree.old)
-        (P.view port.old).mine course.old.budget (remains course.old (wants.Find name path procedure)) }
+        (P.view port.old).mine execution.old.budget (remains execution.old (wants.Find name path procedure)) }
     ensures asked { Asked (T.files tree.old) (T.files tree.new) (T.faults tree.old) (T.faults tree.new) }
 {
-    match seek(port, tree, &mut course.budget, name, path) {
-        Ok(sought) => found(alloc, course, procedure, sought),
+    match seek(port, tree, &mut execution.budget, name, path) {
+        Ok(sought) => found(alloc, execution, procedure, sought),
         Err(halt) => {
             drop(procedure);
             Err(halt)

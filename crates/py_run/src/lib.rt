@@ -3,7 +3,6 @@
 #![tactic(auto)]
 
 mod compare;
-mod course;
 mod drive;
 mod find;
 mod looks;
@@ -15,6 +14,7 @@ mod start;
 mod steps;
 mod thread;
 mod turn;
+mod turns;
 mod whole_thread;
 mod working;
 

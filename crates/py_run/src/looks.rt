@@ -10,11 +10,11 @@ ghost use Rattle.py_frames.specs.declared.want.Want.TheVariants as wants;
 ghost use Rattle.drive_account.specs.Asking.{Asked};
 ghost use Rattle.py_run.specs.Turns.{Looked, IsFileStamp, remains, feeds};
 
-use crate::course::Turn;
+use crate::turns::Turn;
 use crate::working::feed;
 use base_types::TreePath;
 use drive_account::Halt;
-use drive_straight::Course;
+use drive_straight::Execution;
 use find_load::In;
 use path_finder::{LoadFault, load_text};
 use py_frames::Procedure;
@@ -22,12 +22,12 @@ use std::alloc::Global;
 use tree_files::{Stamp, Tree, TreeFault};
 
 /// A call of the tree failed: the script stands where it paid for it.
-fn unread(course: &Course) -> Result<Turn, Halt>
+fn unread(execution: &Execution) -> Result<Turn, Halt>
     ensures refused { IsErrOf result Halt.Refused → ⊥ }
     ensures looked { IfOk result (λ turn. (files : Option Files) (old new : ℕ) (run : Run) → Rose old new
-        → Looked files old new course.now.budget course.now run turn) }
+        → Looked files old new execution.now.budget execution.now run turn) }
 {
-    match course.budget.read {
+    match execution.budget.read {
         Some(left) => Ok(Turn::Unread(left)),
         None => Err(Halt::NoMemory),
     }
@@ -37,29 +37,29 @@ fn unread(course: &Course) -> Result<Turn, Halt>
 fn load<T: Tree>(
     alloc: Global,
     tree: &mut T,
-    course: &mut Course,
+    execution: &mut Execution,
     path: &TreePath,
     procedure: Procedure,
 ) -> Result<Turn, Halt>
     requires file { ForSome (T.files tree.old) (λ f. IsFileAt f path.now) }
     ensures turned { IfOk result (Looked (T.files tree.old) (T.faults tree.old)
-        (T.faults tree.new) course.old.budget course.new (Pays true 1
-        (Looks (TextOf path.now) (λ text. feeds course.old procedure (given.Opened (Some text)))))) }
-    ensures held { course.new.held ≡ course.old.held }
+        (T.faults tree.new) execution.old.budget execution.new (Pays true 1
+        (Looks (TextOf path.now) (λ text. feeds execution.old procedure (given.Opened (Some text)))))) }
+    ensures held { execution.new.held ≡ execution.old.held }
     ensures refused { IsErrOf result Halt.Refused → ⊥ }
     ensures asked { Asked (T.files tree.old) (T.files tree.new) (T.faults tree.old) (T.faults tree.new) }
     ensures lists_stay { T.lists tree.new ≡ T.lists tree.old }
 {
-    if !course.budget.pay(true, 1) {
+    if !execution.budget.pay(true, 1) {
         drop(procedure);
         return Ok(Turn::Out);
     }
     match load_text(alloc, tree, path) {
-        Ok(text) => feed(alloc, course, procedure, In::Opened(Some(Some(text)))),
-        Err(LoadFault::TooLong) => feed(alloc, course, procedure, In::Opened(Some(None))),
+        Ok(text) => feed(alloc, execution, procedure, In::Opened(Some(Some(text)))),
+        Err(LoadFault::TooLong) => feed(alloc, execution, procedure, In::Opened(Some(None))),
         Err(LoadFault::Tree(TreeFault::Failed)) => {
             drop(procedure);
-            unread(course)
+            unread(execution)
         }
         Err(LoadFault::Tree(TreeFault::NoMemory)) => {
             drop(procedure);
@@ -72,25 +72,25 @@ fn load<T: Tree>(
 fn seen<T: Tree>(
     alloc: Global,
     tree: &mut T,
-    course: &mut Course,
+    execution: &mut Execution,
     path: &TreePath,
     procedure: Procedure,
     stamp: Stamp,
 ) -> Result<Turn, Halt>
     requires file { IsFileStamp stamp → ForSome (T.files tree.old) (λ f. IsFileAt f path.now) }
     ensures turned { IfOk result (Looked (T.files tree.old) (T.faults tree.old)
-        (T.faults tree.new) course.old.budget course.new (opens path.now
-        (feeds course.old procedure (given.Opened None)) (λ text. feeds course.old procedure
+        (T.faults tree.new) execution.old.budget execution.new (opens path.now
+        (feeds execution.old procedure (given.Opened None)) (λ text. feeds execution.old procedure
         (given.Opened (Some text))) stamp)) }
-    ensures held { course.new.held ≡ course.old.held }
+    ensures held { execution.new.held ≡ execution.old.held }
     ensures refused { IsErrOf result Halt.Refused → ⊥ }
     ensures asked { Asked (T.files tree.old) (T.files tree.new) (T.faults tree.old) (T.faults tree.new) }
     ensures lists_stay { T.lists tree.new ≡ T.lists tree.old }
 {
     match stamp {
-        Stamp::File(_) => load(alloc, tree, course, path, procedure),
-        Stamp::Dir(_) => feed(alloc, course, procedure, In::Opened(None)),
-        Stamp::Absent => feed(alloc, course, procedure, In::Opened(None)),
+        Stamp::File(_) => load(alloc, tree, execution, path, procedure),
+        Stamp::Dir(_) => feed(alloc, execution, procedure, In::Opened(None)),
+        Stamp::Absent => feed(alloc, execution, procedure, In::Opened(None)),
     }
 }
 
@@ -98,22 +98,23 @@ fn seen<T: Tree>(
 pub fn file<T: Tree>(
     alloc: Global,
     tree: &mut T,
-    course: &mut Course,
+    execution: &mut Execution,
     path: &TreePath,
     procedure: Procedure,
 ) -> Result<Turn, Halt>
     ensures turned { IfOk result (Looked (T.files tree.old) (T.faults tree.old)
-        (T.faults tree.new) course.old.budget course.new (remains course.old (wants.File path.now procedure))) }
-    ensures held { course.new.held ≡ course.old.held }
+        (T.faults tree.new) execution.old.budget execution.new
+        (remains execution.old (wants.File path.now procedure))) }
+    ensures held { execution.new.held ≡ execution.old.held }
     ensures refused { IsErrOf result Halt.Refused → ⊥ }
     ensures asked { Asked (T.files tree.old) (T.files tree.new) (T.faults tree.old) (T.faults tree.new) }
     ensures lists_stay { T.lists tree.new ≡ T.lists tree.old }
 {
     match tree.stamp(path) {
-        Ok(stamp) => seen(alloc, tree, course, path, procedure, stamp),
+        Ok(stamp) => seen(alloc, tree, execution, path, procedure, stamp),
         Err(TreeFault::Failed) => {
             drop(procedure);
-            unread(course)
+            unread(execution)
         }
         Err(TreeFault::NoMemory) => {
             drop(procedure);

@@ -8,11 +8,11 @@ ghost use Rattle.drive_straight.specs.declared.next.Next.TheVariants as nexts;
 ghost use Rattle.py_run.specs.Turns.{Stood, made, remains};
 ghost use Rattle.py_run.specs.Events.{MakesEvent};
 
-use crate::course::Turn;
+use crate::turns::Turn;
 use crate::working::{follow, lead_on};
 use base_types::{Exact, Text};
 use drive_account::{Halt, Port, change_of};
-use drive_straight::Course;
+use drive_straight::Execution;
 use machine_events::{Event, Reply};
 use py_frames::{Item, OnReply, Want};
 use py_value::{ModRef, Value};
@@ -21,13 +21,13 @@ use std::alloc::Global;
 /// An event is made, for a unit, and its reply comes. None where the unit is not there.
 fn make<P: Port>(
     port: &mut P,
-    course: &mut Course,
+    execution: &mut Execution,
     event: Event,
     on: &OnReply,
 ) -> Result<Option<Reply>, Halt>
-    requires stood { Stood (P.view port.old) course.old.held (remains course.old (wants.Call event on.now)) }
-    ensures { MakesEvent (P.view port.old) (P.view port.new) course.old.budget
-        (remains course.old (wants.Call event on.now)) course.new (made on.now) result }
+    requires stood { Stood (P.view port.old) execution.old.held (remains execution.old (wants.Call event on.now)) }
+    ensures { MakesEvent (P.view port.old) (P.view port.new) execution.old.budget
+        (remains execution.old (wants.Call event on.now)) execution.new (made on.now) result }
 {
     let _on = on;
     let change = match change_of(&event) {
@@ -37,13 +37,13 @@ fn make<P: Port>(
             return Err(Halt::NoMemory);
         }
     };
-    if !course.budget.pay(false, 1) {
+    if !execution.budget.pay(false, 1) {
         drop(event);
         return Ok(None);
     }
-    course.budget.read = None;
+    execution.budget.read = None;
     match port.call(event) {
-        Ok(reply) => match course.held.change(change, &reply) {
+        Ok(reply) => match execution.held.change(change, &reply) {
             Ok(()) => Ok(Some(reply)),
             Err(_) => {
                 drop(reply);
@@ -58,15 +58,15 @@ fn make<P: Port>(
 pub fn call<P: Port>(
     alloc: Global,
     port: &mut P,
-    course: &mut Course,
+    execution: &mut Execution,
     event: Event,
     on: OnReply,
 ) -> Result<Turn, Halt>
-    requires stood { Stood (P.view port.old) course.old.held (remains course.old (wants.Call event on)) }
-    ensures { MakesEvent (P.view port.old) (P.view port.new) course.old.budget
-        (remains course.old (wants.Call event on)) course.new (λ turn. turn) result }
+    requires stood { Stood (P.view port.old) execution.old.held (remains execution.old (wants.Call event on)) }
+    ensures { MakesEvent (P.view port.old) (P.view port.new) execution.old.budget
+        (remains execution.old (wants.Call event on)) execution.new (λ turn. turn) result }
 {
-    let made = match make(port, course, event, &on) {
+    let made = match make(port, execution, event, &on) {
         Ok(made) => made,
         Err(halt) => {
             drop(on);
@@ -74,7 +74,7 @@ pub fn call<P: Port>(
         }
     };
     match made {
-        Some(reply) => follow(alloc, course, on, reply),
+        Some(reply) => follow(alloc, execution, on, reply),
         None => {
             drop(on);
             Ok(Turn::Out)
@@ -86,37 +86,37 @@ pub fn call<P: Port>(
 pub fn read<P: Port>(
     alloc: Global,
     port: &mut P,
-    course: &mut Course,
+    execution: &mut Execution,
     name: Text,
 ) -> Result<Turn, Halt>
-    requires stood { Stood (P.view port.old) course.old.held (due (nexts.ReadGlobal name) course.old) }
-    ensures { MakesEvent (P.view port.old) (P.view port.new) course.old.budget
-        (due (nexts.ReadGlobal name) course.old) course.new (λ turn. turn) result }
+    requires stood { Stood (P.view port.old) execution.old.held (due (nexts.ReadGlobal name) execution.old) }
+    ensures { MakesEvent (P.view port.old) (P.view port.new) execution.old.budget
+        (due (nexts.ReadGlobal name) execution.old) execution.new (λ turn. turn) result }
 {
     let copied = match name.copy() {
         Ok(copied) => copied,
         Err(_) => return Err(Halt::NoMemory),
     };
     let event = Event::GetVar {
-        mid: course.thread.state.scope.mid,
+        mid: execution.thread.state.scope.mid,
         name: copied,
         raw: true,
     };
-    call(alloc, port, course, event, OnReply::Global(name))
+    call(alloc, port, execution, event, OnReply::Global(name))
 }
 
 /// An attribute of a module is read.
 pub fn read_member<P: Port>(
     alloc: Global,
     port: &mut P,
-    course: &mut Course,
+    execution: &mut Execution,
     module: ModRef,
     name: Text,
 ) -> Result<Turn, Halt>
-    requires stood { Stood (P.view port.old) course.old.held (due (nexts.Member «module» name)
-        course.old) }
-    ensures { MakesEvent (P.view port.old) (P.view port.new) course.old.budget
-        (due (nexts.Member «module» name) course.old) course.new (λ turn. turn) result }
+    requires stood { Stood (P.view port.old) execution.old.held (due (nexts.Member «module» name)
+        execution.old) }
+    ensures { MakesEvent (P.view port.old) (P.view port.new) execution.old.budget
+        (due (nexts.Member «module» name) execution.old) execution.new (λ turn. turn) result }
 {
     let copied = match name.copy() {
         Ok(copied) => copied,
@@ -133,47 +133,47 @@ pub fn read_member<P: Port>(
         name,
         is_raw,
     };
-    call(alloc, port, course, event, on)
+    call(alloc, port, execution, event, on)
 }
 
 /// A variable of the module is bound to a value.
 pub fn bind<P: Port>(
     alloc: Global,
     port: &mut P,
-    course: &mut Course,
+    execution: &mut Execution,
     name: Text,
     value: Value,
 ) -> Result<Turn, Halt>
-    requires global { is_local_name course.old.thread.state name ≡ false }
-    requires stood { Stood (P.view port.old) course.old.held (due (nexts.Store name value) course.old) }
-    ensures { MakesEvent (P.view port.old) (P.view port.new) course.old.budget
-        (due (nexts.Store name value) course.old) course.new (λ turn. turn) result }
+    requires global { is_local_name execution.old.thread.state name ≡ false }
+    requires stood { Stood (P.view port.old) execution.old.held (due (nexts.Store name value) execution.old) }
+    ensures { MakesEvent (P.view port.old) (P.view port.new) execution.old.budget
+        (due (nexts.Store name value) execution.old) execution.new (λ turn. turn) result }
 {
     let event = Event::SetVar {
-        mid: course.thread.state.scope.mid,
+        mid: execution.thread.state.scope.mid,
         name,
         value,
         raw: true,
     };
-    call(alloc, port, course, event, OnReply::Stored)
+    call(alloc, port, execution, event, OnReply::Stored)
 }
 
 /// The script waits for a lock.
 pub fn wait<P: Port>(
     alloc: Global,
     port: &mut P,
-    course: &mut Course,
+    execution: &mut Execution,
     item: Item,
 ) -> Result<Turn, Halt>
-    requires stood { Stood (P.view port.old) course.old.held (remains course.old (wants.Wait item)) }
-    ensures { MakesEvent (P.view port.old) (P.view port.new) course.old.budget
-        (remains course.old (wants.Wait item)) course.new (λ turn. turn) result }
+    requires stood { Stood (P.view port.old) execution.old.held (remains execution.old (wants.Wait item)) }
+    ensures { MakesEvent (P.view port.old) (P.view port.new) execution.old.budget
+        (remains execution.old (wants.Wait item)) execution.new (λ turn. turn) result }
 {
-    course.budget.read = None;
+    execution.budget.read = None;
     match port.wait() {
         Ok(reply) => {
             drop(reply);
-            lead_on(alloc, course, Want::Then(item))
+            lead_on(alloc, execution, Want::Then(item))
         }
         Err(halt) => {
             drop(item);

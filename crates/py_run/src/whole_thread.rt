@@ -15,7 +15,7 @@ ghost use Rattle.py_run.specs.Starts.{started};
 use crate::drive::{Over, run};
 use crate::start::Start;
 use drive_account::{Ending, Halt, Port, came, spent, unread};
-use drive_straight::Course;
+use drive_straight::Execution;
 use std::alloc::Global;
 use tree_files::Tree;
 
@@ -49,17 +49,17 @@ pub fn run_on<P: Port, T: Tree>(
     ensures read { IfOk result (λ ending. IsRead ending → Rose (T.faults tree.old) (T.faults tree.new)) }
     ensures unfailed { IfOk result (λ ending. (IsRead ending → ⊥) → T.faults tree.new ≡ T.faults tree.old) }
 {
-    let mut course = Course::first(alloc, script, fuel);
-    let over = match run(alloc, port, tree, &mut course, script, start, fuel) {
+    let mut execution = Execution::first(alloc, script, fuel);
+    let over = match run(alloc, port, tree, &mut execution, script, start, fuel) {
         Ok(over) => over,
         Err(halt) => return Err(halt),
     };
     match over {
         Over::Came(flow) => came(port, flow, fuel),
-        Over::Out { .. } => spent(port, &mut course.held, fuel),
+        Over::Out { .. } => spent(port, &mut execution.held, fuel),
         Over::Unread(left) => {
             let paid = fuel - left;
-            unread(port, &mut course.held, paid)
+            unread(port, &mut execution.held, paid)
         }
     }
 }

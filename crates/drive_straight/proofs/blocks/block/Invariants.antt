@@ -6,8 +6,8 @@ use Rattle.drive_straight.proofs.blocks.block.Given as goal
 
 abbrev pub invariant-statements : goal.invariant-statements
 invariant-statements l = record {
-  moves : Moves l.fn.course.budget (remains l.fn.course (want.Then (it.Block l.fn.stmts l.fn.first))) l.course (want.Then (it.Block l.fn.stmts l.at));
-  held : l.course.held ≡ l.fn.course.held;
+  moves : Moves l.fn.execution.budget (remains l.fn.execution (want.Then (it.Block l.fn.stmts l.fn.first))) l.execution (want.Then (it.Block l.fn.stmts l.at));
+  held : l.execution.held ≡ l.fn.execution.held;
   block : l.stmts ≡ l.fn.stmts;
 }
 

@@ -7,6 +7,6 @@ use Rattle.drive_straight.proofs.expressions.begin.Goals as goal
 
 pub returns-then-is_operated-clause-moves : goal.returns-then-is_operated-clause-moves
 returns-then-is_operated-clause-moves c =
-    let old = c.args.course.now in
-    leads_behind old old c.gather.new.course (begins (it.Eval c.args.expr)) (begins (it.Operands (Expression c.args.expr) c.new.result)) c.gather.result
+    let old = c.args.execution.now in
+    leads_behind old old c.gather.new.execution (begins (it.Eval c.args.expr)) (begins (it.Operands (Expression c.args.expr) c.new.result)) c.gather.result
     (same_run old.budget _ _ (operated old c.args.expr c.new.result (search rules) c.new.ensures)) c.gather.ensures.moves

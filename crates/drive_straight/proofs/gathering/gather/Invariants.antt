@@ -9,8 +9,8 @@ use Rattle.drive_straight.proofs.gathering.gather.Given as goal
 
 abbrev pub invariant-operands : goal.invariant-operands
 invariant-operands l = record {
-  moves : Moves l.fn.course.budget (remains l.fn.course (want.Then (it.Operands (Expression l.fn.expr) l.fn.done))) l.course (want.Then (it.Operands (Expression l.expr) l.values));
-  held : l.course.held ≡ l.fn.course.held;
+  moves : Moves l.fn.execution.budget (remains l.fn.execution (want.Then (it.Operands (Expression l.fn.expr) l.fn.done))) l.execution (want.Then (it.Operands (Expression l.expr) l.values));
+  held : l.execution.held ≡ l.fn.execution.held;
   expr : l.expr ≡ l.fn.expr;
 }
 

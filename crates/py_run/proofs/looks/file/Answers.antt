@@ -16,7 +16,7 @@ returns-in-Ok-clause-turned g c = IfOk-weaker c.seen.result _ _ (λ turn l. λ m
     let here = turned_over files (g.T.Tree.files c.stamp.new.self) (g.T.Tree.faults c.args.tree.now) (g.T.Tree.faults c.stamp.new.self) _ mine _ _ _ turn c.in-Ok.ensures.files_stay c.in-Ok.ensures.faults_stay (l mine) in
     record {
       moves = λ whole fuel a. here.moves whole fuel
-          (at_looked (StampOf path) c.in-Ok.stamp (opens path (feeds c.args.course.now c.args.procedure (given.Opened None)) (λ text. feeds c.args.course.now c.args.procedure (given.Opened (Some text)))) (told_stamp files path c.in-Ok.stamp c.in-Ok.ensures.told) a);
+          (at_looked (StampOf path) c.in-Ok.stamp (opens path (feeds c.args.execution.now c.args.procedure (given.Opened None)) (λ text. feeds c.args.execution.now c.args.procedure (given.Opened (Some text)))) (told_stamp files path c.in-Ok.stamp c.in-Ok.ensures.told) a);
       counts = here.counts;
     }) c.seen.ensures.turned
 

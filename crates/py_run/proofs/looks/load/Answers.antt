@@ -19,7 +19,7 @@ returns-in-Ok-clause-turned g c = IfOk-weaker c.feed.result _ _ (λ turn t. λ m
     let here = t files (g.T.Tree.faults c.args.tree.now) mine in
     record {
       moves = λ whole fuel a. here.moves whole fuel
-          (at_looked (TextOf path) (Some c.in-Ok.text) (λ text. feeds c.args.course.now c.args.procedure (given.Opened (Some text))) (told_text files path c.in-Ok.text c.in-Ok.ensures.loaded c.in-Ok.ensures.fits) (c.if-not-pay.ensures.moves files whole fuel mine _ a));
+          (at_looked (TextOf path) (Some c.in-Ok.text) (λ text. feeds c.args.execution.now c.args.procedure (given.Opened (Some text))) (told_text files path c.in-Ok.text c.in-Ok.ensures.loaded c.in-Ok.ensures.fits) (c.if-not-pay.ensures.moves files whole fuel mine _ a));
       counts = counts_same c.in-Ok.ensures.faults_stay turn here.counts;
     }) c.feed.ensures.turned
 
@@ -31,7 +31,7 @@ returns-in-Err-TooLong-clause-turned g c = IfOk-weaker c.feed-in-Err-TooLong.res
     let here = t files (g.T.Tree.faults c.args.tree.now) mine in
     record {
       moves = λ whole fuel a. here.moves whole fuel
-          (at_looked (TextOf path) None (λ text. feeds c.args.course.now c.args.procedure (given.Opened (Some text))) (told_none files path longer) (c.if-not-pay.ensures.moves files whole fuel mine _ a));
+          (at_looked (TextOf path) None (λ text. feeds c.args.execution.now c.args.procedure (given.Opened (Some text))) (told_none files path longer) (c.if-not-pay.ensures.moves files whole fuel mine _ a));
       counts = counts_same (c.in-Err-TooLong.ensures.too_long_faults (ap Err c.in-Err-TooLong.field-0-is)) turn here.counts;
     }) c.feed-in-Err-TooLong.ensures.turned
 

@@ -33,7 +33,7 @@ returns-in-Ok-change g c = record {
     counts = refl;
   };
   grows = lists_grow (g.P.Port.view c.args.port.now).mine (g.P.Port.view c.call.new.self).mine c.args.event c.in-Ok-call.reply c.in-Ok-call.ensures.ok.mine;
-  holds = holds_made (g.P.Port.view c.args.port.now) (g.P.Port.view c.call.new.self) c.args.event c.in-Ok-call.reply c.args.course.now.held c.change.new.self c.call.ensures.stays c.in-Ok-call.ensures.ok c.requires.stood.holds
+  holds = holds_made (g.P.Port.view c.args.port.now) (g.P.Port.view c.call.new.self) c.args.event c.in-Ok-call.reply c.args.execution.now.held c.change.new.self c.call.ensures.stays c.in-Ok-call.ensures.ok c.requires.stood.holds
       (c.in-Ok-change.ensures ∙ c.in-Ok.ensures c.in-Ok-call.reply _);
   part = tt;
   refused = λ is. absurd (cc is);

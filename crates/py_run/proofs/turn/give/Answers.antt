@@ -76,7 +76,7 @@ pub returns-then-is_local_name-clause-holds : goal.returns-then-is_local_name-cl
 returns-then-is_local_name-clause-holds g c = if_ok c.go_straight.result (λ _. rw c.go_straight.ensures.held c.requires.stood.holds)
 
 pub returns-then-is_local_name-clause-part : goal.returns-then-is_local_name-clause-part
-returns-then-is_local_name-clause-part g c = if_err c.go_straight.result (λ _. parted_here c.args.course.now.budget (due c.args.next c.args.course.now))
+returns-then-is_local_name-clause-part g c = if_err c.go_straight.result (λ _. parted_here c.args.execution.now.budget (due c.args.next c.args.execution.now))
 
 pub returns-in_default-clause-turned : goal.returns-in_default-clause-turned
 returns-in_default-clause-turned g c =
@@ -88,4 +88,4 @@ pub returns-in_default-clause-holds : goal.returns-in_default-clause-holds
 returns-in_default-clause-holds g c = if_ok c.go_straight-in_default.result (λ _. rw c.go_straight-in_default.ensures.held c.requires.stood.holds)
 
 pub returns-in_default-clause-part : goal.returns-in_default-clause-part
-returns-in_default-clause-part g c = if_err c.go_straight-in_default.result (λ _. parted_here c.args.course.now.budget (due c.args.next c.args.course.now))
+returns-in_default-clause-part g c = if_err c.go_straight-in_default.result (λ _. parted_here c.args.execution.now.budget (due c.args.next c.args.execution.now))

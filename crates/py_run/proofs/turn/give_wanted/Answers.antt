@@ -39,7 +39,7 @@ pub returns-in-File-clause-holds : goal.returns-in-File-clause-holds
 returns-in-File-clause-holds g c = if_ok c.file.result (λ _. rw c.file.ensures.held c.requires.stood.holds)
 
 pub returns-in-File-clause-part : goal.returns-in-File-clause-part
-returns-in-File-clause-part g c = if_err c.file.result (λ _. parted_here c.args.course.now.budget (remains c.args.course.now c.args.want))
+returns-in-File-clause-part g c = if_err c.file.result (λ _. parted_here c.args.execution.now.budget (remains c.args.execution.now c.args.want))
 
 pub returns-in_default-clause-turned : goal.returns-in_default-clause-turned
 returns-in_default-clause-turned g c = IfOk-weaker c.work_on.result _ _ (λ turn step. step (g.T.Tree.files c.args.tree.now) (g.T.Tree.faults c.args.tree.now) (g.P.Port.view c.args.port.now).mine) c.work_on.ensures.turned
@@ -48,4 +48,4 @@ pub returns-in_default-clause-holds : goal.returns-in_default-clause-holds
 returns-in_default-clause-holds g c = if_ok c.work_on.result (λ _. rw c.work_on.ensures.held c.requires.stood.holds)
 
 pub returns-in_default-clause-part : goal.returns-in_default-clause-part
-returns-in_default-clause-part g c = if_err c.work_on.result (λ _. parted_here c.args.course.now.budget (remains c.args.course.now c.args.want))
+returns-in_default-clause-part g c = if_err c.work_on.result (λ _. parted_here c.args.execution.now.budget (remains c.args.execution.now c.args.want))

@@ -71,7 +71,7 @@ spent-requires g c =
     let v = g.P.Port.view c.run.new.port in
     let out : Overs files (g.T.Tree.faults c.args.tree.now) (g.T.Tree.faults c.run.new.tree) whole c.args.fuel v.mine (over.Out c.in-Out.of_tree) =
     subst (λ (o : Over). Overs files (g.T.Tree.faults c.args.tree.now) (g.T.Tree.faults c.run.new.tree) whole c.args.fuel v.mine o) c.in-Out.is c.in-Ok.ensures.over in
-    record { idle = spent_idle (g.P.Port.view c.args.port.now) v files c.args.script whole c.args.fuel c.in-Out.of_tree c.run.new.course.held c.requires.begun c.run.ensures.stays c.requires.safe c.in-Ok.ensures.holds out }
+    record { idle = spent_idle (g.P.Port.view c.args.port.now) v files c.args.script whole c.args.fuel c.in-Out.of_tree c.run.new.execution.held c.requires.begun c.run.ensures.stays c.requires.safe c.in-Ok.ensures.holds out }
 
 pub returns-in-Out-clause-stays : goal.returns-in-Out-clause-stays
 returns-in-Out-clause-stays g c = stays_trans _ _ _ c.run.ensures.stays c.spent.ensures.stays
@@ -124,7 +124,7 @@ unread-requires g c =
     let v = g.P.Port.view c.run.new.port in
     let lost : Overs files (g.T.Tree.faults c.args.tree.now) (g.T.Tree.faults c.run.new.tree) whole c.args.fuel v.mine (over.Unread c.in-Unread.left) =
     subst (λ (o : Over). Overs files (g.T.Tree.faults c.args.tree.now) (g.T.Tree.faults c.run.new.tree) whole c.args.fuel v.mine o) c.in-Unread.is c.in-Ok.ensures.over in
-    record { idle = unread_idle (g.P.Port.view c.args.port.now) v files c.args.script whole c.args.fuel c.in-Unread.left c.run.new.course.held c.requires.begun c.run.ensures.stays c.requires.safe c.in-Ok.ensures.holds lost.0 }
+    record { idle = unread_idle (g.P.Port.view c.args.port.now) v files c.args.script whole c.args.fuel c.in-Unread.left c.run.new.execution.held c.requires.begun c.run.ensures.stays c.requires.safe c.in-Ok.ensures.holds lost.0 }
 
 pub returns-clause-stays : goal.returns-clause-stays
 returns-clause-stays g c = stays_trans _ _ _ c.run.ensures.stays c.unread.ensures.stays

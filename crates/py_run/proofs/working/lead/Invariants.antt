@@ -4,8 +4,8 @@ use Rattle.py_run.proofs.working.lead.Given as goal
 
 abbrev pub invariant-pieces : goal.invariant-pieces
 invariant-pieces l = record {
-  moves : Moves l.fn.course.budget (remains l.fn.course l.fn.first) l.course l.want;
-  held : l.course.held ≡ l.fn.course.held;
+  moves : Moves l.fn.execution.budget (remains l.fn.execution l.fn.first) l.execution l.want;
+  held : l.execution.held ≡ l.fn.execution.held;
 }
 
 abbrev pub decreases-pieces : goal.decreases-pieces

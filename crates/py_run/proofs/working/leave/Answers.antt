@@ -11,13 +11,13 @@ use Rattle.py_run.proofs.working.leave.Goals.{in-Back, in-Imported, in_default+i
 
 pub returns-clause-moves : goal.returns-clause-moves
 returns-clause-moves c =
-    let old = c.args.course.now in
-    led_behind old c.match-frame.course c.lead.new.course (goes_on c.args.frame c.args.flow) (λ here. remains here c.match-frame.want) c.lead.result
+    let old = c.args.execution.now in
+    led_behind old c.match-frame.execution c.lead.new.execution (goes_on c.args.frame c.args.flow) (λ here. remains here c.match-frame.want) c.lead.result
     (elim c.match-frame.branch [
       | in-Back w ↦ λ files whole fuel mine a.
-          rw (w.course-is, w.want-is) (subst (λ (run : Run). At files whole fuel mine old.budget run) (sym (w.come_back-want.ensures.does sources (rest sources old.work))) (subst (λ (f : Frame). At files whole fuel mine old.budget (goes_on f c.args.flow old)) w.in-Back.is a))
+          rw (w.execution-is, w.want-is) (subst (λ (run : Run). At files whole fuel mine old.budget run) (sym (w.come_back-want.ensures.does sources (rest sources old.work))) (subst (λ (f : Frame). At files whole fuel mine old.budget (goes_on f c.args.flow old)) w.in-Back.is a))
       | in-Imported w ↦ λ files whole fuel mine a.
-          rw (w.course-is, w.want-is) (subst (λ (run : Run). At files whole fuel mine old.budget run) (sym (w.go_on_imported-want.ensures.does sources (rest sources old.work))) (subst (λ (f : Frame). At files whole fuel mine old.budget (goes_on f c.args.flow old)) w.in-Imported.is a))
+          rw (w.execution-is, w.want-is) (subst (λ (run : Run). At files whole fuel mine old.budget run) (sym (w.go_on_imported-want.ensures.does sources (rest sources old.work))) (subst (λ (f : Frame). At files whole fuel mine old.budget (goes_on f c.args.flow old)) w.in-Imported.is a))
       | in_default+in_ok-want-in_default w ↦ λ files whole fuel mine a.
-          rw (w.course-is, w.want-is) (subst (λ (run : Run). At files whole fuel mine old.budget run) (sym (w.in_ok-want-in_default.ensures.does (rest sources old.work))) a)
+          rw (w.execution-is, w.want-is) (subst (λ (run : Run). At files whole fuel mine old.budget run) (sym (w.in_ok-want-in_default.ensures.does (rest sources old.work))) a)
     ]) c.lead.ensures.moves

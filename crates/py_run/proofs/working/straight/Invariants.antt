@@ -4,8 +4,8 @@ use Rattle.py_run.proofs.working.straight.Given as goal
 
 abbrev pub invariant-turns : goal.invariant-turns
 invariant-turns l = record {
-  moves : LeadsTo l.fn.course (due l.fn.first) l.course l.next;
-  held : l.course.held ≡ l.fn.course.held;
+  moves : LeadsTo l.fn.execution (due l.fn.first) l.execution l.next;
+  held : l.execution.held ≡ l.fn.execution.held;
 }
 
 abbrev pub decreases-turns : goal.decreases-turns

@@ -10,7 +10,7 @@ use std::alloc::Global;
 /// What a running script keeps: its budget, what it holds of the machine, what its steps see, and
 /// the work that waits.
 #[derive(Drop)]
-pub struct Course {
+pub struct Execution {
     pub budget: Budget,
     pub held: Held,
     pub thread: Thread,
@@ -20,12 +20,12 @@ pub struct Course {
 /// The most bodies, calls and imports that may be open at once.
 const DEPTH: u32 = 200;
 
-impl Course {
+impl Execution {
     /// What a script keeps before its first step. It takes no memory.
-    pub fn first(alloc: Global, script: u32, fuel: u64) -> Course
+    pub fn first(alloc: Global, script: u32, fuel: u64) -> Execution
         ensures { Fresh script fuel result }
     {
-        Course {
+        Execution {
             budget: Budget {
                 left: fuel,
                 read: None,
