@@ -14,10 +14,10 @@ use Rattle.path_finder.specs.declared.words.LookIn.{LookIn}
 use Rattle.meaning_script.specs.Searches.{searches_in}
 use Rattle.drive_account.specs.View.{View}
 use Rattle.drive_account.specs.At.{At}
-use Rattle.drive_account.specs.Searching.{Taken, CountsSought, SearchParted, SearchRefused}
+use Rattle.drive_account.specs.Searching.{Taken, CountsSearch, SearchParted, SearchRefused}
 use Rattle.drive_account.specs.Asking.{RefusedAt}
 use Rattle.drive_account.specs.declared.payments.Budget.{Budget}
-use Rattle.drive_account.specs.declared.search.Sought.{Sought}
+use Rattle.drive_account.specs.declared.search.SearchEnd.{SearchEnd}
 use Rattle.drive_account.specs.declared.search.Step.{Step}
 
 -- a search that was not begun suits every tree
@@ -31,8 +31,8 @@ took files files' faults faults' number number' mine mine' budget budget' before
     subst (λ (o : Option Files). Taken o faults faults' number' mine mine' budget budget' before go it) same (subst (λ (t : ℕ). Taken files' faults faults' t mine mine' budget budget' before go it) is taken)
 
 -- the last step of a search in which no call of the tree had failed
-pub over_counts : (old mid new : ℕ) (it : Sought) → mid ≡ old → CountsSought mid new it → CountsSought old new it
-over_counts old mid new it same counts = subst (λ (n : ℕ). CountsSought n new it) same counts
+pub over_counts : (old mid new : ℕ) (it : SearchEnd) → mid ≡ old → CountsSearch mid new it → CountsSearch old new it
+over_counts old mid new it same counts = subst (λ (n : ℕ). CountsSearch n new it) same counts
 
 pub steps_parted : (files files' : Option Files) (mine mine' : List (Event × Reply)) (budget : Budget) (before : Search) → files' ≡ files → SearchParted files' mine mine' budget before
     → (k : Option Found → Run) (whole : Run) (fuel : ℕ) → At files whole fuel mine budget (searches_in before k) → StandsIn files whole fuel mine'

@@ -20,31 +20,31 @@ use Rattle.drive_account.specs.Ending.{Holds}
 use Rattle.drive_account.specs.At.{At, IsShort}
 use Rattle.drive_account.specs.Asking.{Parted, Refused}
 use Rattle.drive_account.specs.declared.payments.Budget.{Budget}
-use Rattle.drive_account.specs.declared.search.Sought.{Sought}
-use Rattle.drive_account.specs.declared.search.Sought.TheVariants as sought
+use Rattle.drive_account.specs.declared.search.SearchEnd.{SearchEnd}
+use Rattle.drive_account.specs.declared.search.SearchEnd.TheVariants as ends
 use Rattle.drive_account.specs.declared.search.Step.{Step}
 use Rattle.drive_account.specs.declared.search.Step.TheVariants as step
 
 -- where a search leads, behind which the script goes on by its answer
-abbrev pub AfterSought : Option Files → Run → ℕ → List (Event × Reply) → Budget → (Option Found → Run) → Sought → Type 0
-AfterSought files whole fuel mine budget k (sought.Found answer) = At files whole fuel mine budget (k answer)
-AfterSought files whole fuel mine budget k sought.Out = IsShort files whole fuel mine budget.left budget.of_tree
-AfterSought files whole fuel mine budget k (sought.Unread left) = IsUnread files whole fuel mine left
+abbrev pub AfterSearch : Option Files → Run → ℕ → List (Event × Reply) → Budget → (Option Found → Run) → SearchEnd → Type 0
+AfterSearch files whole fuel mine budget k (ends.Found answer) = At files whole fuel mine budget (k answer)
+AfterSearch files whole fuel mine budget k ends.Out = IsShort files whole fuel mine budget.left budget.of_tree
+AfterSearch files whole fuel mine budget k (ends.Unread left) = IsUnread files whole fuel mine left
 
 -- where a step of it leads, behind which the search goes on by what it is given
 abbrev pub AfterStep : Option Files → Run → ℕ → List (Event × Reply) → Budget → (LookIn → Search) → (Option Found → Run) → Step → Type 0
 AfterStep files whole fuel mine budget go k (step.On input) = At files whole fuel mine budget (searches_in (go input) k)
-AfterStep files whole fuel mine budget go k (step.Over it) = AfterSought files whole fuel mine budget k it
+AfterStep files whole fuel mine budget go k (step.Over it) = AfterSearch files whole fuel mine budget k it
 
 -- a call of the tree fails only where its count of faults rose; where none failed, that is as it was
-abbrev pub CountsSought : ℕ → ℕ → Sought → Type 0
-CountsSought old new (sought.Unread left) = Rose old new
-CountsSought old new it = new ≡ old
+abbrev pub CountsSearch : ℕ → ℕ → SearchEnd → Type 0
+CountsSearch old new (ends.Unread left) = Rose old new
+CountsSearch old new it = new ≡ old
 
 -- the same of a step; behind one on which the search goes on none failed
 abbrev pub CountsStep : ℕ → ℕ → Step → Type 0
 CountsStep old new (step.On input) = new ≡ old
-CountsStep old new (step.Over it) = CountsSought old new it
+CountsStep old new (step.Over it) = CountsSearch old new it
 
 -- the search is given what it waits for
 abbrev pub Fits : Await → Step → Type 0
@@ -102,9 +102,9 @@ pub record Taken (files : Option Files) (faults faults' number : ℕ) (mine mine
   pub counts : CountsStep faults faults' it
 
 -- a whole search
-pub record Searched (files : Option Files) (faults faults' : ℕ) (mine mine' : List (Event × Reply)) (budget budget' : Budget) (before : Search) (it : Sought) : Type 0 where
-  pub moves : (k : Option Found → Run) (whole : Run) (fuel : ℕ) → At files whole fuel mine budget (searches_in before k) → AfterSought files whole fuel mine' budget' k it
-  pub counts : CountsSought faults faults' it
+pub record Searched (files : Option Files) (faults faults' : ℕ) (mine mine' : List (Event × Reply)) (budget budget' : Budget) (before : Search) (it : SearchEnd) : Type 0 where
+  pub moves : (k : Option Found → Run) (whole : Run) (fuel : ℕ) → At files whole fuel mine budget (searches_in before k) → AfterSearch files whole fuel mine' budget' k it
+  pub counts : CountsSearch faults faults' it
 
 -- where a search is broken off, or an event of it is refused
 abbrev pub SearchParted : Option Files → List (Event × Reply) → List (Event × Reply) → Budget → Search → Type 0

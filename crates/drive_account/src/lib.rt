@@ -24,4 +24,4 @@ pub use payments::{Budget, pay_reply};
 pub use places::refused;
 pub use port::{Halt, Port};
 pub use replay::ReplayPort;
-pub use search::{Sought, seek};
+pub use search::{SearchEnd, seek};

@@ -31,7 +31,7 @@ use tree_files::{Tree, TreeFault};
 
 /// How a search is over.
 #[derive(Drop)]
-pub enum Sought {
+pub enum SearchEnd {
     /// It came to its answer.
     Found(Option<Found>),
     /// A payment could not be made.
@@ -45,7 +45,7 @@ pub enum Sought {
 pub enum Step {
     /// The search goes on with this.
     On(LookIn),
-    Over(Sought),
+    Over(SearchEnd),
 }
 
 /// A unit is paid for a call of the tree, or for an entry that is passed over.
@@ -56,7 +56,7 @@ fn pay_unit(budget: &mut Budget, of_tree: bool) -> Step
     if budget.pay(of_tree, 1) {
         Step::On(LookIn::Paid)
     } else {
-        Step::Over(Sought::Out)
+        Step::Over(SearchEnd::Out)
     }
 }
 
@@ -87,7 +87,7 @@ fn listed(budget: &mut Budget, reply: Reply) -> Step
 {
     if !pay_reply(budget, &reply) {
         drop(reply);
-        return Step::Over(Sought::Out);
+        return Step::Over(SearchEnd::Out);
     }
     let probe = probe_of(&reply);
     drop(reply);
@@ -110,7 +110,7 @@ fn ask<P: Port>(port: &mut P, budget: &mut Budget, dir: TreePath, part: Text) ->
     if !budget.pay(false, 1) {
         drop(dir);
         drop(part);
-        return Ok(Step::Over(Sought::Out));
+        return Ok(Step::Over(SearchEnd::Out));
     }
     budget.read = None;
     match port.call(Event::DirGet { dir, part }) {
@@ -132,7 +132,7 @@ fn kept(budget: &mut Budget, units: u64) -> Step
     if budget.pay(false, units) {
         Step::On(LookIn::Kept)
     } else {
-        Step::Over(Sought::Out)
+        Step::Over(SearchEnd::Out)
     }
 }
 
@@ -181,7 +181,7 @@ fn give_want<P: Port>(port: &mut P, budget: &mut Budget, want: LookWant) -> Resu
         LookWant::Pay { tree } => Ok(pay_unit(budget, tree)),
         LookWant::DirGet { dir, part } => ask(port, budget, dir, part),
         LookWant::DirSet { dir, listing } => keep(port, budget, dir, listing),
-        LookWant::Done(found) => Ok(Step::Over(Sought::Found(found))),
+        LookWant::Done(found) => Ok(Step::Over(SearchEnd::Found(found))),
     }
 }
 
@@ -194,7 +194,7 @@ fn unread(budget: &Budget) -> Result<Step, Halt>
     ensures refused { IsErrOf result Halt.Refused → ⊥ }
 {
     match budget.read {
-        Some(left) => Ok(Step::Over(Sought::Unread(left))),
+        Some(left) => Ok(Step::Over(SearchEnd::Unread(left))),
         None => Err(Halt::NoMemory),
     }
 }
@@ -239,7 +239,7 @@ fn search<P: Port, T: Tree>(
     tree: &mut T,
     budget: &mut Budget,
     look: &mut Look,
-) -> Result<Sought, Halt>
+) -> Result<SearchEnd, Halt>
     requires ready { (P.view port.old).ready }
     requires safe { IsSafe (shown (P.view port.old).number (P.view port.old).mine) (means look.old given.Start) }
     requires fresh { look.old.stage ≡ stages.Fresh }
@@ -268,7 +268,7 @@ fn search<P: Port, T: Tree>(
         };
         match step {
             Step::On(next) => input = next,
-            Step::Over(sought) => return Ok(sought),
+            Step::Over(over) => return Ok(over),
         }
     }
 }
@@ -280,7 +280,7 @@ pub fn seek<P: Port, T: Tree>(
     budget: &mut Budget,
     name: Dotted,
     path: Items,
-) -> Result<Sought, Halt>
+) -> Result<SearchEnd, Halt>
     requires ready { (P.view port.old).ready }
     requires safe { IsSafe (shown (P.view port.old).number (P.view port.old).mine) (searches name path []) }
     ensures stays { Stays (P.view port.old) (P.view port.new) }
@@ -298,7 +298,7 @@ pub fn seek<P: Port, T: Tree>(
     let Ok(mut look) = Look::start(name, path) else {
         return Err(Halt::NoMemory);
     };
-    let sought = search(port, tree, budget, &mut look);
+    let over = search(port, tree, budget, &mut look);
     drop(look);
-    sought
+    over
 }

@@ -8,13 +8,13 @@ ghost use Rattle.py_frames.specs.declared.want.Want.TheVariants as wants;
 ghost use Rattle.drive_account.specs.View.{View, Stays};
 ghost use Rattle.drive_account.specs.Ending.{Holds};
 ghost use Rattle.tree_files.specs.Files.{Files};
-ghost use Rattle.drive_account.specs.Searching.{AfterSought, CountsSought};
+ghost use Rattle.drive_account.specs.Searching.{AfterSearch, CountsSearch};
 ghost use Rattle.drive_account.specs.Asking.{Parted, Refused, Asked, AllKept};
 ghost use Rattle.py_run.specs.Turns.{Stood, Turned, After, Counts, remains, feeds};
 
 use crate::turns::Turn;
 use crate::working::feed;
-use drive_account::{Halt, Port, Sought, seek};
+use drive_account::{Halt, Port, SearchEnd, seek};
 use drive_straight::Execution;
 use find_load::In;
 use py_frames::Procedure;
@@ -28,23 +28,23 @@ fn found(
     alloc: Global,
     execution: &mut Execution,
     procedure: Procedure,
-    sought: Sought,
+    over: SearchEnd,
 ) -> Result<Turn, Halt>
     ensures after { IfOk result (λ turn. (files : Option Files) (whole : Run) (fuel : ℕ) (mine : List (Event × Reply))
-        → AfterSought files whole fuel mine execution.old.budget
-        (λ answer. feeds execution.old procedure (given.Found answer)) sought
+        → AfterSearch files whole fuel mine execution.old.budget
+        (λ answer. feeds execution.old procedure (given.Found answer)) over
         → After files whole fuel mine execution.new turn) }
-    ensures counts { IfOk result (λ turn. (old new : ℕ) → CountsSought old new sought → Counts old new turn) }
+    ensures counts { IfOk result (λ turn. (old new : ℕ) → CountsSearch old new over → Counts old new turn) }
     ensures held { execution.new.held ≡ execution.old.held }
     ensures refused { IsErrOf result Halt.Refused → ⊥ }
 {
-    match sought {
-        Sought::Found(answer) => feed(alloc, execution, procedure, In::Found(answer)),
-        Sought::Out => {
+    match over {
+        SearchEnd::Found(answer) => feed(alloc, execution, procedure, In::Found(answer)),
+        SearchEnd::Out => {
             drop(procedure);
             Ok(Turn::Out)
         }
-        Sought::Unread(left) => {
+        SearchEnd::Unread(left) => {
             drop(procedure);
             Ok(Turn::Unread(left))
         }
@@ -77,7 +77,7 @@ pub fn find<P: Port, T: Tree>(
     ensures asked { Asked (T.files tree.old) (T.files tree.new) (T.faults tree.old) (T.faults tree.new) }
 {
     match seek(port, tree, &mut execution.budget, name, path) {
-        Ok(sought) => found(alloc, execution, procedure, sought),
+        Ok(over) => found(alloc, execution, procedure, over),
         Err(halt) => {
             drop(procedure);
             Err(halt)

@@ -75,7 +75,7 @@ returns-in-Over-clause-searched g c =
     let taken = took files (g.T.Tree.files c.steps.tree) _ _ old.number first.number old.mine new.mine c.steps.budget c.take_step.new.budget _ _ c.in-Ok.step c.steps.invariant.asked.files c.steps.invariant.stays.number c.in-Ok.ensures.taken in
     record {
       moves = λ k whole fuel a. subst (λ (it : Step). AfterStep files whole fuel new.mine c.take_step.new.budget (means c.take_step.new.look) k it) c.in-Over.is (taken.moves k whole fuel (c.steps.invariant.moves k whole fuel a));
-      counts = over_counts _ _ _ c.in-Over.sought c.steps.invariant.unfailed (subst (λ (it : Step). CountsStep (g.T.Tree.faults c.steps.tree) (g.T.Tree.faults c.take_step.new.tree) it) c.in-Over.is taken.counts);
+      counts = over_counts _ _ _ c.in-Over.over c.steps.invariant.unfailed (subst (λ (it : Step). CountsStep (g.T.Tree.faults c.steps.tree) (g.T.Tree.faults c.take_step.new.tree) it) c.in-Over.is taken.counts);
     }
 
 pub returns-in-Over-clause-kept : goal.returns-in-Over-clause-kept

@@ -4,7 +4,7 @@ use Rattle.path_finder.specs.declared.words.Found.{Found}
 use Rattle.find_load.specs.declared.words.In.TheVariants as given
 use Rattle.drive_account.specs.declared.port.Halt.TheVariants.{Refused}
 use Rattle.py_run.specs.Turns.{feeds}
-use Rattle.py_run.proofs.Finding.{in_sought}
+use Rattle.py_run.proofs.Finding.{in_search_end}
 use Rattle.py_run.proofs.Results.{if_ok, if_err, if_ok_both}
 use Rattle.py_run.proofs.find.find.Goals as goal
 
@@ -25,7 +25,7 @@ returns-in-Ok-clause-turned g c =
 pub returns-in-Ok-clause-part : goal.returns-in-Ok-clause-part
 returns-in-Ok-clause-part g c = if_err c.found.result (λ _. λ whole fuel a.
     let k : Option Found → Run = λ answer. feeds c.args.execution.now c.args.procedure (given.Found answer) in
-    in_sought c.seek.new.budget k c.in-Ok.sought (c.in-Ok.ensures.searched.moves k whole fuel a))
+    in_search_end c.seek.new.budget k c.in-Ok.over (c.in-Ok.ensures.searched.moves k whole fuel a))
 
 pub returns-in-Ok-clause-holds : goal.returns-in-Ok-clause-holds
 returns-in-Ok-clause-holds g c = if_ok c.found.result (λ _. rw c.found.ensures.held (c.in-Ok.ensures.holds c.args.execution.now.held c.requires.stood.holds))
