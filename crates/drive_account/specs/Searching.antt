@@ -1,5 +1,5 @@
 -- What a search of a script does, step by step, as a part of what the script means.
-use Rattle.std.specs.Prelude.{◌≡◌, ◌≤◌, ℕ, ◌+◌, List, Option}
+use Rattle.std.specs.Prelude.{◌≡◌, ◌≤◌, ℕ, ◌+◌, List, Option, Result, IfOk, OnOk, OnErr, IsErrOf}
 use Rattle.tree_files.specs.Files.{Files}
 use Rattle.tree_files.specs.Count.{Rose}
 use Rattle.machine_events.specs.declared.event.Event.{Event}
@@ -14,12 +14,14 @@ use Rattle.path_finder.specs.declared.words.LookIn.{LookIn}
 use Rattle.path_finder.specs.declared.words.LookWant.{LookWant}
 use Rattle.path_finder.specs.declared.words.LookWant.TheVariants as wanted
 use Rattle.meaning_script.specs.Searches.{searches_in}
-use Rattle.drive_account.specs.View.{View}
+use Rattle.drive_account.specs.View.{View, Stays}
 use Rattle.drive_account.specs.declared.held.Held.{Held}
 use Rattle.drive_account.specs.Ending.{Holds}
 use Rattle.drive_account.specs.At.{At, IsShort}
-use Rattle.drive_account.specs.Asking.{Parted, Refused}
+use Rattle.drive_account.specs.Asking.{Parted, Refused, Asked, AllKept}
 use Rattle.drive_account.specs.declared.payments.Budget.{Budget}
+use Rattle.drive_account.specs.declared.port.Halt.{Halt}
+use Rattle.drive_account.specs.declared.port.Halt.TheVariants as halts
 use Rattle.drive_account.specs.declared.search.SearchEnd.{SearchEnd}
 use Rattle.drive_account.specs.declared.search.SearchEnd.TheVariants as ends
 use Rattle.drive_account.specs.declared.search.Step.{Step}
@@ -95,6 +97,19 @@ GiveParted mine mine' budget want = (files : Option Files) (go : LookIn → Sear
 abbrev pub GiveRefused : {S : Type 0} → View S → List (Event × Reply) → Budget → LookWant → Type 0
 GiveRefused v mine budget want = (files : Option Files) (go : LookIn → Search) (k : Option Found → Run) → Refused v files mine budget (searches_in (wants want go) k)
 
+-- a search is given what it wants, at a port
+pub record GivesWant {S : Type 0} (old new : View S) (budget budget' : Budget) (want : LookWant) (result : Result Step Halt) : Type 0 where
+  -- the port is the same script's
+  pub stays : Stays old new
+  -- whatever script stood there stands where the step leads
+  pub given : IfOk result (Given old.number old.mine new.mine budget budget' want)
+  -- what the script holds is as it was
+  pub holds : OnOk result (Keeps old new)
+  -- at every `Err`, that of a refused event too, the script stands somewhere
+  pub part : OnErr result (GiveParted old.mine new.mine budget want)
+  -- only an event that is due is refused
+  pub refused : IsErrOf result halts.Refused → GiveRefused new old.mine budget want
+
 -- a step from a search on
 pub record Taken (files : Option Files) (faults faults' number : ℕ) (mine mine' : List (Event × Reply)) (budget budget' : Budget) (before : Search) (go : LookIn → Search) (it : Step) : Type 0 where
   pub moves : (k : Option Found → Run) (whole : Run) (fuel : ℕ) → At files whole fuel mine budget (searches_in before k) → AfterStep files whole fuel mine' budget' go k it
@@ -113,3 +128,20 @@ SearchParted files mine mine' budget before = (k : Option Found → Run) → Par
 -- whatever script was to search so stands at an event that the port refused
 abbrev pub SearchRefused : {S : Type 0} → View S → Option Files → List (Event × Reply) → Budget → Search → Type 0
 SearchRefused v files mine budget before = (k : Option Found → Run) → Refused v files mine budget (searches_in before k)
+
+-- a script searches so over a tree, to the end
+pub record SearchesAll {S : Type 0} (old new : View S) (files files' : Option Files) (faults faults' listed listed' : ℕ) (budget budget' : Budget) (before : Search) (result : Result SearchEnd Halt) : Type 0 where
+  -- the port is the same script's
+  pub stays : Stays old new
+  -- whatever script was to search so stands where the search leads
+  pub searched : IfOk result (Searched files faults faults' old.mine new.mine budget budget' before)
+  -- a directory is listed at most once for each listing that is kept
+  pub kept : OnOk result (AllKept listed listed' old.mine new.mine)
+  -- what the script holds is as it was
+  pub holds : OnOk result (Keeps old new)
+  -- at every `Err`, that of a refused event too, the script stands somewhere
+  pub part : OnErr result (SearchParted files old.mine new.mine budget before)
+  -- only an event that is due is refused
+  pub refused : IsErrOf result halts.Refused → SearchRefused new files old.mine budget before
+  -- the tree is as it was, but that its count of faults may have risen
+  pub asked : Asked files files' faults faults'

@@ -18,7 +18,7 @@ ghost use Rattle.machine_shown.specs.Shown.{Shown, shown, Running};
 ghost use Rattle.tree_files.specs.Count.{Rose};
 ghost use Rattle.tree_files.specs.Files.{Files};
 ghost use Rattle.drive_account.specs.At.{At};
-ghost use Rattle.drive_account.specs.Searching.{AfterStep, CountsStep, Fits, SafeStep, IsSafe, MayGive, Given, Keeps, GiveParted, GiveRefused, Taken, Searched, SearchParted, SearchRefused};
+ghost use Rattle.drive_account.specs.Searching.{AfterStep, CountsStep, Fits, SafeStep, IsSafe, MayGive, Given, GivesWant, Keeps, Taken, SearchParted, SearchRefused, SearchesAll};
 ghost use Rattle.drive_account.specs.Asking.{Asked, AllKept};
 
 use crate::{Budget, Halt, Port, pay_reply, texts_size};
@@ -98,14 +98,7 @@ fn listed(budget: &mut Budget, reply: Reply) -> Step
 fn ask<P: Port>(port: &mut P, budget: &mut Budget, dir: TreePath, part: Text) -> Result<Step, Halt>
     requires ready { (P.view port.old).ready }
     requires runs { (shown (P.view port.old).number (P.view port.old).mine).doing ≡ Running }
-    ensures stays { Stays (P.view port.old) (P.view port.new) }
-    ensures given { IfOk result (Given (P.view port.old).number (P.view port.old).mine
-        (P.view port.new).mine budget.old budget.new (wanted.DirGet dir part)) }
-    ensures holds { OnOk result (Keeps (P.view port.old) (P.view port.new)) }
-    ensures part { OnErr result (GiveParted (P.view port.old).mine (P.view port.new).mine budget.old
-        (wanted.DirGet dir part)) }
-    ensures refused { IsErrOf result Halt.Refused → GiveRefused (P.view port.new) (P.view port.old).mine budget.old
-        (wanted.DirGet dir part) }
+    ensures { GivesWant (P.view port.old) (P.view port.new) budget.old budget.new (wanted.DirGet dir part) result }
 {
     if !budget.pay(false, 1) {
         drop(dir);
@@ -145,14 +138,7 @@ fn keep<P: Port>(
 ) -> Result<Step, Halt>
     requires ready { (P.view port.old).ready }
     requires runs { (shown (P.view port.old).number (P.view port.old).mine).doing ≡ Running }
-    ensures stays { Stays (P.view port.old) (P.view port.new) }
-    ensures given { IfOk result (Given (P.view port.old).number (P.view port.old).mine
-        (P.view port.new).mine budget.old budget.new (wanted.DirSet dir listing)) }
-    ensures holds { OnOk result (Keeps (P.view port.old) (P.view port.new)) }
-    ensures part { OnErr result (GiveParted (P.view port.old).mine (P.view port.new).mine budget.old
-        (wanted.DirSet dir listing)) }
-    ensures refused { IsErrOf result Halt.Refused → GiveRefused (P.view port.new) (P.view port.old).mine budget.old
-        (wanted.DirSet dir listing) }
+    ensures { GivesWant (P.view port.old) (P.view port.new) budget.old budget.new (wanted.DirSet dir listing) result }
 {
     let units = texts_size(&listing.names);
     budget.read = None;
@@ -169,13 +155,7 @@ fn keep<P: Port>(
 fn give_want<P: Port>(port: &mut P, budget: &mut Budget, want: LookWant) -> Result<Step, Halt>
     requires ready { (P.view port.old).ready }
     requires may { MayGive (shown (P.view port.old).number (P.view port.old).mine) want }
-    ensures stays { Stays (P.view port.old) (P.view port.new) }
-    ensures given { IfOk result (Given (P.view port.old).number (P.view port.old).mine
-        (P.view port.new).mine budget.old budget.new want) }
-    ensures holds { OnOk result (Keeps (P.view port.old) (P.view port.new)) }
-    ensures part { OnErr result (GiveParted (P.view port.old).mine (P.view port.new).mine budget.old want) }
-    ensures refused { IsErrOf result Halt.Refused → GiveRefused (P.view port.new)
-        (P.view port.old).mine budget.old want }
+    ensures { GivesWant (P.view port.old) (P.view port.new) budget.old budget.new want result }
 {
     match want {
         LookWant::Pay { tree } => Ok(pay_unit(budget, tree)),
@@ -243,17 +223,9 @@ fn search<P: Port, T: Tree>(
     requires ready { (P.view port.old).ready }
     requires safe { IsSafe (shown (P.view port.old).number (P.view port.old).mine) (means look.old given.Start) }
     requires fresh { look.old.stage ≡ stages.Fresh }
-    ensures stays { Stays (P.view port.old) (P.view port.new) }
-    ensures searched { IfOk result (Searched (T.files tree.old) (T.faults tree.old) (T.faults tree.new)
-        (P.view port.old).mine (P.view port.new).mine budget.old budget.new (means look.old given.Start)) }
-    ensures kept { OnOk result (AllKept (T.lists tree.old) (T.lists tree.new) (P.view port.old).mine
-        (P.view port.new).mine) }
-    ensures holds { OnOk result (Keeps (P.view port.old) (P.view port.new)) }
-    ensures part { OnErr result (SearchParted (T.files tree.old) (P.view port.old).mine
-        (P.view port.new).mine budget.old (means look.old given.Start)) }
-    ensures refused { IsErrOf result Halt.Refused → SearchRefused (P.view port.new) (T.files tree.old)
-        (P.view port.old).mine budget.old (means look.old given.Start) }
-    ensures asked { Asked (T.files tree.old) (T.files tree.new) (T.faults tree.old) (T.faults tree.new) }
+    ensures { SearchesAll (P.view port.old) (P.view port.new) (T.files tree.old) (T.files tree.new) (T.faults tree.old)
+        (T.faults tree.new) (T.lists tree.old) (T.lists tree.new) budget.old budget.new
+        (means look.old given.Start) result }
 {
     let mut input = LookIn::Start;
     let mut steps: u64 = 0;
@@ -283,17 +255,8 @@ pub fn seek<P: Port, T: Tree>(
 ) -> Result<SearchEnd, Halt>
     requires ready { (P.view port.old).ready }
     requires safe { IsSafe (shown (P.view port.old).number (P.view port.old).mine) (searches name path []) }
-    ensures stays { Stays (P.view port.old) (P.view port.new) }
-    ensures searched { IfOk result (Searched (T.files tree.old) (T.faults tree.old) (T.faults tree.new)
-        (P.view port.old).mine (P.view port.new).mine budget.old budget.new (searches name path [])) }
-    ensures kept { OnOk result (AllKept (T.lists tree.old) (T.lists tree.new) (P.view port.old).mine
-        (P.view port.new).mine) }
-    ensures holds { OnOk result (Keeps (P.view port.old) (P.view port.new)) }
-    ensures part { OnErr result (SearchParted (T.files tree.old) (P.view port.old).mine
-        (P.view port.new).mine budget.old (searches name path [])) }
-    ensures refused { IsErrOf result Halt.Refused → SearchRefused (P.view port.new) (T.files tree.old)
-        (P.view port.old).mine budget.old (searches name path []) }
-    ensures asked { Asked (T.files tree.old) (T.files tree.new) (T.faults tree.old) (T.faults tree.new) }
+    ensures { SearchesAll (P.view port.old) (P.view port.new) (T.files tree.old) (T.files tree.new) (T.faults tree.old)
+        (T.faults tree.new) (T.lists tree.old) (T.lists tree.new) budget.old budget.new (searches name path []) result }
 {
     let Ok(mut look) = Look::start(name, path) else {
         return Err(Halt::NoMemory);

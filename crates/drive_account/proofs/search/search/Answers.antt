@@ -34,16 +34,29 @@ take_step-requires-clause-safe g c = subst (λ (t : ℕ). IsSafe (shown t (g.P.P
 pub take_step-requires-clause-suits : goal.take_step-requires-clause-suits
 take_step-requires-clause-suits g c = subst (λ (o : Option Files). ForSome o (λ f. Suits c.steps.look.stage f)) (sym c.steps.invariant.asked.files) c.steps.invariant.suits
 
-pub returns-then-steps-clause-part : goal.returns-then-steps-clause-part
-returns-then-steps-clause-part g c = λ k whole fuel a. in_some (c.steps.invariant.moves k whole fuel a).stands
+pub returns-then-steps : goal.returns-then-steps
+returns-then-steps g c = record {
+  stays = c.steps.invariant.stays;
+  searched = tt;
+  kept = tt;
+  holds = tt;
+  part = λ k whole fuel a. in_some (c.steps.invariant.moves k whole fuel a).stands;
+  refused = λ is. absurd (cc is);
+  asked = c.steps.invariant.asked;
+}
 
-pub returns-in-Err-clause-part : goal.returns-in-Err-clause-part
-returns-in-Err-clause-part g c = λ k whole fuel a. steps_parted (g.T.Tree.files c.args.tree.now) (g.T.Tree.files c.steps.tree) _ _ _ _ c.steps.invariant.asked.files c.in-Err.ensures.part k whole fuel (c.steps.invariant.moves k whole fuel a)
-
-pub returns-in-Err-clause-refused : goal.returns-in-Err-clause-refused
-returns-in-Err-clause-refused g c = λ is k whole fuel a.
-    let same : c.in-Err.halt ≡ Refused = cc in
-    steps_refused (g.P.Port.view c.take_step.new.port) (g.T.Tree.files c.args.tree.now) (g.T.Tree.files c.steps.tree) _ _ _ c.steps.invariant.asked.files (c.in-Err.ensures.refused (ap Err same)) k whole fuel (c.steps.invariant.moves k whole fuel a)
+pub returns-in-Err : goal.returns-in-Err
+returns-in-Err g c = record {
+  stays = stays_trans _ _ _ c.steps.invariant.stays c.take_step.ensures.stays;
+  searched = tt;
+  kept = tt;
+  holds = tt;
+  part = λ k whole fuel a. steps_parted (g.T.Tree.files c.args.tree.now) (g.T.Tree.files c.steps.tree) _ _ _ _ c.steps.invariant.asked.files c.in-Err.ensures.part k whole fuel (c.steps.invariant.moves k whole fuel a);
+  refused = λ is k whole fuel a.
+      let same : c.in-Err.halt ≡ Refused = cc in
+      steps_refused (g.P.Port.view c.take_step.new.port) (g.T.Tree.files c.args.tree.now) (g.T.Tree.files c.steps.tree) _ _ _ c.steps.invariant.asked.files (c.in-Err.ensures.refused (ap Err same)) k whole fuel (c.steps.invariant.moves k whole fuel a);
+  asked = asked_trans c.steps.invariant.asked c.take_step.ensures.asked;
+}
 
 pub steps-preserved : goal.steps-preserved
 steps-preserved g c =
@@ -66,20 +79,22 @@ steps-preserved g c =
       asked = asked_trans c.steps.invariant.asked c.in-Ok.ensures.asked;
     }
 
-pub returns-in-Over-clause-searched : goal.returns-in-Over-clause-searched
-returns-in-Over-clause-searched g c =
+pub returns-in-Over : goal.returns-in-Over
+returns-in-Over g c =
     let first = g.P.Port.view c.args.port.now in
     let old = g.P.Port.view c.steps.port in
     let new = g.P.Port.view c.take_step.new.port in
     let files = g.T.Tree.files c.args.tree.now in
     let taken = took files (g.T.Tree.files c.steps.tree) _ _ old.number first.number old.mine new.mine c.steps.budget c.take_step.new.budget _ _ c.in-Ok.step c.steps.invariant.asked.files c.steps.invariant.stays.number c.in-Ok.ensures.taken in
     record {
-      moves = λ k whole fuel a. subst (λ (it : Step). AfterStep files whole fuel new.mine c.take_step.new.budget (means c.take_step.new.look) k it) c.in-Over.is (taken.moves k whole fuel (c.steps.invariant.moves k whole fuel a));
-      counts = over_counts _ _ _ c.in-Over.over c.steps.invariant.unfailed (subst (λ (it : Step). CountsStep (g.T.Tree.faults c.steps.tree) (g.T.Tree.faults c.take_step.new.tree) it) c.in-Over.is taken.counts);
+      stays = stays_trans _ _ _ c.steps.invariant.stays c.take_step.ensures.stays;
+      searched = record {
+        moves = λ k whole fuel a. subst (λ (it : Step). AfterStep files whole fuel new.mine c.take_step.new.budget (means c.take_step.new.look) k it) c.in-Over.is (taken.moves k whole fuel (c.steps.invariant.moves k whole fuel a));
+        counts = over_counts _ _ _ c.in-Over.over c.steps.invariant.unfailed (subst (λ (it : Step). CountsStep (g.T.Tree.faults c.steps.tree) (g.T.Tree.faults c.take_step.new.tree) it) c.in-Over.is taken.counts);
+      };
+      kept = kept_trans _ _ _ first.mine old.mine new.mine c.steps.invariant.kept c.in-Ok.ensures.kept;
+      holds = λ held known. c.in-Ok.ensures.holds held (c.steps.invariant.holds held known);
+      part = tt;
+      refused = λ is. absurd (cc is);
+      asked = asked_trans c.steps.invariant.asked c.take_step.ensures.asked;
     }
-
-pub returns-in-Over-clause-kept : goal.returns-in-Over-clause-kept
-returns-in-Over-clause-kept g c = kept_trans _ _ _ (g.P.Port.view c.args.port.now).mine (g.P.Port.view c.steps.port).mine (g.P.Port.view c.take_step.new.port).mine c.steps.invariant.kept c.in-Ok.ensures.kept
-
-pub returns-in-Over-clause-holds : goal.returns-in-Over-clause-holds
-returns-in-Over-clause-holds g c = λ held known. c.in-Ok.ensures.holds held (c.steps.invariant.holds held known)

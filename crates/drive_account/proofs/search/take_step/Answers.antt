@@ -17,6 +17,12 @@ give_want-requires-clause-may g c =
     may_give s c.in-Ok.want (means c.next.new.self) k
     (safe_reads (g.T.Tree.files c.args.tree.now) (means c.args.look.now c.args.input) (wants c.in-Ok.want (means c.next.new.self)) s k c.in-Ok.ensures.goes c.requires.safe.1)
 
+pub returns-in-Ok-clause-stays : goal.returns-in-Ok-clause-stays
+returns-in-Ok-clause-stays g c = c.give_want.ensures.stays
+
+pub returns-in-Ok-clause-holds : goal.returns-in-Ok-clause-holds
+returns-in-Ok-clause-holds g c = c.give_want.ensures.holds
+
 pub returns-in-Ok-clause-taken : goal.returns-in-Ok-clause-taken
 returns-in-Ok-clause-taken g c =
     let files = g.T.Tree.files c.args.tree.now in
