@@ -1,6 +1,6 @@
 -- Operands that come, and what waits for them.
-use Rattle.std.proofs.Common.{◌≡◌, ◌<◌, ◌-◌, ℕ, zero, suc, ◌+◌, List, [], ◌∷◌, ◌++◌, map, drop, length, length-append, remove, slice_get, Bool, true, false, if◌then◌else◌, not, Option, Some, None, Result, refl, sym, subst, ◌∙◌, ap, arith}
-use Rattle.std.proofs.lemmas.Bool.{false≢true}
+use Rattle.std.proofs.Common.{◌≡◌, ◌<◌, ◌-◌, ℕ, zero, suc, ◌+◌, List, [], ◌∷◌, ◌++◌, map, drop, length, length-append, remove, slice_get, Bool, true, false, if◌then◌else◌, Option, Some, None, Result, refl, sym, subst, ◌∙◌, ap, arith}
+use Rattle.std.proofs.lemmas.Bool.{false≢true, not-true}
 use Rattle.std.proofs.lemmas.Option.{slice_get_within}
 use Rattle.std.proofs.lemmas.Result.{IfOk-weaker}
 use Rattle.base_types.specs.declared.no_memory.NoMemory.{NoMemory}
@@ -126,12 +126,8 @@ call_at : (around : Around) (callee : Expr) (form : Expr-F Expr) (es : List Expr
 call_at around callee (Expr-F.Attribute object x) es h = absurd (cc h)
 call_at around callee form es h = refl
 
-negated : (b : Bool) → not b ≡ true → b ≡ false
-negated true h = absurd (false≢true h)
-negated false h = refl
-
 operated_at : (around : Around) (d : Expr-F Expr) (s : State) (k : Onward) → is_operated d ≡ true → eval_at around d s k ≡ gathers (map (eval around) (operands_at d)) [] (applied_on (applies_at around d)) s k
-operated_at around (Expr-F.Call f es) s k h = ap (λ (p : Piece). p s k) (call_at around f (out-Expr f) es (negated (is_attribute (out-Expr f)) h))
+operated_at around (Expr-F.Call f es) s k h = ap (λ (p : Piece). p s k) (call_at around f (out-Expr f) es (not-true (is_attribute (out-Expr f)) h))
 operated_at around (Expr-F.Tuple es) s k h = refl
 operated_at around (Expr-F.List es) s k h = refl
 operated_at around (Expr-F.Attribute a x) s k h = refl
