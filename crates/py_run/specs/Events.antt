@@ -19,11 +19,11 @@ pub record MakesEvent {S A : Type 0} (old new : View S) (budget : Budget) (run :
   pub stays : Stays old new
   -- whatever script stood at the event stands where the turn leads
   pub turned : IfOk result (λ came. TurnedByEvent old.mine new.mine budget after run (turn came))
-  -- no listing that the script's events keep is lost
+  -- the count of listings that the script's events keep does not fall
   pub grows : OnOk result (lists_in old.mine ≤ lists_in new.mine)
   -- what the script holds is known
   pub holds : OnOk result (Holds new after.held)
-  -- where memory is wanted, the script stands somewhere
+  -- at every `Err`, that of a refused event too, the script stands somewhere
   pub part : OnErr result ((files : Option Files) → Parted files old.mine new.mine budget run)
   -- only an event that is due is refused
   pub refused : IsErrOf result halts.Refused → (files : Option Files) → Refused new files old.mine budget run
