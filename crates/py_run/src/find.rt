@@ -1,16 +1,15 @@
 //! Turns that search.
-ghost use Rattle.std.specs.Prelude.{◌≡◌, ℕ, List, IfOk, OnOk, OnErr, IsErrOf, Option};
+ghost use Rattle.std.specs.Prelude.{◌≡◌, ℕ, List, IfOk, IsErrOf, Option};
 ghost use Rattle.find_load.specs.declared.words.In.TheVariants as given;
 ghost use Rattle.machine_events.specs.declared.event.Event.{Event};
 ghost use Rattle.machine_events.specs.declared.event.Reply.{Reply};
 ghost use Rattle.meaning_runs.specs.Runs.{Run};
 ghost use Rattle.py_frames.specs.declared.want.Want.TheVariants as wants;
-ghost use Rattle.drive_account.specs.View.{View, Stays};
-ghost use Rattle.drive_account.specs.Ending.{Holds};
+ghost use Rattle.drive_account.specs.View.{View};
 ghost use Rattle.tree_files.specs.Files.{Files};
 ghost use Rattle.drive_account.specs.Searching.{AfterSearch, CountsSearch};
-ghost use Rattle.drive_account.specs.Asking.{Parted, Refused, Asked, AllKept};
-ghost use Rattle.py_run.specs.Turns.{Stood, Turned, After, Counts, remains, feeds};
+ghost use Rattle.py_run.specs.Turns.{Stood, After, Counts, remains, feeds};
+ghost use Rattle.py_run.specs.Trees.{GivesDue};
 
 use crate::turns::Turn;
 use crate::working::feed;
@@ -63,18 +62,9 @@ pub fn find<P: Port, T: Tree>(
 ) -> Result<Turn, Halt>
     requires stood { Stood (P.view port.old) execution.old.held
         (remains execution.old (wants.Find name path procedure)) }
-    ensures stays { Stays (P.view port.old) (P.view port.new) }
-    ensures turned { IfOk result (Turned (T.files tree.old) (T.faults tree.old) (T.faults tree.new)
-        (P.view port.old).mine (P.view port.new).mine execution.old.budget execution.new
-        (remains execution.old (wants.Find name path procedure))) }
-    ensures kept { OnOk result (AllKept (T.lists tree.old) (T.lists tree.new) (P.view port.old).mine
-        (P.view port.new).mine) }
-    ensures holds { OnOk result (Holds (P.view port.new) execution.new.held) }
-    ensures part { OnErr result (Parted (T.files tree.old) (P.view port.old).mine
-        (P.view port.new).mine execution.old.budget (remains execution.old (wants.Find name path procedure))) }
-    ensures refused { IsErrOf result Halt.Refused → Refused (P.view port.new) (T.files tree.old)
-        (P.view port.old).mine execution.old.budget (remains execution.old (wants.Find name path procedure)) }
-    ensures asked { Asked (T.files tree.old) (T.files tree.new) (T.faults tree.old) (T.faults tree.new) }
+    ensures { GivesDue (P.view port.old) (P.view port.new) (T.files tree.old) (T.files tree.new) (T.faults tree.old)
+        (T.faults tree.new) (T.lists tree.old) (T.lists tree.new) execution.old.budget
+        (remains execution.old (wants.Find name path procedure)) execution.new result }
 {
     match seek(port, tree, &mut execution.budget, name, path) {
         Ok(over) => found(alloc, execution, procedure, over),

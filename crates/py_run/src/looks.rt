@@ -1,5 +1,5 @@
 //! Turns that look into the tree.
-ghost use Rattle.std.specs.Prelude.{◌≡◌, ◌≤◌, ℕ, List, IfOk, IsErrOf, IfSome, Option, Some, None, true};
+ghost use Rattle.std.specs.Prelude.{ℕ, IfOk, IsErrOf, Option, Some, None, true};
 ghost use Rattle.std.specs.Option.{ForSome};
 ghost use Rattle.tree_files.specs.Count.{Rose};
 ghost use Rattle.tree_files.specs.Files.{Files, IsFileAt};
@@ -7,8 +7,8 @@ ghost use Rattle.meaning_runs.specs.Runs.{Run, Pays, Looks, TextOf};
 ghost use Rattle.find_load.specs.declared.words.In.TheVariants as given;
 ghost use Rattle.meaning_script.specs.Imports.{opens};
 ghost use Rattle.py_frames.specs.declared.want.Want.TheVariants as wants;
-ghost use Rattle.drive_account.specs.Asking.{Asked};
 ghost use Rattle.py_run.specs.Turns.{Looked, IsFileStamp, remains, feeds};
+ghost use Rattle.py_run.specs.Trees.{LooksUp};
 
 use crate::turns::Turn;
 use crate::working::feed;
@@ -42,13 +42,11 @@ fn load<T: Tree>(
     procedure: Procedure,
 ) -> Result<Turn, Halt>
     requires file { ForSome (T.files tree.old) (λ f. IsFileAt f path.now) }
-    ensures turned { IfOk result (Looked (T.files tree.old) (T.faults tree.old)
-        (T.faults tree.new) execution.old.budget execution.new (Pays true 1
-        (Looks (TextOf path.now) (λ text. feeds execution.old procedure (given.Opened (Some text)))))) }
-    ensures held { execution.new.held ≡ execution.old.held }
-    ensures refused { IsErrOf result Halt.Refused → ⊥ }
-    ensures asked { Asked (T.files tree.old) (T.files tree.new) (T.faults tree.old) (T.faults tree.new) }
-    ensures lists_stay { T.lists tree.new ≡ T.lists tree.old }
+    ensures { LooksUp (T.files tree.old) (T.files tree.new) (T.faults tree.old)
+        (T.faults tree.new) (T.lists tree.old) (T.lists tree.new)
+        execution.old (Pays true 1 (Looks (TextOf path.now)
+        (λ text. feeds execution.old procedure (given.Opened (Some text)))))
+        execution.new result }
 {
     if !execution.budget.pay(true, 1) {
         drop(procedure);
@@ -78,14 +76,11 @@ fn seen<T: Tree>(
     stamp: Stamp,
 ) -> Result<Turn, Halt>
     requires file { IsFileStamp stamp → ForSome (T.files tree.old) (λ f. IsFileAt f path.now) }
-    ensures turned { IfOk result (Looked (T.files tree.old) (T.faults tree.old)
-        (T.faults tree.new) execution.old.budget execution.new (opens path.now
-        (feeds execution.old procedure (given.Opened None)) (λ text. feeds execution.old procedure
-        (given.Opened (Some text))) stamp)) }
-    ensures held { execution.new.held ≡ execution.old.held }
-    ensures refused { IsErrOf result Halt.Refused → ⊥ }
-    ensures asked { Asked (T.files tree.old) (T.files tree.new) (T.faults tree.old) (T.faults tree.new) }
-    ensures lists_stay { T.lists tree.new ≡ T.lists tree.old }
+    ensures { LooksUp (T.files tree.old) (T.files tree.new) (T.faults tree.old)
+        (T.faults tree.new) (T.lists tree.old) (T.lists tree.new)
+        execution.old (opens path.now (feeds execution.old procedure (given.Opened None))
+        (λ text. feeds execution.old procedure (given.Opened (Some text))) stamp)
+        execution.new result }
 {
     match stamp {
         Stamp::File(_) => load(alloc, tree, execution, path, procedure),
@@ -102,13 +97,10 @@ pub fn file<T: Tree>(
     path: &TreePath,
     procedure: Procedure,
 ) -> Result<Turn, Halt>
-    ensures turned { IfOk result (Looked (T.files tree.old) (T.faults tree.old)
-        (T.faults tree.new) execution.old.budget execution.new
-        (remains execution.old (wants.File path.now procedure))) }
-    ensures held { execution.new.held ≡ execution.old.held }
-    ensures refused { IsErrOf result Halt.Refused → ⊥ }
-    ensures asked { Asked (T.files tree.old) (T.files tree.new) (T.faults tree.old) (T.faults tree.new) }
-    ensures lists_stay { T.lists tree.new ≡ T.lists tree.old }
+    ensures { LooksUp (T.files tree.old) (T.files tree.new) (T.faults tree.old)
+        (T.faults tree.new) (T.lists tree.old) (T.lists tree.new)
+        execution.old (remains execution.old (wants.File path.now procedure))
+        execution.new result }
 {
     match tree.stamp(path) {
         Ok(stamp) => seen(alloc, tree, execution, path, procedure, stamp),

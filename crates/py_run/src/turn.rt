@@ -1,10 +1,8 @@
 //! One turn: what is wanted is given.
-ghost use Rattle.std.specs.Prelude.{◌≡◌, IfOk, OnOk, OnErr, IsErrOf};
-ghost use Rattle.drive_account.specs.View.{View, Stays};
-ghost use Rattle.drive_account.specs.Ending.{Holds};
-ghost use Rattle.drive_account.specs.Asking.{Parted, Refused, Asked, AllKept};
+ghost use Rattle.drive_account.specs.View.{View};
 ghost use Rattle.drive_straight.specs.Remains.{due};
-ghost use Rattle.py_run.specs.Turns.{Stepped, Stood, Turned, remains};
+ghost use Rattle.py_run.specs.Turns.{Stood, remains};
+ghost use Rattle.py_run.specs.Trees.{GivesDue};
 
 use crate::find::find;
 use crate::looks::file;
@@ -27,17 +25,9 @@ fn give_wanted<P: Port, T: Tree>(
     want: Want,
 ) -> Result<Turn, Halt>
     requires stood { Stood (P.view port.old) execution.old.held (remains execution.old want) }
-    ensures stays { Stays (P.view port.old) (P.view port.new) }
-    ensures turned { IfOk result (Turned (T.files tree.old) (T.faults tree.old) (T.faults tree.new)
-        (P.view port.old).mine (P.view port.new).mine execution.old.budget execution.new (remains execution.old want)) }
-    ensures holds { OnOk result (Holds (P.view port.new) execution.new.held) }
-    ensures part { OnErr result (Parted (T.files tree.old) (P.view port.old).mine
-        (P.view port.new).mine execution.old.budget (remains execution.old want)) }
-    ensures refused { IsErrOf result Halt.Refused → Refused (P.view port.new) (T.files tree.old)
-        (P.view port.old).mine execution.old.budget (remains execution.old want) }
-    ensures asked { Asked (T.files tree.old) (T.files tree.new) (T.faults tree.old) (T.faults tree.new) }
-    ensures kept { OnOk result (AllKept (T.lists tree.old) (T.lists tree.new) (P.view port.old).mine
-        (P.view port.new).mine) }
+    ensures { GivesDue (P.view port.old) (P.view port.new) (T.files tree.old) (T.files tree.new) (T.faults tree.old)
+        (T.faults tree.new) (T.lists tree.old) (T.lists tree.new) execution.old.budget
+        (remains execution.old want) execution.new result }
 {
     match want {
         Want::Call(event, on) => call(alloc, port, execution, event, on),
@@ -61,17 +51,9 @@ pub fn give<P: Port, T: Tree>(
     next: Next,
 ) -> Result<Turn, Halt>
     requires stood { Stood (P.view port.old) execution.old.held (due next execution.old) }
-    ensures stays { Stays (P.view port.old) (P.view port.new) }
-    ensures turned { IfOk result (Turned (T.files tree.old) (T.faults tree.old) (T.faults tree.new)
-        (P.view port.old).mine (P.view port.new).mine execution.old.budget execution.new (due next execution.old)) }
-    ensures holds { OnOk result (Holds (P.view port.new) execution.new.held) }
-    ensures part { OnErr result (Parted (T.files tree.old) (P.view port.old).mine
-        (P.view port.new).mine execution.old.budget (due next execution.old)) }
-    ensures refused { IsErrOf result Halt.Refused → Refused (P.view port.new) (T.files tree.old)
-        (P.view port.old).mine execution.old.budget (due next execution.old) }
-    ensures asked { Asked (T.files tree.old) (T.files tree.new) (T.faults tree.old) (T.faults tree.new) }
-    ensures kept { OnOk result (AllKept (T.lists tree.old) (T.lists tree.new) (P.view port.old).mine
-        (P.view port.new).mine) }
+    ensures { GivesDue (P.view port.old) (P.view port.new) (T.files tree.old) (T.files tree.new) (T.faults tree.old)
+        (T.faults tree.new) (T.lists tree.old) (T.lists tree.new) execution.old.budget
+        (due next execution.old) execution.new result }
 {
     match next {
         Next::ReadGlobal(name) => read(alloc, port, execution, name),

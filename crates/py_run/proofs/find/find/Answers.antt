@@ -14,26 +14,33 @@ seek-requires-clause-ready g c = c.requires.stood.ready
 pub seek-requires-clause-safe : goal.seek-requires-clause-safe
 seek-requires-clause-safe g c = ((λ answer. feeds c.args.execution.now c.args.procedure (given.Found answer)), c.requires.stood.safe)
 
-pub returns-in-Ok-clause-turned : goal.returns-in-Ok-clause-turned
-returns-in-Ok-clause-turned g c =
+pub returns-in-Ok : goal.returns-in-Ok
+returns-in-Ok g c =
     let k : Option Found → Run = λ answer. feeds c.args.execution.now c.args.procedure (given.Found answer) in
-    if_ok_both c.found.result c.found.ensures.after c.found.ensures.counts (λ turn after counts. record {
-      moves = λ whole fuel a. after (g.T.Tree.files c.args.tree.now) whole fuel (g.P.Port.view c.seek.new.port).mine (c.in-Ok.ensures.searched.moves k whole fuel a);
-      counts = counts _ _ c.in-Ok.ensures.searched.counts;
-    })
+    record {
+      stays = c.seek.ensures.stays;
+      turned = if_ok_both c.found.result c.found.ensures.after c.found.ensures.counts (λ turn after counts. record {
+        moves = λ whole fuel a. after (g.T.Tree.files c.args.tree.now) whole fuel (g.P.Port.view c.seek.new.port).mine (c.in-Ok.ensures.searched.moves k whole fuel a);
+        counts = counts _ _ c.in-Ok.ensures.searched.counts;
+      });
+      kept = if_ok c.found.result (λ _. c.in-Ok.ensures.kept);
+      holds = if_ok c.found.result (λ _. rw c.found.ensures.held (c.in-Ok.ensures.holds c.args.execution.now.held c.requires.stood.holds));
+      part = if_err c.found.result (λ _. λ whole fuel a. in_search_end c.seek.new.budget k c.in-Ok.over (c.in-Ok.ensures.searched.moves k whole fuel a));
+      refused = λ is. absurd (c.found.ensures.refused is);
+      asked = c.seek.ensures.asked;
+    }
 
-pub returns-in-Ok-clause-part : goal.returns-in-Ok-clause-part
-returns-in-Ok-clause-part g c = if_err c.found.result (λ _. λ whole fuel a.
+pub returns-in-Err : goal.returns-in-Err
+returns-in-Err g c =
     let k : Option Found → Run = λ answer. feeds c.args.execution.now c.args.procedure (given.Found answer) in
-    in_search_end c.seek.new.budget k c.in-Ok.over (c.in-Ok.ensures.searched.moves k whole fuel a))
-
-pub returns-in-Ok-clause-holds : goal.returns-in-Ok-clause-holds
-returns-in-Ok-clause-holds g c = if_ok c.found.result (λ _. rw c.found.ensures.held (c.in-Ok.ensures.holds c.args.execution.now.held c.requires.stood.holds))
-
-pub returns-in-Err-clause-part : goal.returns-in-Err-clause-part
-returns-in-Err-clause-part g c = λ whole fuel a. c.in-Err.ensures.part (λ answer. feeds c.args.execution.now c.args.procedure (given.Found answer)) whole fuel a
-
-pub returns-in-Err-clause-refused : goal.returns-in-Err-clause-refused
-returns-in-Err-clause-refused g c = λ is whole fuel a.
-    let same : c.in-Err.halt ≡ Refused = cc in
-    c.in-Err.ensures.refused (ap Err same) (λ answer. feeds c.args.execution.now c.args.procedure (given.Found answer)) whole fuel a
+    record {
+      stays = c.seek.ensures.stays;
+      turned = tt;
+      kept = tt;
+      holds = tt;
+      part = λ whole fuel a. c.in-Err.ensures.part k whole fuel a;
+      refused = λ is whole fuel a.
+          let same : c.in-Err.halt ≡ Refused = cc in
+          c.in-Err.ensures.refused (ap Err same) k whole fuel a;
+      asked = c.seek.ensures.asked;
+    }
