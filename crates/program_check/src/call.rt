@@ -43,8 +43,8 @@ fn plan_of(run: RunPlan, trace_file: Text) -> Option<Plan>
 
 /// Tells why a trace or a script was not opened, or that a call of the tree failed.
 fn unopened<K: Sink>(alloc: Global, why: Unopened, plan: Option<Plan>, err: &mut K) -> Report
-    ensures tells { (old new : Moment) → new.out ≡ old.out → old.err ≡ at K.written K.faults err.old
-        → new.err ≡ at K.written K.faults err.new → Unmade why old new result.status }
+    ensures tells { (old new : Moment) → new.out ≡ old.out → old.err ≡ at K.Sink err.old
+        → new.err ≡ at K.Sink err.new → Unmade why old new result.status }
     ensures plan { result.plan ≡ plan }
     ensures history { result.history ≡ None }
     ensures err_faults { K.faults err.old ≤ K.faults err.new }
@@ -61,8 +61,7 @@ fn unopened<K: Sink>(alloc: Global, why: Unopened, plan: Option<Plan>, err: &mut
 
 /// Writes the line about a judged trace.
 fn say<O: Sink>(alloc: Global, said: &Said, plan: Option<Plan>, out: &mut O) -> Report
-    ensures says { (old new : Moment) → old.out ≡ at O.written O.faults out.old
-        → new.out ≡ at O.written O.faults out.new → new.err ≡ old.err
+    ensures says { (old new : Moment) → old.out ≡ at O.Sink out.old → new.out ≡ at O.Sink out.new → new.err ≡ old.err
         → Says said.now.entries said.now.verdict old new result.status }
     ensures plan { result.plan ≡ plan }
     ensures history { result.history ≡ None }
@@ -87,14 +86,12 @@ fn check_text<F: Followed, T: Grove, O: Sink, K: Sink>(
     requires opened { Opens (T.files tree.old) run it.now.rounds it.now.texts }
     requires fit { Fit it.now.rounds it.now.texts }
     ensures answers { ChecksText F.means bytes run
-        (moment T.files T.faults T.lists tree.old (at O.written O.faults out.old) (at K.written K.faults err.old))
-        (moment T.files T.faults T.lists tree.new (at O.written O.faults out.new) (at K.written K.faults err.new))
+        (moment T.Tree O.Sink K.Sink tree.old out.old err.old) (moment T.Tree O.Sink K.Sink tree.new out.new err.new)
         result.status }
     ensures plan { result.plan ≡ Some (plans.Check run trace_file) }
     ensures history { result.history ≡ None }
     ensures passes { Passes
-        (moment T.files T.faults T.lists tree.old (at O.written O.faults out.old) (at K.written K.faults err.old))
-        (moment T.files T.faults T.lists tree.new (at O.written O.faults out.new) (at K.written K.faults err.new)) }
+        (moment T.Tree O.Sink K.Sink tree.old out.old err.old) (moment T.Tree O.Sink K.Sink tree.new out.new err.new) }
 {
     let judged = judge::<F, T>(alloc, &run, it, tree, bytes);
     let plan = plan_of(run, trace_file);
@@ -117,14 +114,12 @@ fn check_opened<F: Followed, T: Grove, O: Sink, K: Sink>(
 ) -> Report
     requires few { run.rounds ≡ None → AreFew run.scripts }
     ensures answers { ChecksText F.means bytes run
-        (moment T.files T.faults T.lists tree.old (at O.written O.faults out.old) (at K.written K.faults err.old))
-        (moment T.files T.faults T.lists tree.new (at O.written O.faults out.new) (at K.written K.faults err.new))
+        (moment T.Tree O.Sink K.Sink tree.old out.old err.old) (moment T.Tree O.Sink K.Sink tree.new out.new err.new)
         result.status }
     ensures plan { result.plan ≡ Some (plans.Check run trace_file) }
     ensures history { result.history ≡ None }
     ensures passes { Passes
-        (moment T.files T.faults T.lists tree.old (at O.written O.faults out.old) (at K.written K.faults err.old))
-        (moment T.files T.faults T.lists tree.new (at O.written O.faults out.new) (at K.written K.faults err.new)) }
+        (moment T.Tree O.Sink K.Sink tree.old out.old err.old) (moment T.Tree O.Sink K.Sink tree.new out.new err.new) }
 {
     match open_scripts(alloc, tree, &run) {
         Ok(it) => check_text::<F, T, O, K>(alloc, bytes, run, trace_file, &it, tree, out, err),
@@ -146,14 +141,12 @@ pub fn check<F: Followed, T: Grove, O: Sink, K: Sink>(
 ) -> Report
     requires few { run.rounds ≡ None → AreFew run.scripts }
     ensures answers { Checks F.means trace_file run
-        (moment T.files T.faults T.lists tree.old (at O.written O.faults out.old) (at K.written K.faults err.old))
-        (moment T.files T.faults T.lists tree.new (at O.written O.faults out.new) (at K.written K.faults err.new))
+        (moment T.Tree O.Sink K.Sink tree.old out.old err.old) (moment T.Tree O.Sink K.Sink tree.new out.new err.new)
         result.status }
     ensures plan { result.plan ≡ Some (plans.Check run trace_file) }
     ensures history { result.history ≡ None }
     ensures passes { Passes
-        (moment T.files T.faults T.lists tree.old (at O.written O.faults out.old) (at K.written K.faults err.old))
-        (moment T.files T.faults T.lists tree.new (at O.written O.faults out.new) (at K.written K.faults err.new)) }
+        (moment T.Tree O.Sink K.Sink tree.old out.old err.old) (moment T.Tree O.Sink K.Sink tree.new out.new err.new) }
 {
     match open_trace(alloc, tree, &trace_file) {
         Ok(bytes) => check_opened::<F, T, O, K>(alloc, bytes, run, trace_file, tree, out, err),

@@ -38,8 +38,7 @@ fn plan_of(dir: Text) -> Option<Plan>
 
 /// Tells that no bundle is made of a word.
 fn refused<K: Sink>(alloc: Global, first: &str, dir: Text, err: &mut K) -> Report
-    ensures leaves { (old new : Moment) → new.out ≡ old.out
-        → old.err ≡ at K.written K.faults err.old → new.err ≡ at K.written K.faults err.new
+    ensures leaves { (old new : Moment) → new.out ≡ old.out → old.err ≡ at K.Sink err.old → new.err ≡ at K.Sink err.new
         → Leaves (status_by refusal refusal) [] (line_about first.now dir) old new result.status }
     ensures plan { result.plan ≡ Some (plans.Bundle dir) }
     ensures history { result.history ≡ None }
@@ -57,9 +56,9 @@ fn write_made<O: Sink, K: Sink>(
     out: &mut O,
     err: &mut K,
 ) -> Report
-    ensures answers { (old new : Moment) → Makes old.files dir made → old.out ≡ at O.written O.faults out.old
-        → new.out ≡ at O.written O.faults out.new → old.err ≡ at K.written K.faults err.old
-        → new.err ≡ at K.written K.faults err.new → Bundles dir old new result.status }
+    ensures answers { (old new : Moment) → Makes old.files dir made → old.out ≡ at O.Sink out.old
+        → new.out ≡ at O.Sink out.new → old.err ≡ at K.Sink err.old
+        → new.err ≡ at K.Sink err.new → Bundles dir old new result.status }
     ensures plan { result.plan ≡ Some (plans.Bundle dir) }
     ensures history { result.history ≡ None }
     ensures out_faults { O.faults out.old ≤ O.faults out.new }
@@ -78,8 +77,8 @@ fn write_made<O: Sink, K: Sink>(
 /// Tells why nothing was made.
 fn unmade<K: Sink>(alloc: Global, dir: Text, why: TreeFault, err: &mut K) -> Report
     ensures answers { (old new : Moment) → (why ≡ TreeFault.Failed → Rose old.faults new.faults)
-        → new.out ≡ old.out → old.err ≡ at K.written K.faults err.old
-        → new.err ≡ at K.written K.faults err.new → Bundles dir old new result.status }
+        → new.out ≡ old.out → old.err ≡ at K.Sink err.old
+        → new.err ≡ at K.Sink err.new → Bundles dir old new result.status }
     ensures plan { result.plan ≡ Some (plans.Bundle dir) }
     ensures history { result.history ≡ None }
     ensures err_faults { K.faults err.old ≤ K.faults err.new }
@@ -104,14 +103,12 @@ pub fn bundle<T: Tree, O: Sink, K: Sink>(
     err: &mut K,
 ) -> Report
     ensures answers { Bundles dir
-        (moment T.files T.faults T.lists tree.old (at O.written O.faults out.old) (at K.written K.faults err.old))
-        (moment T.files T.faults T.lists tree.new (at O.written O.faults out.new) (at K.written K.faults err.new))
+        (moment T.Tree O.Sink K.Sink tree.old out.old err.old) (moment T.Tree O.Sink K.Sink tree.new out.new err.new)
         result.status }
     ensures plan { result.plan ≡ Some (plans.Bundle dir) }
     ensures history { result.history ≡ None }
     ensures passes { Passes
-        (moment T.files T.faults T.lists tree.old (at O.written O.faults out.old) (at K.written K.faults err.old))
-        (moment T.files T.faults T.lists tree.new (at O.written O.faults out.new) (at K.written K.faults err.new)) }
+        (moment T.Tree O.Sink K.Sink tree.old out.old err.old) (moment T.Tree O.Sink K.Sink tree.new out.new err.new) }
     ensures lists { T.lists tree.old ≤ T.lists tree.new }
 {
     match make(alloc, tree, &dir) {

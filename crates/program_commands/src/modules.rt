@@ -31,12 +31,10 @@ fn run_names<N: Named + Send, R: Threads + Wait + Sync, T: Grove, K: Sink + Send
     requires few { AreFew plan.now.scripts }
     requires names { AreNames plan.now.scripts }
     ensures run { Gives (of_names N.means plan.now.scripts) plan.now (no_texts plan.now.scripts)
-        (moment T.files T.faults T.lists tree.old (at K.written K.faults out.old) (at K.written K.faults err.old))
-        (moment T.files T.faults T.lists tree.new (at K.written K.faults out.new) (at K.written K.faults err.new))
+        (moment T.Tree K.Sink K.Sink tree.old out.old err.old) (moment T.Tree K.Sink K.Sink tree.new out.new err.new)
         result }
     ensures passes { Passes
-        (moment T.files T.faults T.lists tree.old (at K.written K.faults out.old) (at K.written K.faults err.old))
-        (moment T.files T.faults T.lists tree.new (at K.written K.faults out.new) (at K.written K.faults err.new)) }
+        (moment T.Tree K.Sink K.Sink tree.old out.old err.old) (moment T.Tree K.Sink K.Sink tree.new out.new err.new) }
 {
     let names = plan.scripts.as_slice();
     let Ok(programs) = programs_of::<N>(alloc, names) else {
@@ -62,13 +60,11 @@ pub fn run_modules<
     requires few { AreFew run.scripts }
     requires names { AreNames run.scripts }
     ensures run { Gives (of_names N.means run.scripts) run (no_texts run.scripts)
-        (moment T.files T.faults T.lists tree.old (at K.written K.faults out.old) (at K.written K.faults err.old))
-        (moment T.files T.faults T.lists tree.new (at K.written K.faults out.new) (at K.written K.faults err.new))
+        (moment T.Tree K.Sink K.Sink tree.old out.old err.old) (moment T.Tree K.Sink K.Sink tree.new out.new err.new)
         (left_of result) }
     ensures plan { result.plan ≡ Some (plans.Module run) }
     ensures passes { Passes
-        (moment T.files T.faults T.lists tree.old (at K.written K.faults out.old) (at K.written K.faults err.old))
-        (moment T.files T.faults T.lists tree.new (at K.written K.faults out.new) (at K.written K.faults err.new)) }
+        (moment T.Tree K.Sink K.Sink tree.old out.old err.old) (moment T.Tree K.Sink K.Sink tree.new out.new err.new) }
 {
     let ran = run_names::<N, R, T, K, G>(rt, alloc, &run, tree, out, err, gate);
     with_plan(ran, Some(Plan::Module(run)))

@@ -41,7 +41,7 @@ fn found_status(found: bool) -> u8
 
 /// The status of a report, by what became of it. A call of the tree that failed is told.
 fn end_report<K: Sink>(alloc: Global, told: Told, err: &mut K) -> u8
-    ensures ends { Ends told (at K.written K.faults err.old) (at K.written K.faults err.new) result }
+    ensures ends { Ends told (at K.Sink err.old) (at K.Sink err.new) result }
     ensures err_faults { K.faults err.old ≤ K.faults err.new }
 {
     match told {
@@ -59,8 +59,7 @@ fn end_report<K: Sink>(alloc: Global, told: Told, err: &mut K) -> u8
 fn unopened<K: Sink>(alloc: Global, why: Unopened, plan: Option<Plan>, err: &mut K) -> Report
     ensures answers { (word : Word) (path : List Word) (old new : Moment)
         → NoFolder old.files word old.faults new.faults why → new.lists ≡ old.lists → new.out ≡ old.out
-        → old.err ≡ at K.written K.faults err.old → new.err ≡ at K.written K.faults err.new
-        → Reports word path old new result.status }
+        → old.err ≡ at K.Sink err.old → new.err ≡ at K.Sink err.new → Reports word path old new result.status }
     ensures plan { result.plan ≡ plan }
     ensures history { result.history ≡ None }
     ensures err_faults { K.faults err.old ≤ K.faults err.new }
@@ -94,14 +93,12 @@ pub fn report_imports<T: Tree, O: Sink, K: Sink>(
     err: &mut K,
 ) -> Report
     ensures answers { Reports dir path
-        (moment T.files T.faults T.lists tree.old (at O.written O.faults out.old) (at K.written K.faults err.old))
-        (moment T.files T.faults T.lists tree.new (at O.written O.faults out.new) (at K.written K.faults err.new))
+        (moment T.Tree O.Sink K.Sink tree.old out.old err.old) (moment T.Tree O.Sink K.Sink tree.new out.new err.new)
         result.status }
     ensures plan { result.plan ≡ Some (plans.Report path dir) }
     ensures history { result.history ≡ None }
     ensures passes { Passes
-        (moment T.files T.faults T.lists tree.old (at O.written O.faults out.old) (at K.written K.faults err.old))
-        (moment T.files T.faults T.lists tree.new (at O.written O.faults out.new) (at K.written K.faults err.new)) }
+        (moment T.Tree O.Sink K.Sink tree.old out.old err.old) (moment T.Tree O.Sink K.Sink tree.new out.new err.new) }
     ensures lists { T.lists tree.old ≤ T.lists tree.new }
 {
     match open_folder(alloc, tree, &dir) {

@@ -30,7 +30,7 @@ pub enum Told {
 
 /// Writes one line.
 fn tell_line<O: Sink>(alloc: Global, out: &mut O, line: &Line) -> Flow
-    ensures gets { Gets (at O.written O.faults out.old) (line_text line.now) (at O.written O.faults out.new) result }
+    ensures gets { Gets (at O.Sink out.old) (line_text line.now) (at O.Sink out.new) result }
     ensures faults_grow { O.faults out.old ≤ O.faults out.new }
 {
     let line = joined(alloc, line.text.as_str(), "", "");
@@ -47,7 +47,7 @@ fn are_found(found: bool, line: &Line) -> bool
 /// Writes all that a walk has to tell, each line before the next file is read.
 fn tell_all<T: Tree, O: Sink>(alloc: Global, begun: Walk, tree: &mut T, out: &mut O) -> Told
     ensures tells { Tells (T.files tree.old) (λ f. left f begun) (T.faults tree.old) (T.faults tree.new)
-        (at O.written O.faults out.old) (at O.written O.faults out.new) result }
+        (at O.Sink out.old) (at O.Sink out.new) result }
     ensures lists { ForSome (T.files tree.old) (λ f. T.lists tree.new ≤ T.lists tree.old + length (unlisted f begun)) }
     ensures files_stay { T.files tree.new ≡ T.files tree.old }
     ensures faults_grow { T.faults tree.old ≤ T.faults tree.new }
@@ -81,7 +81,7 @@ pub fn tell_report<T: Tree, O: Sink>(
     out: &mut O,
 ) -> Told
     ensures tells { Tells (T.files tree.old) (λ f. report_lines f dir.now path.now) (T.faults tree.old)
-        (T.faults tree.new) (at O.written O.faults out.old) (at O.written O.faults out.new) result }
+        (T.faults tree.new) (at O.Sink out.old) (at O.Sink out.new) result }
     ensures lists { ForSome (T.files tree.old) (λ f.
         T.lists tree.new ≤ T.lists tree.old + length (report_folders f dir.now)) }
     ensures files_stay { T.files tree.new ≡ T.files tree.old }

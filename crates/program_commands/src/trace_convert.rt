@@ -33,7 +33,7 @@ fn put_all<O: Outlet>(out: &mut O, entries: &[Entry])
 
 /// Writes entries as a trace, line by line.
 fn say_trace<K: Sink>(alloc: Global, sink: &mut K, entries: &[Entry]) -> Flow
-    ensures gets { Gets (at K.written K.faults sink.old) (trace entries.now) (at K.written K.faults sink.new) result }
+    ensures gets { Gets (at K.Sink sink.old) (trace entries.now) (at K.Sink sink.new) result }
     ensures faults_grow { K.faults sink.old ≤ K.faults sink.new }
 {
     let mut out = Out::open(alloc, sink, true);
@@ -60,9 +60,9 @@ fn rewrite<O: Sink, K: Sink>(
     out: &mut O,
     err: &mut K,
 ) -> Report
-    ensures answers { (old new : Moment) → old.out ≡ at O.written O.faults out.old
-        → new.out ≡ at O.written O.faults out.new → old.err ≡ at K.written K.faults err.old
-        → new.err ≡ at K.written K.faults err.new → ConvertsText bytes.now old new result.status }
+    ensures answers { (old new : Moment) → old.out ≡ at O.Sink out.old
+        → new.out ≡ at O.Sink out.new → old.err ≡ at K.Sink err.old
+        → new.err ≡ at K.Sink err.new → ConvertsText bytes.now old new result.status }
     ensures plan { result.plan ≡ plan }
     ensures history { result.history ≡ None }
     ensures out_faults { O.faults out.old ≤ O.faults out.new }
@@ -84,8 +84,8 @@ fn rewrite<O: Sink, K: Sink>(
 /// Tells why a trace was not opened.
 fn unopened<K: Sink>(alloc: Global, why: Unopened, plan: Option<Plan>, err: &mut K) -> Report
     ensures answers { (word : List ℕ) (old new : Moment) → NoTrace old.files word old.faults new.faults why
-        → new.out ≡ old.out → old.err ≡ at K.written K.faults err.old
-        → new.err ≡ at K.written K.faults err.new → Converts word old new result.status }
+        → new.out ≡ old.out → old.err ≡ at K.Sink err.old
+        → new.err ≡ at K.Sink err.new → Converts word old new result.status }
     ensures plan { result.plan ≡ plan }
     ensures history { result.history ≡ None }
     ensures err_faults { K.faults err.old ≤ K.faults err.new }
@@ -117,14 +117,12 @@ pub fn convert<T: Tree, O: Sink, K: Sink>(
     err: &mut K,
 ) -> Report
     ensures answers { Converts trace_file
-        (moment T.files T.faults T.lists tree.old (at O.written O.faults out.old) (at K.written K.faults err.old))
-        (moment T.files T.faults T.lists tree.new (at O.written O.faults out.new) (at K.written K.faults err.new))
+        (moment T.Tree O.Sink K.Sink tree.old out.old err.old) (moment T.Tree O.Sink K.Sink tree.new out.new err.new)
         result.status }
     ensures plan { result.plan ≡ Some (plans.Convert trace_file) }
     ensures history { result.history ≡ None }
     ensures passes { Passes
-        (moment T.files T.faults T.lists tree.old (at O.written O.faults out.old) (at K.written K.faults err.old))
-        (moment T.files T.faults T.lists tree.new (at O.written O.faults out.new) (at K.written K.faults err.new)) }
+        (moment T.Tree O.Sink K.Sink tree.old out.old err.old) (moment T.Tree O.Sink K.Sink tree.new out.new err.new) }
     ensures lists { T.lists tree.new ≡ T.lists tree.old }
 {
     match open_trace(alloc, tree, &trace_file) {

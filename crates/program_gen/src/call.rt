@@ -28,8 +28,7 @@ fn run_quiet<S: Scripts + Send, R: Threads + Wait + Sync, K: Sink, G: Gate + Syn
 ) -> Left
     requires modules { 1 ≤ modules }
     requires scripts { (1 ≤ scripts) × (scripts ≤ 16) }
-    ensures run { QuietGives S.means (workload_of seed modules scripts)
-        (at K.written K.faults err.old) (at K.written K.faults err.new) result }
+    ensures run { QuietGives S.means (workload_of seed modules scripts) (at K.Sink err.old) (at K.Sink err.new) result }
     ensures err_faults { K.faults err.old ≤ K.faults err.new }
 {
     let Ok(it) = make_ready(alloc, seed, modules, scripts) else {
@@ -50,9 +49,8 @@ fn run_quiet<S: Scripts + Send, R: Threads + Wait + Sync, K: Sink, G: Gate + Syn
 fn with_line<K: Sink>(alloc: Global, out: &mut K, modules: u32, scripts: u32, ran: Left) -> Left
     ensures history { result.history ≡ ran.history }
     ensures told { IfSome ran.history (λ history. Summed modules scripts
-        (at K.written K.faults out.old) (at K.written K.faults out.new) (finished history ran.status) result.status) }
-    ensures unbegun { IfNone ran.history ((result.status ≡ ran.status)
-        × (at K.written K.faults out.new ≡ at K.written K.faults out.old)) }
+        (at K.Sink out.old) (at K.Sink out.new) (finished history ran.status) result.status) }
+    ensures unbegun { IfNone ran.history ((result.status ≡ ran.status) × (at K.Sink out.new ≡ at K.Sink out.old)) }
     ensures faults_grow { K.faults out.old ≤ K.faults out.new }
 {
     let Left { status, history } = ran;
@@ -84,8 +82,7 @@ pub fn call_made<S: Scripts + Send, R: Threads + Wait + Sync, K: Sink, G: Gate +
     requires modules { 1 ≤ modules }
     requires scripts { (1 ≤ scripts) × (scripts ≤ 16) }
     ensures run { MadeGives S.means (workload_of seed modules scripts)
-        (sinks (at K.written K.faults out.old) (at K.written K.faults err.old))
-        (sinks (at K.written K.faults out.new) (at K.written K.faults err.new)) result }
+        (sinks (at K.Sink out.old) (at K.Sink err.old)) (sinks (at K.Sink out.new) (at K.Sink err.new)) result }
     ensures no_file_fault { result.status ≡ tree_fault → ⊥ }
     ensures out_faults { K.faults out.old ≤ K.faults out.new }
     ensures err_faults { K.faults err.old ≤ K.faults err.new }

@@ -32,8 +32,7 @@ pub(crate) fn sum_up<K: Sink>(
     history: &[Entry],
     status: u8,
 ) -> u8
-    ensures told { Summed modules scripts (at K.written K.faults out.old)
-        (at K.written K.faults out.new) (finished history.now status) result }
+    ensures told { Summed modules scripts (at K.Sink out.old) (at K.Sink out.new) (finished history.now status) result }
     ensures faults_grow { K.faults out.old ≤ K.faults out.new }
 {
     if status == WANT_OF_MEMORY {

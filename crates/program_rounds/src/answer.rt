@@ -49,8 +49,7 @@ fn rounds_plan(plan: Option<Plan>) -> Result<RunPlan, Option<Plan>>
 
 /// Says why there are no rounds, or no texts.
 fn tell_why<K: Sink>(alloc: Global, run: RunPlan, why: Unopened, err: &mut K) -> Report
-    ensures leaves { (old new : Moment) → new.out ≡ old.out
-        → old.err ≡ at K.written K.faults err.old → new.err ≡ at K.written K.faults err.new
+    ensures leaves { (old new : Moment) → new.out ≡ old.out → old.err ≡ at K.Sink err.old → new.err ≡ at K.Sink err.new
         → Tells why old new result.status }
     ensures plan { result.plan ≡ Some (plans.Run run) }
     ensures history { result.history ≡ None }
@@ -80,14 +79,10 @@ fn play<S: Scripts + Send, R: Threads + Wait + Sync, T: Grove, K: Sink + Send, G
     requires texts { EachRoundOpens (T.files tree.old) rounds.now texts }
     ensures answers { (words : List Word) (file : Word) (first : Moment) → rounds_plan (plan_of words) ≡ Some run
         → run.rounds ≡ Some file → HasRounds first.files file rounds.now
-        → IsLater first
-        (moment T.files T.faults T.lists tree.old (at K.written K.faults out.old) (at K.written K.faults err.old))
-        → Answers S.means words first
-        (moment T.files T.faults T.lists tree.new (at K.written K.faults out.new) (at K.written K.faults err.new))
-        result }
+        → IsLater first (moment T.Tree K.Sink K.Sink tree.old out.old err.old)
+        → Answers S.means words first (moment T.Tree K.Sink K.Sink tree.new out.new err.new) result }
     ensures passes { Passes
-        (moment T.files T.faults T.lists tree.old (at K.written K.faults out.old) (at K.written K.faults err.old))
-        (moment T.files T.faults T.lists tree.new (at K.written K.faults out.new) (at K.written K.faults err.new)) }
+        (moment T.Tree K.Sink K.Sink tree.old out.old err.old) (moment T.Tree K.Sink K.Sink tree.new out.new err.new) }
     ensures lists { result.history ≡ None → T.lists tree.new ≡ T.lists tree.old }
 {
     let ran = run_rounds::<S, R, T, K, K, G>(rt, alloc, &run, rounds, texts, tree, out, err, gate);
@@ -109,14 +104,10 @@ fn run_list<S: Scripts + Send, R: Threads + Wait + Sync, T: Grove, K: Sink + Sen
     requires below { AreBelowRoot rounds.now }
     ensures answers { (words : List Word) (file : Word) (first : Moment) → rounds_plan (plan_of words) ≡ Some run
         → run.rounds ≡ Some file → HasRounds first.files file rounds.now
-        → IsLater first
-        (moment T.files T.faults T.lists tree.old (at K.written K.faults out.old) (at K.written K.faults err.old))
-        → Answers S.means words first
-        (moment T.files T.faults T.lists tree.new (at K.written K.faults out.new) (at K.written K.faults err.new))
-        result }
+        → IsLater first (moment T.Tree K.Sink K.Sink tree.old out.old err.old)
+        → Answers S.means words first (moment T.Tree K.Sink K.Sink tree.new out.new err.new) result }
     ensures passes { Passes
-        (moment T.files T.faults T.lists tree.old (at K.written K.faults out.old) (at K.written K.faults err.old))
-        (moment T.files T.faults T.lists tree.new (at K.written K.faults out.new) (at K.written K.faults err.new)) }
+        (moment T.Tree K.Sink K.Sink tree.old out.old err.old) (moment T.Tree K.Sink K.Sink tree.new out.new err.new) }
     ensures lists { result.history ≡ None → T.lists tree.new ≤ T.lists tree.old }
 {
     match open_rounds(alloc, tree, rounds) {
@@ -138,12 +129,10 @@ fn run_file<S: Scripts + Send, R: Threads + Wait + Sync, T: Grove, K: Sink + Sen
     requires rounds { in_rounds run ≡ true }
     ensures answers { (words : List Word) → rounds_plan (plan_of words) ≡ Some run
         → Answers S.means words
-        (moment T.files T.faults T.lists tree.old (at K.written K.faults out.old) (at K.written K.faults err.old))
-        (moment T.files T.faults T.lists tree.new (at K.written K.faults out.new) (at K.written K.faults err.new))
+        (moment T.Tree K.Sink K.Sink tree.old out.old err.old) (moment T.Tree K.Sink K.Sink tree.new out.new err.new)
         result }
     ensures passes { Passes
-        (moment T.files T.faults T.lists tree.old (at K.written K.faults out.old) (at K.written K.faults err.old))
-        (moment T.files T.faults T.lists tree.new (at K.written K.faults out.new) (at K.written K.faults err.new)) }
+        (moment T.Tree K.Sink K.Sink tree.old out.old err.old) (moment T.Tree K.Sink K.Sink tree.new out.new err.new) }
     ensures lists { result.history ≡ None → T.lists tree.new ≤ T.lists tree.old }
 {
     let Some(file) = &run.rounds else {
@@ -170,12 +159,10 @@ pub fn call<S: Scripts + Send, R: Threads + Wait + Sync, T: Grove, K: Sink + Sen
 ) -> Report
     requires plan { plan ≡ plan_of (map string_bytes words.now) }
     ensures answers { Answers S.means (map string_bytes words.now)
-        (moment T.files T.faults T.lists tree.old (at K.written K.faults out.old) (at K.written K.faults err.old))
-        (moment T.files T.faults T.lists tree.new (at K.written K.faults out.new) (at K.written K.faults err.new))
+        (moment T.Tree K.Sink K.Sink tree.old out.old err.old) (moment T.Tree K.Sink K.Sink tree.new out.new err.new)
         result }
     ensures passes { Passes
-        (moment T.files T.faults T.lists tree.old (at K.written K.faults out.old) (at K.written K.faults err.old))
-        (moment T.files T.faults T.lists tree.new (at K.written K.faults out.new) (at K.written K.faults err.new)) }
+        (moment T.Tree K.Sink K.Sink tree.old out.old err.old) (moment T.Tree K.Sink K.Sink tree.new out.new err.new) }
     ensures lists { result.history ≡ None → T.lists tree.new ≤ T.lists tree.old }
     ensures lists_stay { rounds_plan plan ≡ None → result.history ≡ None → T.lists tree.new ≡ T.lists tree.old }
 {

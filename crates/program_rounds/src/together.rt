@@ -103,12 +103,10 @@ fn run_together<
     requires below { AreBelowRoot rounds.now }
     requires texts { length texts ≡ length (scripts_of rounds.now) }
     ensures run { Gives S.means plan.now rounds.now texts
-        (moment T.files T.faults T.lists tree.old (at O.written O.faults out.old) (at K.written K.faults err.old))
-        (moment T.files T.faults T.lists tree.new (at O.written O.faults out.new) (at K.written K.faults err.new))
+        (moment T.Tree O.Sink K.Sink tree.old out.old err.old) (moment T.Tree O.Sink K.Sink tree.new out.new err.new)
         result }
     ensures passes { Passes
-        (moment T.files T.faults T.lists tree.old (at O.written O.faults out.old) (at K.written K.faults err.old))
-        (moment T.files T.faults T.lists tree.new (at O.written O.faults out.new) (at K.written K.faults err.new)) }
+        (moment T.Tree O.Sink K.Sink tree.old out.old err.old) (moment T.Tree O.Sink K.Sink tree.new out.new err.new) }
 {
     let Ok(scripts) = scripts_of(alloc, rounds) else {
         return unbegun();
@@ -181,12 +179,10 @@ pub fn run_rounds<
     requires below { AreBelowRoot rounds.now }
     requires texts { length texts ≡ length (scripts_of rounds.now) }
     ensures run { Gives S.means plan.now rounds.now texts
-        (moment T.files T.faults T.lists tree.old (at O.written O.faults out.old) (at K.written K.faults err.old))
-        (moment T.files T.faults T.lists tree.new (at O.written O.faults out.new) (at K.written K.faults err.new))
+        (moment T.Tree O.Sink K.Sink tree.old out.old err.old) (moment T.Tree O.Sink K.Sink tree.new out.new err.new)
         result }
     ensures passes { Passes
-        (moment T.files T.faults T.lists tree.old (at O.written O.faults out.old) (at K.written K.faults err.old))
-        (moment T.files T.faults T.lists tree.new (at O.written O.faults out.new) (at K.written K.faults err.new)) }
+        (moment T.Tree O.Sink K.Sink tree.old out.old err.old) (moment T.Tree O.Sink K.Sink tree.new out.new err.new) }
 {
     if are_single(rounds) {
         return run_rounds_alone::<S, T, O, K>(alloc, plan, rounds, texts, tree, out, err);

@@ -2,6 +2,8 @@
 use Rattle.std.specs.Prelude.{◌≡◌, ◌≤◌, ℕ, List, Option}
 use Rattle.tree_files.specs.Files.{Files}
 use Rattle.tree_files.specs.Count.{Rose}
+use Rattle.tree_files.specs.declared.tree.Tree.{Ghosts as TreeMeanings}
+use Rattle.tree_files.specs.declared.sink.Sink.{Ghosts as SinkMeanings}
 use Rattle.machine_desk.specs.Outgo.{Outgo, Appends, AppendsPart}
 use Rattle.machine_desk.specs.declared.outlet.Flow.{Flow}
 use Rattle.machine_desk.specs.declared.outlet.Flow.TheVariants.{Open, Failed, Short}
@@ -12,9 +14,9 @@ pub record At : Type 0 where
   pub written : Option (List ℕ)
   pub faults : ℕ
 
--- a sink, by what it tells of its bytes and by its count of faults
-abbrev pub at : {K : Type 0} → (K → Option (List ℕ)) → (K → ℕ) → K → At
-at written faults sink = record { written = written sink; faults = faults sink }
+-- a sink at this moment, by what is told of its bytes and by its count of faults
+abbrev pub at : {K : Type 0} → SinkMeanings K → K → At
+at meanings sink = record { written = meanings.written sink; faults = meanings.faults sink }
 
 -- the sink that an outlet was lent
 abbrev pub outgo_at : Outgo → At
@@ -29,10 +31,15 @@ pub record Moment : Type 0 where
   pub out : At
   pub err : At
 
--- a tree, by what it tells of its files and by its two counts, and what both sinks have at that moment
-abbrev pub moment : {T : Type 0} → (T → Option Files) → (T → ℕ) → (T → ℕ) → T → At → At → Moment
-moment files faults lists tree out err =
-    record { files = files tree; faults = faults tree; lists = lists tree; out = out; err = err }
+-- a tree and both sinks at this moment: the tree by what is told of its files and by its two counts
+abbrev pub moment : {T O K : Type 0} → TreeMeanings T → SinkMeanings O → SinkMeanings K → T → O → K → Moment
+moment meanings of_out of_err tree out err = record {
+  files = meanings.files tree;
+  faults = meanings.faults tree;
+  lists = meanings.lists tree;
+  out = at of_out out;
+  err = at of_err err;
+}
 
 -- from one moment to a later one the files are as they were, and no
 -- count of faults has fallen, neither the tree's nor one of a sink

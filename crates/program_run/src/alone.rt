@@ -85,12 +85,10 @@ pub fn run_one<P: Program, T: Tree, O: Sink, K: Sink>(
     requires program { length programs.items ≡ 1 }
     ensures run { (means : Means) → AreSafe means → MeanFrom P.run means 0 texts programs.items
         → Gives means plan.now texts
-        (moment T.files T.faults T.lists tree.old (at O.written O.faults out.old) (at K.written K.faults err.old))
-        (moment T.files T.faults T.lists tree.new (at O.written O.faults out.new) (at K.written K.faults err.new))
+        (moment T.Tree O.Sink K.Sink tree.old out.old err.old) (moment T.Tree O.Sink K.Sink tree.new out.new err.new)
         result }
     ensures passes { Passes
-        (moment T.files T.faults T.lists tree.old (at O.written O.faults out.old) (at K.written K.faults err.old))
-        (moment T.files T.faults T.lists tree.new (at O.written O.faults out.new) (at K.written K.faults err.new)) }
+        (moment T.Tree O.Sink K.Sink tree.old out.old err.old) (moment T.Tree O.Sink K.Sink tree.new out.new err.new) }
 {
     let it = match begin(alloc, plan, texts, programs) {
         Ok(it) => it,

@@ -42,7 +42,7 @@ pub fn tell<K: Sink>(
     bad: u8,
 ) -> Report
     ensures leaves { (text : List ℕ) (old new : Moment) → IfOk line (λ it. it.items ≡ text) → new.out ≡ old.out
-        → old.err ≡ at K.written K.faults err.old → new.err ≡ at K.written K.faults err.new
+        → old.err ≡ at K.Sink err.old → new.err ≡ at K.Sink err.new
         → Leaves (status_by good bad) [] text old new result.status }
     ensures plan { result.plan ≡ plan }
     ensures history { result.history ≡ None }
@@ -66,14 +66,10 @@ fn play<S: Scripts + Send, R: Threads + Wait + Sync, T: Grove, K: Sink + Send, G
     requires few { AreFew run.scripts }
     requires texts { EachOpens (T.files tree.old) run.scripts texts }
     ensures answers { (words : List Word) (first : Moment) → built (plan_of words) ≡ Some run
-        → IsSince first
-        (moment T.files T.faults T.lists tree.old (at K.written K.faults out.old) (at K.written K.faults err.old))
-        → Answers S.means words first
-        (moment T.files T.faults T.lists tree.new (at K.written K.faults out.new) (at K.written K.faults err.new))
-        result }
+        → IsSince first (moment T.Tree K.Sink K.Sink tree.old out.old err.old)
+        → Answers S.means words first (moment T.Tree K.Sink K.Sink tree.new out.new err.new) result }
     ensures passes { Passes
-        (moment T.files T.faults T.lists tree.old (at K.written K.faults out.old) (at K.written K.faults err.old))
-        (moment T.files T.faults T.lists tree.new (at K.written K.faults out.new) (at K.written K.faults err.new)) }
+        (moment T.Tree K.Sink K.Sink tree.old out.old err.old) (moment T.Tree K.Sink K.Sink tree.new out.new err.new) }
     ensures lists { result.history ≡ None → T.lists tree.new ≡ T.lists tree.old }
 {
     let ran = run_scripts::<S, R, T, K, K, G>(rt, alloc, &run, texts, tree, out, err, gate);
@@ -82,8 +78,7 @@ fn play<S: Scripts + Send, R: Threads + Wait + Sync, T: Grove, K: Sink + Send, G
 
 /// A call of the tree failed before all scripts were read.
 pub fn unread<K: Sink>(alloc: Global, run: RunPlan, err: &mut K) -> Report
-    ensures leaves { (old new : Moment) → new.out ≡ old.out
-        → old.err ≡ at K.written K.faults err.old → new.err ≡ at K.written K.faults err.new
+    ensures leaves { (old new : Moment) → new.out ≡ old.out → old.err ≡ at K.Sink err.old → new.err ≡ at K.Sink err.new
         → Leaves (status_by tree_fault sink_fault) [] (codes "pyimport: file fault" ++ 10 ∷ []) old new result.status }
     ensures plan { result.plan ≡ Some (plans.Run run) }
     ensures history { result.history ≡ None }
@@ -106,12 +101,10 @@ fn run_plan<S: Scripts + Send, R: Threads + Wait + Sync, T: Grove, K: Sink + Sen
     requires few { AreFew run.scripts }
     ensures answers { (words : List Word) → built (plan_of words) ≡ Some run
         → Answers S.means words
-        (moment T.files T.faults T.lists tree.old (at K.written K.faults out.old) (at K.written K.faults err.old))
-        (moment T.files T.faults T.lists tree.new (at K.written K.faults out.new) (at K.written K.faults err.new))
+        (moment T.Tree K.Sink K.Sink tree.old out.old err.old) (moment T.Tree K.Sink K.Sink tree.new out.new err.new)
         result }
     ensures passes { Passes
-        (moment T.files T.faults T.lists tree.old (at K.written K.faults out.old) (at K.written K.faults err.old))
-        (moment T.files T.faults T.lists tree.new (at K.written K.faults out.new) (at K.written K.faults err.new)) }
+        (moment T.Tree K.Sink K.Sink tree.old out.old err.old) (moment T.Tree K.Sink K.Sink tree.new out.new err.new) }
     ensures lists { result.history ≡ None → T.lists tree.new ≡ T.lists tree.old }
 {
     match open_all(alloc, tree, run.scripts.as_slice()) {
@@ -126,8 +119,7 @@ fn run_plan<S: Scripts + Send, R: Threads + Wait + Sync, T: Grove, K: Sink + Sen
 
 /// Refuses the words with the usage line.
 fn refused<K: Sink>(alloc: Global, words: &[String], err: &mut K) -> Report
-    ensures leaves { (old new : Moment) → new.out ≡ old.out
-        → old.err ≡ at K.written K.faults err.old → new.err ≡ at K.written K.faults err.new
+    ensures leaves { (old new : Moment) → new.out ≡ old.out → old.err ≡ at K.Sink err.old → new.err ≡ at K.Sink err.new
         → Leaves (status_by refusal refusal) [] (usage_of (map string_bytes words.now) ++ 10 ∷ [])
         old new result.status }
     ensures plan { result.plan ≡ None }
@@ -195,12 +187,10 @@ pub fn call<S: Scripts + Send, R: Threads + Wait + Sync, T: Grove, K: Sink + Sen
 ) -> Report
     requires plan { plan ≡ plan_of (map string_bytes words.now) }
     ensures answers { Answers S.means (map string_bytes words.now)
-        (moment T.files T.faults T.lists tree.old (at K.written K.faults out.old) (at K.written K.faults err.old))
-        (moment T.files T.faults T.lists tree.new (at K.written K.faults out.new) (at K.written K.faults err.new))
+        (moment T.Tree K.Sink K.Sink tree.old out.old err.old) (moment T.Tree K.Sink K.Sink tree.new out.new err.new)
         result }
     ensures passes { Passes
-        (moment T.files T.faults T.lists tree.old (at K.written K.faults out.old) (at K.written K.faults err.old))
-        (moment T.files T.faults T.lists tree.new (at K.written K.faults out.new) (at K.written K.faults err.new)) }
+        (moment T.Tree K.Sink K.Sink tree.old out.old err.old) (moment T.Tree K.Sink K.Sink tree.new out.new err.new) }
     ensures lists { result.history ≡ None → T.lists tree.new ≡ T.lists tree.old }
 {
     match built(plan) {

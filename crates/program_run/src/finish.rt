@@ -75,7 +75,7 @@ pub fn status_by(good: u8, bad: u8, out: Flow, err: Flow) -> u8
 /// Writes a line, unless there was no memory to make it.
 pub fn say_line<K: Sink>(sink: &mut K, line: Result<Vec<u8>, NoMemory>) -> Flow
     ensures gets { (text : List ℕ) → IfOk line (λ it. it.items ≡ text)
-        → Gets (at K.written K.faults sink.old) text (at K.written K.faults sink.new) result }
+        → Gets (at K.Sink sink.old) text (at K.Sink sink.new) result }
     ensures short { OnErr line (result ≡ Flow.Short) }
     ensures faults_grow { K.faults sink.old ≤ K.faults sink.new }
 {
@@ -95,8 +95,7 @@ pub fn finish_run<K: Sink>(
 ) -> u8
     requires { length results.now ≡ length scripts.now }
     ensures leaves { (history : List Entry) → AllEnded 0 results.now history
-        → (flow : Flow) × Gets (at K.written K.faults err.old) (err_text scripts.now history)
-        (at K.written K.faults err.new) flow
+        → (flow : Flow) × Gets (at K.Sink err.old) (err_text scripts.now history) (at K.Sink err.new) flow
         × (result ≡ status_by (status_of (length scripts.now) history) sink_fault out flow) }
     ensures short { (result ≡ want_of_memory) ⊎ AreWhole results.now }
     ensures faults_grow { K.faults err.old ≤ K.faults err.new }

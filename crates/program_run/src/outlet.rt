@@ -22,7 +22,7 @@ pub struct Out<K: Sink> {
 
 /// Writes a text. What became of the sink is the answer.
 pub fn say<K: Sink>(sink: &mut K, text: &[u8]) -> Flow
-    ensures gets { Gets (at K.written K.faults sink.old) text.now (at K.written K.faults sink.new) result }
+    ensures gets { Gets (at K.Sink sink.old) text.now (at K.Sink sink.new) result }
     ensures faults_grow { K.faults sink.old ≤ K.faults sink.new }
 {
     match write_whole(sink, text) {
@@ -44,7 +44,7 @@ fn printed(event: &Event) -> &[u8]
 
 /// Writes the line of an entry in a trace.
 fn say_entry<K: Sink>(alloc: Global, sink: &mut K, entry: &Entry) -> Flow
-    ensures gets { Gets (at K.written K.faults sink.old) (line entry.now) (at K.written K.faults sink.new) result }
+    ensures gets { Gets (at K.Sink sink.old) (line entry.now) (at K.Sink sink.new) result }
     ensures faults_grow { K.faults sink.old ≤ K.faults sink.new }
 {
     match write_entry(alloc, entry) {
@@ -55,8 +55,7 @@ fn say_entry<K: Sink>(alloc: Global, sink: &mut K, entry: &Entry) -> Flow
 
 /// Writes what an entry puts out.
 fn say_piece<K: Sink>(alloc: Global, sink: &mut K, trace: bool, entry: &Entry) -> Flow
-    ensures gets { Gets (at K.written K.faults sink.old) (piece trace entry.now)
-        (at K.written K.faults sink.new) result }
+    ensures gets { Gets (at K.Sink sink.old) (piece trace entry.now) (at K.Sink sink.new) result }
     ensures faults_grow { K.faults sink.old ≤ K.faults sink.new }
 {
     if trace {
@@ -77,7 +76,7 @@ impl<K: Sink> Out<K> {
     /// Borrows the sink until `close`, and writes the first line of a trace.
     pub fn open(alloc: Global, sink: &mut K, trace: bool) -> Out<K>
         ensures trace { (⟦<Out<K> as Outlet>⟧.out result).trace ≡ trace }
-        ensures gets { Gets (at K.written K.faults sink.old) (opening_text trace)
+        ensures gets { Gets (at K.Sink sink.old) (opening_text trace)
             (outgo_at (⟦<Out<K> as Outlet>⟧.out result)) (⟦<Out<K> as Outlet>⟧.out result).flow }
         ensures faults_grow { K.faults sink.old ≤ (⟦<Out<K> as Outlet>⟧.out result).faults }
         ensures faults_stay { K.faults sink.new ≡ K.faults sink.old }

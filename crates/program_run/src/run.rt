@@ -44,12 +44,10 @@ pub fn run_programs<
     requires programs { length programs.items ≡ length plan.now.scripts }
     ensures run { (means : Means) → AreSafe means → MeanFrom P.run means 0 texts programs.items
         → Gives means plan.now texts
-        (moment T.files T.faults T.lists tree.old (at O.written O.faults out.old) (at K.written K.faults err.old))
-        (moment T.files T.faults T.lists tree.new (at O.written O.faults out.new) (at K.written K.faults err.new))
+        (moment T.Tree O.Sink K.Sink tree.old out.old err.old) (moment T.Tree O.Sink K.Sink tree.new out.new err.new)
         result }
     ensures passes { Passes
-        (moment T.files T.faults T.lists tree.old (at O.written O.faults out.old) (at K.written K.faults err.old))
-        (moment T.files T.faults T.lists tree.new (at O.written O.faults out.new) (at K.written K.faults err.new)) }
+        (moment T.Tree O.Sink K.Sink tree.old out.old err.old) (moment T.Tree O.Sink K.Sink tree.new out.new err.new) }
 {
     if plan.scripts.len() == 1 {
         return run_one(alloc, plan, texts, programs, tree, out, err);
@@ -70,12 +68,10 @@ pub fn run_alone<S: Scripts, T: Tree, O: Sink, K: Sink>(
     requires script { length plan.now.scripts ≡ 1 }
     requires text { length texts ≡ 1 }
     ensures run { Gives S.means plan.now texts
-        (moment T.files T.faults T.lists tree.old (at O.written O.faults out.old) (at K.written K.faults err.old))
-        (moment T.files T.faults T.lists tree.new (at O.written O.faults out.new) (at K.written K.faults err.new))
+        (moment T.Tree O.Sink K.Sink tree.old out.old err.old) (moment T.Tree O.Sink K.Sink tree.new out.new err.new)
         result }
     ensures passes { Passes
-        (moment T.files T.faults T.lists tree.old (at O.written O.faults out.old) (at K.written K.faults err.old))
-        (moment T.files T.faults T.lists tree.new (at O.written O.faults out.new) (at K.written K.faults err.new)) }
+        (moment T.Tree O.Sink K.Sink tree.old out.old err.old) (moment T.Tree O.Sink K.Sink tree.new out.new err.new) }
 {
     let Ok(programs) = programs_of::<S>(alloc, texts.as_slice()) else {
         return unbegun();
@@ -107,12 +103,10 @@ pub fn run_together<
     requires few { length plan.now.scripts ≤ 16 }
     requires texts { length texts ≡ length plan.now.scripts }
     ensures run { Gives S.means plan.now texts
-        (moment T.files T.faults T.lists tree.old (at O.written O.faults out.old) (at K.written K.faults err.old))
-        (moment T.files T.faults T.lists tree.new (at O.written O.faults out.new) (at K.written K.faults err.new))
+        (moment T.Tree O.Sink K.Sink tree.old out.old err.old) (moment T.Tree O.Sink K.Sink tree.new out.new err.new)
         result }
     ensures passes { Passes
-        (moment T.files T.faults T.lists tree.old (at O.written O.faults out.old) (at K.written K.faults err.old))
-        (moment T.files T.faults T.lists tree.new (at O.written O.faults out.new) (at K.written K.faults err.new)) }
+        (moment T.Tree O.Sink K.Sink tree.old out.old err.old) (moment T.Tree O.Sink K.Sink tree.new out.new err.new) }
 {
     let Ok(programs) = programs_of::<S>(alloc, texts.as_slice()) else {
         return unbegun();
@@ -141,12 +135,10 @@ pub fn run_scripts<
     requires few { AreFew plan.now.scripts }
     requires texts { length texts ≡ length plan.now.scripts }
     ensures run { Gives S.means plan.now texts
-        (moment T.files T.faults T.lists tree.old (at O.written O.faults out.old) (at K.written K.faults err.old))
-        (moment T.files T.faults T.lists tree.new (at O.written O.faults out.new) (at K.written K.faults err.new))
+        (moment T.Tree O.Sink K.Sink tree.old out.old err.old) (moment T.Tree O.Sink K.Sink tree.new out.new err.new)
         result }
     ensures passes { Passes
-        (moment T.files T.faults T.lists tree.old (at O.written O.faults out.old) (at K.written K.faults err.old))
-        (moment T.files T.faults T.lists tree.new (at O.written O.faults out.new) (at K.written K.faults err.new)) }
+        (moment T.Tree O.Sink K.Sink tree.old out.old err.old) (moment T.Tree O.Sink K.Sink tree.new out.new err.new) }
 {
     let Ok(programs) = programs_of::<S>(alloc, texts.as_slice()) else {
         return unbegun();

@@ -95,8 +95,7 @@ pub fn finish_some<K: Sink>(
 ) -> u8
     requires { IfSome results.now (λ results. length results.items ≡ length scripts.now) }
     ensures leaves { (history : List Entry) → IfSome results.now (λ results. AllEnded 0 results.items history)
-        → (flow : Flow) × Gets (at K.written K.faults err.old) (err_text scripts.now history)
-        (at K.written K.faults err.new) flow
+        → (flow : Flow) × Gets (at K.Sink err.old) (err_text scripts.now history) (at K.Sink err.new) flow
         × (result ≡ status_by (status_of (length scripts.now) history) sink_fault out flow) }
     ensures short { (result ≡ want_of_memory) ⊎ IsSomeAnd results.now (λ results. AreWhole results.items) }
     ensures faults_grow { K.faults err.old ≤ K.faults err.new }
@@ -134,12 +133,10 @@ pub fn run_several<
     requires programs { length programs.items ≡ length plan.now.scripts }
     ensures run { (means : Means) → AreSafe means → MeanFrom P.run means 0 texts programs.items
         → Gives means plan.now texts
-        (moment T.files T.faults T.lists tree.old (at O.written O.faults out.old) (at K.written K.faults err.old))
-        (moment T.files T.faults T.lists tree.new (at O.written O.faults out.new) (at K.written K.faults err.new))
+        (moment T.Tree O.Sink K.Sink tree.old out.old err.old) (moment T.Tree O.Sink K.Sink tree.new out.new err.new)
         result }
     ensures passes { Passes
-        (moment T.files T.faults T.lists tree.old (at O.written O.faults out.old) (at K.written K.faults err.old))
-        (moment T.files T.faults T.lists tree.new (at O.written O.faults out.new) (at K.written K.faults err.new)) }
+        (moment T.Tree O.Sink K.Sink tree.old out.old err.old) (moment T.Tree O.Sink K.Sink tree.new out.new err.new) }
 {
     let it = match begin(alloc, plan, texts, programs) {
         Ok(it) => it,

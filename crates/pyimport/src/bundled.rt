@@ -42,14 +42,11 @@ pub fn call_bundled<
 ) -> Report
     requires plan { Some (plans.Run run) ≡ plan_of (map string_bytes words.now) }
     ensures answers { Answers S.means (map string_bytes words.now)
-        (expanded (moment T.files T.faults T.lists tree.old
-        (at K.written K.faults out.old) (at K.written K.faults err.old)))
-        (expanded (moment T.files T.faults T.lists tree.new
-        (at K.written K.faults out.new) (at K.written K.faults err.new)))
+        (expanded (moment T.Tree K.Sink K.Sink tree.old out.old err.old))
+        (expanded (moment T.Tree K.Sink K.Sink tree.new out.new err.new))
         result }
     ensures passes { Passes
-        (moment T.files T.faults T.lists tree.old (at K.written K.faults out.old) (at K.written K.faults err.old))
-        (moment T.files T.faults T.lists tree.new (at K.written K.faults out.new) (at K.written K.faults err.new)) }
+        (moment T.Tree K.Sink K.Sink tree.old out.old err.old) (moment T.Tree K.Sink K.Sink tree.new out.new err.new) }
     ensures lists { result.history ≡ None → T.lists tree.new ≤ T.lists tree.old }
 {
     let Ok(mut bundles) = fork_bundled(alloc, tree) else {

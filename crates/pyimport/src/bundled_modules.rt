@@ -30,15 +30,11 @@ pub fn run_modules_bundled<
     requires few { AreFew run.scripts }
     requires names { AreNames run.scripts }
     ensures run { GivesInBundles (of_names N.means run.scripts) run (no_texts run.scripts)
-        (expanded (moment T.files T.faults T.lists tree.old
-        (at K.written K.faults out.old) (at K.written K.faults err.old)))
-        (expanded (moment T.files T.faults T.lists tree.new
-        (at K.written K.faults out.new) (at K.written K.faults err.new)))
-        (left_of result) }
+        (expanded (moment T.Tree K.Sink K.Sink tree.old out.old err.old))
+        (expanded (moment T.Tree K.Sink K.Sink tree.new out.new err.new)) (left_of result) }
     ensures plan { result.plan ≡ Some (plans.Module run) }
     ensures passes { Passes
-        (moment T.files T.faults T.lists tree.old (at K.written K.faults out.old) (at K.written K.faults err.old))
-        (moment T.files T.faults T.lists tree.new (at K.written K.faults out.new) (at K.written K.faults err.new)) }
+        (moment T.Tree K.Sink K.Sink tree.old out.old err.old) (moment T.Tree K.Sink K.Sink tree.new out.new err.new) }
     ensures lists { result.history ≡ None → T.lists tree.new ≤ T.lists tree.old }
 {
     let Ok(mut bundles) = fork_bundled(alloc, tree) else {

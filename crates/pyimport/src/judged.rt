@@ -24,14 +24,12 @@ pub fn judge<T: Grove, K: Sink>(
 ) -> Report
     requires few { it.run.rounds ≡ None → AreFew it.run.scripts }
     ensures answers { Checks (meaning sources) it.trace_file it.run
-        (moment T.files T.faults T.lists tree.old (at K.written K.faults out.old) (at K.written K.faults err.old))
-        (moment T.files T.faults T.lists tree.new (at K.written K.faults out.new) (at K.written K.faults err.new))
+        (moment T.Tree K.Sink K.Sink tree.old out.old err.old) (moment T.Tree K.Sink K.Sink tree.new out.new err.new)
         result.status }
     ensures plan { result.plan ≡ Some (plans.Check it.run it.trace_file) }
     ensures history { result.history ≡ None }
     ensures passes { Passes
-        (moment T.files T.faults T.lists tree.old (at K.written K.faults out.old) (at K.written K.faults err.old))
-        (moment T.files T.faults T.lists tree.new (at K.written K.faults out.new) (at K.written K.faults err.new)) }
+        (moment T.Tree K.Sink K.Sink tree.old out.old err.old) (moment T.Tree K.Sink K.Sink tree.new out.new err.new) }
 {
     let Stored { run, trace_file } = it;
     check::<Script, T, K, K>(alloc, run, trace_file, tree, out, err)

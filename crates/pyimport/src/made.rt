@@ -30,8 +30,8 @@ pub fn run_made<R: Threads + Wait + Sync, K: Sink, G: Gate + Sync>(
     requires modules { 1 ≤ it.modules }
     requires scripts { (1 ≤ it.scripts) × (it.scripts ≤ 16) }
     ensures run { MadeGives (meaning sources) (workload_of it.seed it.modules it.scripts)
-        (sinks (at K.written K.faults out.old) (at K.written K.faults err.old))
-        (sinks (at K.written K.faults out.new) (at K.written K.faults err.new)) (left_of result) }
+        (sinks (at K.Sink out.old) (at K.Sink err.old))
+        (sinks (at K.Sink out.new) (at K.Sink err.new)) (left_of result) }
     ensures plan { result.plan ≡ Some (plans.Gen it.seed it.modules it.scripts) }
     ensures out_faults { K.faults out.old ≤ K.faults out.new }
     ensures err_faults { K.faults err.old ≤ K.faults err.new }

@@ -44,13 +44,11 @@ pub fn solo<T: Tree, K: Sink>(
     requires script { length plan.now.scripts ≡ 1 }
     requires text { length texts ≡ 1 }
     ensures run { Gives (meaning sources) plan.now texts
-        (moment T.files T.faults T.lists tree.old (at K.written K.faults out.old) (at K.written K.faults err.old))
-        (moment T.files T.faults T.lists tree.new (at K.written K.faults out.new) (at K.written K.faults err.new))
+        (moment T.Tree K.Sink K.Sink tree.old out.old err.old) (moment T.Tree K.Sink K.Sink tree.new out.new err.new)
         (left_of result) }
     ensures plan { result.plan ≡ None }
     ensures passes { Passes
-        (moment T.files T.faults T.lists tree.old (at K.written K.faults out.old) (at K.written K.faults err.old))
-        (moment T.files T.faults T.lists tree.new (at K.written K.faults out.new) (at K.written K.faults err.new)) }
+        (moment T.Tree K.Sink K.Sink tree.old out.old err.old) (moment T.Tree K.Sink K.Sink tree.new out.new err.new) }
 {
     let ran = run_alone::<Script, T, K, K>(alloc, plan, texts, tree, out, err);
     with_plan(ran, None)
@@ -74,13 +72,11 @@ pub fn solo_rounds<T: Grove, K: Sink>(
     requires below { AreBelowRoot rounds.now }
     requires texts { length texts ≡ length rounds.now }
     ensures run { in_rounds.Gives (meaning sources) plan.now rounds.now texts
-        (moment T.files T.faults T.lists tree.old (at K.written K.faults out.old) (at K.written K.faults err.old))
-        (moment T.files T.faults T.lists tree.new (at K.written K.faults out.new) (at K.written K.faults err.new))
+        (moment T.Tree K.Sink K.Sink tree.old out.old err.old) (moment T.Tree K.Sink K.Sink tree.new out.new err.new)
         (left_of result) }
     ensures plan { result.plan ≡ None }
     ensures passes { Passes
-        (moment T.files T.faults T.lists tree.old (at K.written K.faults out.old) (at K.written K.faults err.old))
-        (moment T.files T.faults T.lists tree.new (at K.written K.faults out.new) (at K.written K.faults err.new)) }
+        (moment T.Tree K.Sink K.Sink tree.old out.old err.old) (moment T.Tree K.Sink K.Sink tree.new out.new err.new) }
 {
     let ran = run_rounds_alone::<Script, T, K, K>(alloc, plan, rounds, texts, tree, out, err);
     with_plan(ran, None)
@@ -103,13 +99,11 @@ pub fn run_all<R: Threads + Wait + Sync, T: Grove, K: Sink + Send, G: Gate + Syn
     requires few { length plan.now.scripts ≤ 16 }
     requires texts { length texts ≡ length plan.now.scripts }
     ensures run { Gives (meaning sources) plan.now texts
-        (moment T.files T.faults T.lists tree.old (at K.written K.faults out.old) (at K.written K.faults err.old))
-        (moment T.files T.faults T.lists tree.new (at K.written K.faults out.new) (at K.written K.faults err.new))
+        (moment T.Tree K.Sink K.Sink tree.old out.old err.old) (moment T.Tree K.Sink K.Sink tree.new out.new err.new)
         (left_of result) }
     ensures plan { result.plan ≡ None }
     ensures passes { Passes
-        (moment T.files T.faults T.lists tree.old (at K.written K.faults out.old) (at K.written K.faults err.old))
-        (moment T.files T.faults T.lists tree.new (at K.written K.faults out.new) (at K.written K.faults err.new)) }
+        (moment T.Tree K.Sink K.Sink tree.old out.old err.old) (moment T.Tree K.Sink K.Sink tree.new out.new err.new) }
 {
     let ran = run_together::<Script, R, T, K, K, G>(rt, alloc, plan, texts, tree, out, err, gate);
     with_plan(ran, None)
@@ -135,13 +129,11 @@ pub fn run_rounds<R: Threads + Wait + Sync, T: Grove, K: Sink + Send, G: Gate + 
     requires below { AreBelowRoot rounds.now }
     requires texts { length texts ≡ length (scripts_of rounds.now) }
     ensures run { in_rounds.Gives (meaning sources) plan.now rounds.now texts
-        (moment T.files T.faults T.lists tree.old (at K.written K.faults out.old) (at K.written K.faults err.old))
-        (moment T.files T.faults T.lists tree.new (at K.written K.faults out.new) (at K.written K.faults err.new))
+        (moment T.Tree K.Sink K.Sink tree.old out.old err.old) (moment T.Tree K.Sink K.Sink tree.new out.new err.new)
         (left_of result) }
     ensures plan { result.plan ≡ None }
     ensures passes { Passes
-        (moment T.files T.faults T.lists tree.old (at K.written K.faults out.old) (at K.written K.faults err.old))
-        (moment T.files T.faults T.lists tree.new (at K.written K.faults out.new) (at K.written K.faults err.new)) }
+        (moment T.Tree K.Sink K.Sink tree.old out.old err.old) (moment T.Tree K.Sink K.Sink tree.new out.new err.new) }
 {
     let ran = run_in_rounds::<Script, R, T, K, K, G>(
         rt, alloc, plan, rounds, texts, tree, out, err, gate,
@@ -165,12 +157,10 @@ pub fn pyimport<R: Threads + Wait + Sync, T: Grove, K: Sink + Send, G: Gate + Sy
     gate: &G,
 ) -> Report
     ensures answers { Answers (map string_bytes words.now)
-        (moment T.files T.faults T.lists tree.old (at K.written K.faults out.old) (at K.written K.faults err.old))
-        (moment T.files T.faults T.lists tree.new (at K.written K.faults out.new) (at K.written K.faults err.new))
+        (moment T.Tree K.Sink K.Sink tree.old out.old err.old) (moment T.Tree K.Sink K.Sink tree.new out.new err.new)
         result }
     ensures passes { Passes
-        (moment T.files T.faults T.lists tree.old (at K.written K.faults out.old) (at K.written K.faults err.old))
-        (moment T.files T.faults T.lists tree.new (at K.written K.faults out.new) (at K.written K.faults err.new)) }
+        (moment T.Tree K.Sink K.Sink tree.old out.old err.old) (moment T.Tree K.Sink K.Sink tree.new out.new err.new) }
     ensures lists { result.history ≡ None → ReadsNoFolder result.plan → T.lists tree.new ≤ T.lists tree.old }
     ensures lists_stay { ReadsItself (plan_of (map string_bytes words.now)) → result.history ≡ None
         → ReadsNoFolder result.plan → T.lists tree.new ≡ T.lists tree.old }

@@ -6,9 +6,9 @@ use Rattle.program_check.proofs.call.check.Goals as goal
 
 pub returns-in-Ok-clause-answers : goal.returns-in-Ok-clause-answers
 returns-in-Ok-clause-answers g c =
-    let first : Moment = moment g.T.Tree.files g.T.Tree.faults g.T.Tree.lists c.args.tree.now (at g.O.Sink.written g.O.Sink.faults c.args.out.now) (at g.K.Sink.written g.K.Sink.faults c.args.err.now) in
-    let old : Moment = moment g.T.Tree.files g.T.Tree.faults g.T.Tree.lists c.open_trace.new.tree (at g.O.Sink.written g.O.Sink.faults c.args.out.now) (at g.K.Sink.written g.K.Sink.faults c.args.err.now) in
-    let new : Moment = moment g.T.Tree.files g.T.Tree.faults g.T.Tree.lists c.check_opened.new.tree (at g.O.Sink.written g.O.Sink.faults c.check_opened.new.out) (at g.K.Sink.written g.K.Sink.faults c.check_opened.new.err) in
+    let first : Moment = moment g.T.Tree g.O.Sink g.K.Sink c.args.tree.now c.args.out.now c.args.err.now in
+    let old : Moment = moment g.T.Tree g.O.Sink g.K.Sink c.open_trace.new.tree c.args.out.now c.args.err.now in
+    let new : Moment = moment g.T.Tree g.O.Sink g.K.Sink c.check_opened.new.tree c.check_opened.new.out c.check_opened.new.err in
     let opened = c.open_trace.ensures in
     let means = g.F.Followed.means in
     let run = c.args.run in
@@ -19,6 +19,6 @@ returns-in-Ok-clause-answers g c =
 
 pub returns-in-Err-clause-answers : goal.returns-in-Err-clause-answers
 returns-in-Err-clause-answers g c =
-    let old : Moment = moment g.T.Tree.files g.T.Tree.faults g.T.Tree.lists c.args.tree.now (at g.O.Sink.written g.O.Sink.faults c.args.out.now) (at g.K.Sink.written g.K.Sink.faults c.args.err.now) in
-    let new : Moment = moment g.T.Tree.files g.T.Tree.faults g.T.Tree.lists c.open_trace.new.tree (at g.O.Sink.written g.O.Sink.faults c.args.out.now) (at g.K.Sink.written g.K.Sink.faults c.unopened.new.err) in
+    let old : Moment = moment g.T.Tree g.O.Sink g.K.Sink c.args.tree.now c.args.out.now c.args.err.now in
+    let new : Moment = moment g.T.Tree g.O.Sink g.K.Sink c.open_trace.new.tree c.args.out.now c.unopened.new.err in
     no_trace g.F.Followed.means c.args.trace_file c.args.run old new c.unopened.result.status c.in-Err.why c.in-Err.ensures.err (c.unopened.ensures.tells old new refl refl refl)

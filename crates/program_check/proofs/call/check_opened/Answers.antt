@@ -10,14 +10,14 @@ check_text-requires-clause-opened g c κs within = subst (λ (f : Option Files).
 
 pub returns-in-Ok-clause-answers : goal.returns-in-Ok-clause-answers
 returns-in-Ok-clause-answers g c =
-    let first : Moment = moment g.T.Tree.files g.T.Tree.faults g.T.Tree.lists c.args.tree.now (at g.O.Sink.written g.O.Sink.faults c.args.out.now) (at g.K.Sink.written g.K.Sink.faults c.args.err.now) in
-    let old : Moment = moment g.T.Tree.files g.T.Tree.faults g.T.Tree.lists c.open_scripts.new.tree (at g.O.Sink.written g.O.Sink.faults c.args.out.now) (at g.K.Sink.written g.K.Sink.faults c.args.err.now) in
-    let new : Moment = moment g.T.Tree.files g.T.Tree.faults g.T.Tree.lists c.check_text.new.tree (at g.O.Sink.written g.O.Sink.faults c.check_text.new.out) (at g.K.Sink.written g.K.Sink.faults c.check_text.new.err) in
+    let first : Moment = moment g.T.Tree g.O.Sink g.K.Sink c.args.tree.now c.args.out.now c.args.err.now in
+    let old : Moment = moment g.T.Tree g.O.Sink g.K.Sink c.open_scripts.new.tree c.args.out.now c.args.err.now in
+    let new : Moment = moment g.T.Tree g.O.Sink g.K.Sink c.check_text.new.tree c.check_text.new.out c.check_text.new.err in
     let opened = c.open_scripts.ensures in
     text_since first old new (record { files = opened.files_stay; faults = opened.faults_grow; out = refl; err = refl }) g.F.Followed.means c.args.bytes c.args.run c.check_text.result.status c.check_text.ensures.answers
 
 pub returns-in-Err-clause-answers : goal.returns-in-Err-clause-answers
 returns-in-Err-clause-answers g c =
-    let old : Moment = moment g.T.Tree.files g.T.Tree.faults g.T.Tree.lists c.args.tree.now (at g.O.Sink.written g.O.Sink.faults c.args.out.now) (at g.K.Sink.written g.K.Sink.faults c.args.err.now) in
-    let new : Moment = moment g.T.Tree.files g.T.Tree.faults g.T.Tree.lists c.open_scripts.new.tree (at g.O.Sink.written g.O.Sink.faults c.args.out.now) (at g.K.Sink.written g.K.Sink.faults c.unopened.new.err) in
+    let old : Moment = moment g.T.Tree g.O.Sink g.K.Sink c.args.tree.now c.args.out.now c.args.err.now in
+    let new : Moment = moment g.T.Tree g.O.Sink g.K.Sink c.open_scripts.new.tree c.args.out.now c.unopened.new.err in
     no_script g.F.Followed.means c.args.bytes c.args.run old new c.unopened.result.status c.in-Err.why c.in-Err.ensures.err (c.unopened.ensures.tells old new refl refl refl)

@@ -11,8 +11,8 @@ pub returns-clause-says : goal.returns-clause-says
 returns-clause-says g c = λ old new o n e.
     let flow = c.say_line-flow.result in
     let text : List ℕ = verdict_line c.args.said.now.entries c.args.said.now.verdict in
-    let first : At = at g.O.Sink.written g.O.Sink.faults c.args.out.now in
-    let last : At = at g.O.Sink.written g.O.Sink.faults c.say_line-flow.new.sink in
+    let first : At = at g.O.Sink c.args.out.now in
+    let last : At = at g.O.Sink c.say_line-flow.new.sink in
     let gets : Gets first text last flow = c.say_line-flow.ensures.gets text c.verdict_line-line.ensures in
     record {
       out_flow = flow;

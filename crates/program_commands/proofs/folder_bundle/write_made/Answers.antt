@@ -12,7 +12,7 @@ pub returns-in-Bytes-clause-answers : goal.returns-in-Bytes-clause-answers
 returns-in-Bytes-clause-answers g c = λ old new makes o n e f.
     let it = subst (λ (m : Made). Makes old.files c.args.dir m) c.in-Bytes.is makes in
     Bundles.bundled it.2.0 c.in-Bytes.bytes.items (subst (λ (p : Packing). Packs old.files c.args.dir p) it.2.1 it.1) it.2.2
-    (wrote old new (at g.O.Sink.written g.O.Sink.faults c.args.out.now) _ _ c.in-Bytes.bytes.items c.say_line-flow.result _ (c.say_line-flow.ensures.gets c.in-Bytes.bytes.items refl) o n e f
+    (wrote old new (at g.O.Sink c.args.out.now) _ _ c.in-Bytes.bytes.items c.say_line-flow.result _ (c.say_line-flow.ensures.gets c.in-Bytes.bytes.items refl) o n e f
     (ap (λ (r : Report). r.status) c.without_run.ensures ∙ c.status_by.ensures))
 
 pub returns-in-Missing-clause-answers : goal.returns-in-Missing-clause-answers

@@ -26,7 +26,7 @@ returns-clause-run g c =
     let named : Mean run means names programs = subst (λ (ns : List (List ℕ)). Mean run means ns programs) c.as_slice-names.ensures c.in-Ok.ensures in
     let mean : MeanFrom run (of_names means names) 0 c.in-Ok-no_texts.texts programs =
     subst (λ (ts : List (List ℕ)). MeanFrom run (of_names means names) 0 ts programs) (sym texts) (from_first run means names programs named) in
-    let old : Moment = moment g.T.Tree.files g.T.Tree.faults g.T.Tree.lists c.args.tree.now (at g.K.Sink.written g.K.Sink.faults c.args.out.now) (at g.K.Sink.written g.K.Sink.faults c.args.err.now) in
-    let new : Moment = moment g.T.Tree.files g.T.Tree.faults g.T.Tree.lists c.run_programs.new.tree (at g.K.Sink.written g.K.Sink.faults c.run_programs.new.out) (at g.K.Sink.written g.K.Sink.faults c.run_programs.new.err) in
+    let old : Moment = moment g.T.Tree g.K.Sink g.K.Sink c.args.tree.now c.args.out.now c.args.err.now in
+    let new : Moment = moment g.T.Tree g.K.Sink g.K.Sink c.run_programs.new.tree c.run_programs.new.out c.run_programs.new.err in
     subst (λ (ts : List (List ℕ)). Gives (of_names means names) c.args.plan.now ts old new c.run_programs.result) texts
     (c.run_programs.ensures.run (of_names means names) (λ t text. c.names_are_safe.ensures t (name_at names t)) mean)

@@ -9,8 +9,8 @@ use Rattle.program_commands.proofs.report.report_imports.Goals as goal
 
 pub returns-in-Ok-clause-answers : goal.returns-in-Ok-clause-answers
 returns-in-Ok-clause-answers g c =
-    let old : Moment = moment g.T.Tree.files g.T.Tree.faults g.T.Tree.lists c.args.tree.now (at g.O.Sink.written g.O.Sink.faults c.args.out.now) (at g.K.Sink.written g.K.Sink.faults c.args.err.now) in
-    let new : Moment = moment g.T.Tree.files g.T.Tree.faults g.T.Tree.lists c.tell_report-told.new.tree (at g.O.Sink.written g.O.Sink.faults c.tell_report-told.new.out) (at g.K.Sink.written g.K.Sink.faults c.end_report-status.new.err) in
+    let old : Moment = moment g.T.Tree g.O.Sink g.K.Sink c.args.tree.now c.args.out.now c.args.err.now in
+    let new : Moment = moment g.T.Tree g.O.Sink g.K.Sink c.tell_report-told.new.tree c.tell_report-told.new.out c.end_report-status.new.err in
     subst (λ (n : ℕ). Reports c.args.dir c.args.path old new n) (sym (ap (λ (r : Report). r.status) c.without_run.ensures))
     (Reports.opened c.in-Ok.folder c.in-Ok.ensures.ok (record {
       told = c.tell_report-told.result;
@@ -22,6 +22,6 @@ returns-in-Ok-clause-answers g c =
 
 pub returns-in-Err-clause-answers : goal.returns-in-Err-clause-answers
 returns-in-Err-clause-answers g c =
-    let old : Moment = moment g.T.Tree.files g.T.Tree.faults g.T.Tree.lists c.args.tree.now (at g.O.Sink.written g.O.Sink.faults c.args.out.now) (at g.K.Sink.written g.K.Sink.faults c.args.err.now) in
-    let new : Moment = moment g.T.Tree.files g.T.Tree.faults g.T.Tree.lists c.open_folder.new.tree (at g.O.Sink.written g.O.Sink.faults c.args.out.now) (at g.K.Sink.written g.K.Sink.faults c.unopened.new.err) in
+    let old : Moment = moment g.T.Tree g.O.Sink g.K.Sink c.args.tree.now c.args.out.now c.args.err.now in
+    let new : Moment = moment g.T.Tree g.O.Sink g.K.Sink c.open_folder.new.tree c.args.out.now c.unopened.new.err in
     c.unopened.ensures.answers c.args.dir c.args.path old new c.in-Err.ensures.err c.open_folder.ensures.lists_stay refl refl refl

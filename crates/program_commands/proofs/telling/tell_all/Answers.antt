@@ -12,7 +12,7 @@ use Rattle.program_commands.proofs.telling.tell_all.Goals as goal
 
 pub lines-init : goal.lines-init
 lines-init g c = record {
-  told = begin (g.T.Tree.files c.args.tree.now) (λ f. left f c.args.begun) (at g.O.Sink.written g.O.Sink.faults c.args.out.now);
+  told = begin (g.T.Tree.files c.args.tree.now) (λ f. left f c.args.begun) (at g.O.Sink c.args.out.now);
   files = refl;
   faults = refl;
   lists = λ f there. omega arith;
@@ -24,15 +24,15 @@ pub lines-preserved : goal.lines-preserved
 lines-preserved g c =
     let files = g.T.Tree.files c.args.tree.now in
     let next = next_line files (λ f. left f c.lines.walk) (λ f. left f c.next.new.self) c.in-Ok-Some.field-0 c.in-Ok-Some.line c.in-Ok-Some.field-0-is (λ f there. c.in-Ok-Some.ensures.told f (c.lines.invariant.files ∙ there)) in
-    let got = subst (λ (flow : Flow). Gets (at g.O.Sink.written g.O.Sink.faults c.lines.out) (line_text c.in-Ok-Some.line) (at g.O.Sink.written g.O.Sink.faults c.tell_line.new.out) flow) c.in-Open.is c.tell_line.ensures.gets in
+    let got = subst (λ (flow : Flow). Gets (at g.O.Sink c.lines.out) (line_text c.in-Ok-Some.line) (at g.O.Sink c.tell_line.new.out) flow) c.in-Open.is c.tell_line.ensures.gets in
     let grow = c.lines.invariant.lists_grow in
     let grows = c.next.ensures.lists_grow in
     let out = c.lines.invariant.out_faults in
     let outs = c.tell_line.ensures.faults_grow in
     record {
-      told = subst (λ (found : Bool). Telling files (λ f. left f c.args.begun) (λ f. left f c.next.new.self) (at g.O.Sink.written g.O.Sink.faults c.args.out.now) (at g.O.Sink.written g.O.Sink.faults c.tell_line.new.out) found) (sym c.are_found-found.ensures)
-          (tell_more files (λ f. left f c.args.begun) (λ f. left f c.lines.walk) (at g.O.Sink.written g.O.Sink.faults c.args.out.now) (at g.O.Sink.written g.O.Sink.faults c.lines.out) c.lines.found c.lines.invariant.told
-          (λ f. left f c.next.new.self) (at g.O.Sink.written g.O.Sink.faults c.tell_line.new.out) c.in-Ok-Some.line next got);
+      told = subst (λ (found : Bool). Telling files (λ f. left f c.args.begun) (λ f. left f c.next.new.self) (at g.O.Sink c.args.out.now) (at g.O.Sink c.tell_line.new.out) found) (sym c.are_found-found.ensures)
+          (tell_more files (λ f. left f c.args.begun) (λ f. left f c.lines.walk) (at g.O.Sink c.args.out.now) (at g.O.Sink c.lines.out) c.lines.found c.lines.invariant.told
+          (λ f. left f c.next.new.self) (at g.O.Sink c.tell_line.new.out) c.in-Ok-Some.line next got);
       files = c.next.ensures.files_stay ∙ c.lines.invariant.files;
       faults = c.in-Ok-Some.ensures.faults_stay ∙ c.lines.invariant.faults;
       lists = λ f there.
@@ -47,14 +47,14 @@ pub returns-in-Failed-clause-tells : goal.returns-in-Failed-clause-tells
 returns-in-Failed-clause-tells g c =
     let files = g.T.Tree.files c.args.tree.now in
     let next = next_line files (λ f. left f c.lines.walk) (λ f. left f c.next.new.self) c.in-Ok-Some.field-0 c.in-Ok-Some.line c.in-Ok-Some.field-0-is (λ f there. c.in-Ok-Some.ensures.told f (c.lines.invariant.files ∙ there)) in
-    let got = subst (λ (flow : Flow). Gets (at g.O.Sink.written g.O.Sink.faults c.lines.out) (line_text c.in-Ok-Some.line) (at g.O.Sink.written g.O.Sink.faults c.tell_line.new.out) flow) c.in-Failed.is c.tell_line.ensures.gets in
+    let got = subst (λ (flow : Flow). Gets (at g.O.Sink c.lines.out) (line_text c.in-Ok-Some.line) (at g.O.Sink c.tell_line.new.out) flow) c.in-Failed.is c.tell_line.ensures.gets in
     cut_told files (λ f. left f c.args.begun) (λ f. left f c.lines.walk) _ _ c.lines.found c.lines.invariant.told (g.T.Tree.faults c.args.tree.now) (g.T.Tree.faults c.next.new.tree) (λ f. left f c.next.new.self) _ c.in-Ok-Some.line next got
 
 pub returns-in-Short-clause-tells : goal.returns-in-Short-clause-tells
 returns-in-Short-clause-tells g c =
     let files = g.T.Tree.files c.args.tree.now in
     let next = next_line files (λ f. left f c.lines.walk) (λ f. left f c.next.new.self) c.in-Ok-Some.field-0 c.in-Ok-Some.line c.in-Ok-Some.field-0-is (λ f there. c.in-Ok-Some.ensures.told f (c.lines.invariant.files ∙ there)) in
-    let got = subst (λ (flow : Flow). Gets (at g.O.Sink.written g.O.Sink.faults c.lines.out) (line_text c.in-Ok-Some.line) (at g.O.Sink.written g.O.Sink.faults c.tell_line.new.out) flow) c.in-Short.is c.tell_line.ensures.gets in
+    let got = subst (λ (flow : Flow). Gets (at g.O.Sink c.lines.out) (line_text c.in-Ok-Some.line) (at g.O.Sink c.tell_line.new.out) flow) c.in-Short.is c.tell_line.ensures.gets in
     short_line_told files (λ f. left f c.args.begun) (λ f. left f c.lines.walk) _ _ c.lines.found c.lines.invariant.told (g.T.Tree.faults c.args.tree.now) (g.T.Tree.faults c.next.new.tree) (λ f. left f c.next.new.self) _ c.in-Ok-Some.line next got
 
 pub returns-in-Ok-None-clause-tells : goal.returns-in-Ok-None-clause-tells

@@ -14,8 +14,8 @@ pub returns-in-Ok-clause-answers : goal.returns-in-Ok-clause-answers
 returns-in-Ok-clause-answers g c = λ old new o n e f.
     let entries : List Entry = c.in-Ok.trace.entries in
     let flow = c.say_trace-flow.result in
-    let first : At = at g.O.Sink.written g.O.Sink.faults c.args.out.now in
-    let last : At = at g.O.Sink.written g.O.Sink.faults c.say_trace-flow.new.sink in
+    let first : At = at g.O.Sink c.args.out.now in
+    let last : At = at g.O.Sink c.say_trace-flow.new.sink in
     let gets : Gets first (trace entries) last flow = subst (λ (es : List Entry). Gets first (trace es) last flow) c.as_slice.ensures c.say_trace-flow.ensures.gets in
     ConvertsText.converted c.in-Ok.trace.format entries c.in-Ok.ensures.found (record {
       out_flow = flow;

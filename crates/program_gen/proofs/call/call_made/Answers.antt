@@ -6,11 +6,11 @@ use Rattle.program_gen.proofs.call.call_made.Goals as goal
 
 pub returns-clause-run : goal.returns-clause-run
 returns-clause-run g c =
-    made g.S.Scripts.means c.args.seed c.args.modules c.args.scripts (at g.K.Sink.written g.K.Sink.faults c.args.out.now) (at g.K.Sink.written g.K.Sink.faults c.with_line.new.out)
-    (at g.K.Sink.written g.K.Sink.faults c.args.err.now) (at g.K.Sink.written g.K.Sink.faults c.run_quiet-ran.new.err) c.run_quiet-ran.result c.with_line.result
+    made g.S.Scripts.means c.args.seed c.args.modules c.args.scripts (at g.K.Sink c.args.out.now) (at g.K.Sink c.with_line.new.out)
+    (at g.K.Sink c.args.err.now) (at g.K.Sink c.run_quiet-ran.new.err) c.run_quiet-ran.result c.with_line.result
     c.run_quiet-ran.ensures.run c.with_line.ensures.history c.with_line.ensures.told c.with_line.ensures.unbegun
 
 pub returns-clause-no_file_fault : goal.returns-clause-no_file_fault
 returns-clause-no_file_fault g c =
-    never_tree_fault g.S.Scripts.means (workload_of c.args.seed c.args.modules c.args.scripts) (sinks (at g.K.Sink.written g.K.Sink.faults c.args.out.now) (at g.K.Sink.written g.K.Sink.faults c.args.err.now))
-    (sinks (at g.K.Sink.written g.K.Sink.faults c.with_line.new.out) (at g.K.Sink.written g.K.Sink.faults c.run_quiet-ran.new.err)) c.with_line.result.history c.with_line.result.status (returns-clause-run g c)
+    never_tree_fault g.S.Scripts.means (workload_of c.args.seed c.args.modules c.args.scripts) (sinks (at g.K.Sink c.args.out.now) (at g.K.Sink c.args.err.now))
+    (sinks (at g.K.Sink c.with_line.new.out) (at g.K.Sink c.run_quiet-ran.new.err)) c.with_line.result.history c.with_line.result.status (returns-clause-run g c)

@@ -15,5 +15,5 @@ run_scripts-requires-clause-texts g c κs within =
 
 pub returns-clause-run : goal.returns-clause-run
 returns-clause-run g c =
-    quiet g.S.Scripts.means c.args.seed c.args.modules c.args.scripts c.in-Ok.it.plan c.in-Ok.it.texts _ _ _ _ (at g.K.Sink.written g.K.Sink.faults c.args.err.now)
-    (at g.K.Sink.written g.K.Sink.faults c.run_scripts.new.err) c.run_scripts.result c.in-Ok.ensures.plan c.in-Ok.ensures.texts c.in-Ok.ensures.files c.run_scripts.ensures.run
+    quiet g.S.Scripts.means c.args.seed c.args.modules c.args.scripts c.in-Ok.it.plan c.in-Ok.it.texts _ _ _ _ (at g.K.Sink c.args.err.now)
+    (at g.K.Sink c.run_scripts.new.err) c.run_scripts.result c.in-Ok.ensures.plan c.in-Ok.ensures.texts c.in-Ok.ensures.files c.run_scripts.ensures.run

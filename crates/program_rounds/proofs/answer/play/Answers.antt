@@ -9,6 +9,6 @@ run_rounds-ran-requires-clause-texts g c = λ κs lives.
 pub returns-clause-answers : goal.returns-clause-answers
 returns-clause-answers g c = λ words file first is names has since.
     let ran = c.run_rounds-ran in
-    played_by g.S.Scripts.means words first (moment g.T.Tree.files g.T.Tree.faults g.T.Tree.lists c.args.tree.now (at g.K.Sink.written g.K.Sink.faults c.args.out.now) (at g.K.Sink.written g.K.Sink.faults c.args.err.now))
-    (moment g.T.Tree.files g.T.Tree.faults g.T.Tree.lists ran.new.tree (at g.K.Sink.written g.K.Sink.faults ran.new.out) (at g.K.Sink.written g.K.Sink.faults ran.new.err)) c.args.run file c.args.rounds.now c.args.texts since
+    played_by g.S.Scripts.means words first (moment g.T.Tree g.K.Sink g.K.Sink c.args.tree.now c.args.out.now c.args.err.now)
+    (moment g.T.Tree g.K.Sink g.K.Sink ran.new.tree ran.new.out ran.new.err) c.args.run file c.args.rounds.now c.args.texts since
     ran.result c.with_plan.result c.with_plan.ensures is names has c.requires.texts ran.ensures.run

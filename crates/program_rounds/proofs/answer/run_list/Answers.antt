@@ -10,7 +10,7 @@ returns-in-Ok-clause-answers g c = λ words file first is names has since.
 
 pub returns-in-Err-clause-answers : goal.returns-in-Err-clause-answers
 returns-in-Err-clause-answers g c = λ words file first is names has since.
-    ends_unopened g.S.Scripts.means words first (moment g.T.Tree.files g.T.Tree.faults g.T.Tree.lists c.args.tree.now (at g.K.Sink.written g.K.Sink.faults c.args.out.now) (at g.K.Sink.written g.K.Sink.faults c.args.err.now))
-    (moment g.T.Tree.files g.T.Tree.faults g.T.Tree.lists c.open_rounds.new.tree (at g.K.Sink.written g.K.Sink.faults c.args.out.now) (at g.K.Sink.written g.K.Sink.faults c.tell_why.new.err)) c.tell_why.result c.args.run file c.args.rounds.now c.in-Err.why since
+    ends_unopened g.S.Scripts.means words first (moment g.T.Tree g.K.Sink g.K.Sink c.args.tree.now c.args.out.now c.args.err.now)
+    (moment g.T.Tree g.K.Sink g.K.Sink c.open_rounds.new.tree c.args.out.now c.tell_why.new.err) c.tell_why.result c.args.run file c.args.rounds.now c.in-Err.why since
     (record { run_is = is; file_is = names; plan = c.tell_why.ensures.plan }) c.tell_why.ensures.history has c.in-Err.ensures.err (c.tell_why.ensures.leaves first _ since.out (sym since.err) refl)
     c.open_rounds.ensures.faults_grow c.open_rounds.ensures.lists_stay

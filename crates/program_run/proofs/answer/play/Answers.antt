@@ -4,6 +4,6 @@ use Rattle.program_run.proofs.answer.play.Goals as goal
 
 pub returns-clause-answers : goal.returns-clause-answers
 returns-clause-answers g c = λ words first is since.
-    played_by g.S.Scripts.means words first (moment g.T.Tree.files g.T.Tree.faults g.T.Tree.lists c.args.tree.now (at g.K.Sink.written g.K.Sink.faults c.args.out.now) (at g.K.Sink.written g.K.Sink.faults c.args.err.now))
-    (moment g.T.Tree.files g.T.Tree.faults g.T.Tree.lists c.run_scripts-ran.new.tree (at g.K.Sink.written g.K.Sink.faults c.run_scripts-ran.new.out) (at g.K.Sink.written g.K.Sink.faults c.run_scripts-ran.new.err)) c.args.run c.args.texts since is c.requires.texts
+    played_by g.S.Scripts.means words first (moment g.T.Tree g.K.Sink g.K.Sink c.args.tree.now c.args.out.now c.args.err.now)
+    (moment g.T.Tree g.K.Sink g.K.Sink c.run_scripts-ran.new.tree c.run_scripts-ran.new.out c.run_scripts-ran.new.err) c.args.run c.args.texts since is c.requires.texts
     c.run_scripts-ran.result c.with_plan.result c.with_plan.ensures c.run_scripts-ran.ensures.run
