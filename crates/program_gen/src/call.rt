@@ -1,5 +1,7 @@
 //! The call.
-ghost use Rattle.std.specs.Prelude.{◌≡◌, ◌≤◌, None, IfSome, IfNone};
+ghost use Rattle.std.specs.Prelude.{◌≡◌, ◌≤◌, None, Some, IfSome, IfNone};
+ghost use Rattle.import_words.specs.declared.plan.Plan.TheVariants as plans;
+ghost use Rattle.program_run.specs.Answers.{left_of};
 ghost use Rattle.program_run.specs.Runs.{finished};
 ghost use Rattle.program_run.specs.Sinks.{at};
 ghost use Rattle.program_run.specs.Statuses.{tree_fault};
@@ -10,7 +12,8 @@ use crate::no_out::NoOut;
 use crate::ready::{Ready, make_ready};
 use crate::summing::sum_up;
 use drive_round::Gate;
-use program_run::{Left, Scripts, run_scripts, unbegun};
+use import_words::Plan;
+use program_run::{Left, Report, Scripts, run_scripts, unbegun, with_plan};
 use std::alloc::Global;
 use std::sync::Wait;
 use std::thread::Threads;
@@ -78,15 +81,23 @@ pub fn call_made<S: Scripts + Send, R: Threads + Wait + Sync, K: Sink, G: Gate +
     out: &mut K,
     err: &mut K,
     gate: &G,
-) -> Left
+) -> Report
     requires modules { 1 ≤ modules }
     requires scripts { (1 ≤ scripts) × (scripts ≤ 16) }
     ensures run { MadeGives S.means (workload_of seed modules scripts)
-        (sinks (at K.Sink out.old) (at K.Sink err.old)) (sinks (at K.Sink out.new) (at K.Sink err.new)) result }
+        (sinks (at K.Sink out.old) (at K.Sink err.old)) (sinks (at K.Sink out.new) (at K.Sink err.new))
+        (left_of result) }
+    ensures plan { result.plan ≡ Some (plans.Gen seed modules scripts) }
     ensures no_file_fault { result.status ≡ tree_fault → ⊥ }
     ensures out_faults { K.faults out.old ≤ K.faults out.new }
     ensures err_faults { K.faults err.old ≤ K.faults err.new }
 {
     let ran = run_quiet::<S, R, K, G>(rt, alloc, seed, modules, scripts, err, gate);
-    with_line(alloc, out, modules, scripts, ran)
+    let told = with_line(alloc, out, modules, scripts, ran);
+    let plan = Plan::Gen {
+        seed,
+        modules,
+        scripts,
+    };
+    with_plan(told, Some(plan))
 }

@@ -25,7 +25,7 @@ pub use line::joined;
 pub use open::{Opened, Unopened, open_all, open_script, refused};
 pub use outlet::Out;
 pub use report::{Left, Report, of_run, unbegun, with_plan, without_run};
-pub use run::{run_alone, run_programs, run_scripts, run_together};
+pub use run::{run_alone, run_programs, run_scripts};
 pub use scripts::Scripts;
 pub use status::{
     ERROR_END, NORMAL_END, REFUSAL, SINK_FAULT, SPENT_BUDGET, TREE_FAULT, WANT_OF_MEMORY,

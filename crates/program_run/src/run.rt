@@ -79,41 +79,6 @@ pub fn run_alone<S: Scripts, T: Tree, O: Sink, K: Sink>(
     run_one(alloc, plan, texts, programs, tree, out, err)
 }
 
-/// Runs several scripts over a tree, each in a thread of its own over a fork of it, which passes the
-/// gate before each event. What they print goes to `out` as it is printed, and a line for each end
-/// that is not normal to `err`, in the order of the scripts.
-pub fn run_together<
-    S: Scripts + Send,
-    R: Threads + Wait + Sync,
-    T: Grove,
-    O: Sink + Send,
-    K: Sink,
-    G: Gate + Sync,
->(
-    rt: &R,
-    alloc: Global,
-    plan: &RunPlan,
-    texts: Seq<Seq<u8>>,
-    tree: &mut T,
-    out: &mut O,
-    err: &mut K,
-    gate: &G,
-) -> Left
-    requires some { 2 ≤ length plan.now.scripts }
-    requires few { length plan.now.scripts ≤ 16 }
-    requires texts { length texts ≡ length plan.now.scripts }
-    ensures run { Gives S.means plan.now texts
-        (moment T.Tree O.Sink K.Sink tree.old out.old err.old) (moment T.Tree O.Sink K.Sink tree.new out.new err.new)
-        result }
-    ensures passes { Passes
-        (moment T.Tree O.Sink K.Sink tree.old out.old err.old) (moment T.Tree O.Sink K.Sink tree.new out.new err.new) }
-{
-    let Ok(programs) = programs_of::<S>(alloc, texts.as_slice()) else {
-        return unbegun();
-    };
-    run_several(rt, alloc, plan, texts, programs, tree, out, err, gate)
-}
-
 /// Runs the scripts of a plan: one by itself, and several in threads of their own.
 pub fn run_scripts<
     S: Scripts + Send,

@@ -29,27 +29,6 @@ fn words_of(rt: &HostRuntime) -> Result<Vec<String>, NoMemory> {
     }
 }
 
-/// What the words of the command line ask for is done over the current folder. There is no report
-/// where memory was wanted for the words. Several scripts run on threads of `threads`.
-fn report<R: Threads + Wait + Sync>(rt: HostRuntime, threads: &R) -> Option<Report> {
-    let alloc = rt.alloc();
-    let Ok(words) = words_of(&rt) else {
-        return None;
-    };
-    let mut tree = RealTree::at(rt, Text::new(alloc));
-    let mut out = StdSink::out(rt);
-    let mut err = StdSink::err(rt);
-    Some(pyimport(
-        threads,
-        alloc,
-        words.as_slice(),
-        &mut tree,
-        &mut out,
-        &mut err,
-        &OpenGate,
-    ))
-}
-
 /// How the program ends: with the status of its report, and with 6 where it has none. The process ends here, so the
 /// memory of the history is left to the system, which takes it back as a whole.
 fn exit_of(report: Option<Report>) -> ExitCode
@@ -71,7 +50,24 @@ fn exit_of(report: Option<Report>) -> ExitCode
     }
 }
 
-/// Runs the program, and gives its exit status.
+/// Does what the words of the command line ask for over the current folder, several scripts on threads
+/// of `threads`, and gives the exit status of the program.
 pub fn run_program<R: Threads + Wait + Sync>(rt: HostRuntime, threads: &R) -> ExitCode {
-    exit_of(report(rt, threads))
+    let alloc = rt.alloc();
+    let Ok(words) = words_of(&rt) else {
+        return exit_of(None);
+    };
+    let mut tree = RealTree::at(rt, Text::new(alloc));
+    let mut out = StdSink::out(rt);
+    let mut err = StdSink::err(rt);
+    let report = pyimport(
+        threads,
+        alloc,
+        words.as_slice(),
+        &mut tree,
+        &mut out,
+        &mut err,
+        &OpenGate,
+    );
+    exit_of(Some(report))
 }

@@ -13,18 +13,18 @@ ghost use Rattle.pyimport.specs.Answers.{Answers, ReadsItself, ReadsNoFolder};
 
 use crate::bundled::call_bundled;
 use crate::bundled_modules::run_modules_bundled;
-use crate::judged::judge;
-use crate::made::run_made;
 use crate::module::Module;
 use crate::script::Script;
-use crate::task::{Reported, Task, task_of};
+use crate::task::{Numbers, Reported, Stored, Task, task_of};
 use base_types::Seq;
 use drive_round::Gate;
 use import_words::{Round, RunPlan};
+use program_check::check;
 use program_commands::{bundle, convert, report_imports, run_modules};
+use program_gen::call_made;
 use program_rounds::{call, run_rounds as run_in_rounds, run_rounds_alone};
 use program_run::{
-    Report, WANT_OF_MEMORY, plan_for, run_alone, run_together, with_plan, without_run,
+    Report, WANT_OF_MEMORY, plan_for, run_alone, run_scripts, with_plan, without_run,
 };
 use std::alloc::Global;
 use std::sync::Wait;
@@ -105,7 +105,7 @@ pub fn run_all<R: Threads + Wait + Sync, T: Grove, K: Sink + Send, G: Gate + Syn
     ensures passes { Passes
         (moment T.Tree K.Sink K.Sink tree.old out.old err.old) (moment T.Tree K.Sink K.Sink tree.new out.new err.new) }
 {
-    let ran = run_together::<Script, R, T, K, K, G>(rt, alloc, plan, texts, tree, out, err, gate);
+    let ran = run_scripts::<Script, R, T, K, K, G>(rt, alloc, plan, texts, tree, out, err, gate);
     with_plan(ran, None)
 }
 
@@ -167,13 +167,21 @@ pub fn pyimport<R: Threads + Wait + Sync, T: Grove, K: Sink + Send, G: Gate + Sy
 {
     match plan_for(alloc, words) {
         Ok(plan) => match task_of(plan) {
-            Task::Make(it) => run_made(rt, alloc, it, out, err, gate),
+            Task::Make(
+                Numbers {
+                    seed,
+                    modules,
+                    scripts,
+                },
+            ) => call_made::<Script, R, K, G>(rt, alloc, seed, modules, scripts, out, err, gate),
             Task::Convert(file) => convert(alloc, file, tree, out, err),
             Task::Report(Reported { path, dir }) => {
                 report_imports(alloc, path, dir, tree, out, err)
             }
             Task::Bundle(dir) => bundle(alloc, dir, tree, out, err),
-            Task::Check(it) => judge(alloc, it, tree, out, err),
+            Task::Check(Stored { run, trace_file }) => {
+                check::<Script, T, K, K>(alloc, run, trace_file, tree, out, err)
+            }
             Task::Modules(run) => {
                 run_modules::<Module, R, T, K, G>(rt, alloc, run, tree, out, err, gate)
             }

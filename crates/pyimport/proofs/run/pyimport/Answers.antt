@@ -9,16 +9,16 @@ use Rattle.pyimport.proofs.Answering.{wordless_by, unbegun_same}
 use Rattle.pyimport.proofs.Numbered.{direct_of, fits_of, no_rounds, plan_is}
 use Rattle.pyimport.proofs.run.pyimport.Goals as goal
 
-pub run_made-requires-clause-modules : goal.run_made-requires-clause-modules
-run_made-requires-clause-modules g c κs within =
+pub call_made-requires-clause-modules : goal.call_made-requires-clause-modules
+call_made-requires-clause-modules g c κs within =
     (fits_of (map string_bytes c.args.words.now) c.in-Ok.plan c.in-Ok.ensures _ (sym c.task_of.ensures ∙ c.in-Make.is)).0
 
-pub run_made-requires-clause-scripts : goal.run_made-requires-clause-scripts
-run_made-requires-clause-scripts g c κs within =
+pub call_made-requires-clause-scripts : goal.call_made-requires-clause-scripts
+call_made-requires-clause-scripts g c κs within =
     (fits_of (map string_bytes c.args.words.now) c.in-Ok.plan c.in-Ok.ensures _ (sym c.task_of.ensures ∙ c.in-Make.is)).1
 
-pub judge-requires-clause-few : goal.judge-requires-clause-few
-judge-requires-clause-few g c κs within =
+pub check-requires-clause-few : goal.check-requires-clause-few
+check-requires-clause-few g c κs within =
     fits_of (map string_bytes c.args.words.now) c.in-Ok.plan c.in-Ok.ensures _ (sym c.task_of.ensures ∙ c.in-Check.is)
 
 pub run_modules-requires-clause-few : goal.run_modules-requires-clause-few
@@ -48,7 +48,7 @@ call-requires-clause-plan g c κs within = plan_is c.in-Ok.plan _ (sym c.task_of
 pub returns-in-Make-clause-answers : goal.returns-in-Make-clause-answers
 returns-in-Make-clause-answers g c =
     let asked = ap task_of (sym c.in-Ok.ensures) ∙ (sym c.task_of.ensures ∙ c.in-Make.is) in
-    Answers.made c.in-Make.it asked c.run_made.ensures.plan refl refl c.run_made.ensures.run
+    Answers.made _ asked c.call_made.ensures.plan refl refl c.call_made.ensures.run
 
 pub returns-in-Convert-clause-answers : goal.returns-in-Convert-clause-answers
 returns-in-Convert-clause-answers g c =
@@ -68,7 +68,7 @@ returns-in-Report-clause-answers g c =
 pub returns-in-Check-clause-answers : goal.returns-in-Check-clause-answers
 returns-in-Check-clause-answers g c =
     let asked = ap task_of (sym c.in-Ok.ensures) ∙ (sym c.task_of.ensures ∙ c.in-Check.is) in
-    Answers.checked c.in-Check.it asked c.judge.ensures.plan c.judge.ensures.history c.judge.ensures.answers
+    Answers.checked _ asked c.check.ensures.plan c.check.ensures.history c.check.ensures.answers
 
 pub returns-in-Modules-clause-answers : goal.returns-in-Modules-clause-answers
 returns-in-Modules-clause-answers g c =
@@ -108,10 +108,10 @@ pub returns-in-Report-clause-lists_stay : goal.returns-in-Report-clause-lists_st
 returns-in-Report-clause-lists_stay g c = λ itself none reads. absurd (subst ReadsNoFolder c.report_imports.ensures.plan reads)
 
 pub returns-in-Check-clause-lists : goal.returns-in-Check-clause-lists
-returns-in-Check-clause-lists g c = λ none reads. absurd (subst ReadsNoFolder c.judge.ensures.plan reads)
+returns-in-Check-clause-lists g c = λ none reads. absurd (subst ReadsNoFolder c.check.ensures.plan reads)
 
 pub returns-in-Check-clause-lists_stay : goal.returns-in-Check-clause-lists_stay
-returns-in-Check-clause-lists_stay g c = λ itself none reads. absurd (subst ReadsNoFolder c.judge.ensures.plan reads)
+returns-in-Check-clause-lists_stay g c = λ itself none reads. absurd (subst ReadsNoFolder c.check.ensures.plan reads)
 
 pub returns-in-Modules-clause-lists : goal.returns-in-Modules-clause-lists
 returns-in-Modules-clause-lists g c = λ none reads.
