@@ -80,7 +80,9 @@ impl Port for ReplayPort<'_> {
     } };
 
     fn call(&mut self, event: Event) -> Result<Reply, Halt> {
-        self.next(&event)
+        let reply = self.next(&event);
+        drop(event);
+        reply
     }
 
     fn wait(&mut self) -> Result<Reply, Halt> {

@@ -30,7 +30,9 @@ pub fn decide(
         let frame = Frame::Decide { test, body, turns };
         return Ok(Next::Frame(Boxed::new(alloc, (frame, Flow::Went(value)))?));
     }
-    if !truth(&value) {
+    let holds = truth(&value);
+    drop(value);
+    if !holds {
         return Ok(Next::Went(Value::Nothing));
     }
     let stmts = body.share()?;

@@ -58,13 +58,16 @@ pub fn turn(
     match value_in_statement(alloc, execution, &test)? {
         Operand::Other(found) => begin_test(alloc, execution, test, body, turns, found),
         Operand::Value(value, units) => {
-            if is_listed(&value) {
+            let is_list = is_listed(&value);
+            let holds = truth(&value);
+            drop(value);
+            if is_list {
                 return Ok(Next::Piece(Boxed::new(alloc, Item::Turn { test, body, turns })?));
             }
             if !afford(&mut execution.budget, units) {
                 return Ok(Next::Piece(Boxed::new(alloc, Item::Turn { test, body, turns })?));
             }
-            if !truth(&value) {
+            if !holds {
                 return Ok(Next::Went(Value::Nothing));
             }
             let stmts = body.share()?;

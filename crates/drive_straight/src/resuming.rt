@@ -102,6 +102,8 @@ fn resume_expression(
                     (Frame::Operands { form, done }, Flow::Went(value)),
                 )?));
             }
+            drop(value);
+            drop(done);
             come(alloc, execution, expr, given)
         }
     }

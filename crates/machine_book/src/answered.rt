@@ -3,18 +3,25 @@ ghost use Rattle.std.specs.Prelude.{◌≡◌, IfOk, OnOk, OnErr, IsTrue};
 ghost use Rattle.machine_events.specs.Fitting.{Fits};
 ghost use Rattle.machine_spec.specs.Allowed.{allowed};
 ghost use Rattle.machine_spec.specs.Step.{step};
-ghost use Rattle.machine_book.specs.Reads.{OnlyReads};
+ghost use Rattle.machine_book.specs.Reads.{OnlyReads, is_told_at_once};
 
 use base_types::{Exact, NoMemory};
 use import_machine::Machine;
 use machine_events::{Event, Reply};
 
-/// Whether an event of this kind only reads. Not counted are kinds that read in some states alone, as Ask, which may
-/// wait.
-fn only_reads(event: &Event) -> bool
-    ensures { IsTrue result → OnlyReads event.now }
+/// Whether Ask has this answer only where nothing is waited for, and so nothing changed.
+fn is_told_at_once(answer: &Reply) -> bool
+    ensures { result ≡ is_told_at_once answer.now }
+{
+    matches!(answer, Reply::Module(_) | Reply::Missing | Reply::Halted)
+}
+
+/// Whether an event that gets this answer only reads. Ask does where its answer is told at once; else it may wait.
+fn only_reads(event: &Event, answer: &Reply) -> bool
+    ensures { IsTrue result → OnlyReads event.now answer.now }
 {
     match event {
+        Event::Ask(_) => is_told_at_once(answer),
         Event::GetVar { .. }
         | Event::Names(_)
         | Event::Source(_)
@@ -23,8 +30,7 @@ fn only_reads(event: &Event) -> bool
         | Event::DirGet { .. }
         | Event::NsGet(_)
         | Event::TabGet(_) => true,
-        Event::Ask(_)
-        | Event::Take(_)
+        Event::Take(_)
         | Event::Wake
         | Event::Add { .. }
         | Event::Finish { .. }
@@ -63,7 +69,7 @@ pub(crate) fn answered(
     ensures err { OnErr result (machine.new ≡ machine.old) }
 {
     machine.is_sound();
-    if only_reads(event) {
+    if only_reads(event, answer) {
         let reply = answer.copy()?;
         return Ok(reply);
     }

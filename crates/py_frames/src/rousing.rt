@@ -27,9 +27,15 @@ pub fn rouse(
         (on_value k (λ _ s. calls event (λ r. reply_piece w d reply r s k)))) thread.now)) }
 {
     let _ = thread;
-    let rouser = Boxed::new(alloc, Rouser::start(module))?;
-    let event = Boxed::new(alloc, event)?;
+    let event = match Boxed::new(alloc, event) {
+        Ok(event) => event,
+        Err(no_memory) => {
+            drop(reply);
+            return Err(no_memory.into());
+        }
+    };
     let reply = Boxed::new(alloc, reply)?;
+    let rouser = Boxed::new(alloc, Rouser::start(module))?;
     Ok(Want::Both(
         Item::Feed(Procedure::Rouse(rouser), In::Start),
         Frame::Roused { event, reply },

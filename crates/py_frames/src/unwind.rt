@@ -84,6 +84,7 @@ impl Work {
             if stops(leave, &frame) {
                 return Some(frame);
             }
+            drop(frame);
         }
         None
     }

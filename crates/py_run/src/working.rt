@@ -132,10 +132,13 @@ fn lead(alloc: Global, execution: &mut Execution, first: Want) -> Result<Next, N
         let item = match want {
             Want::Go(flow) => return Ok(passing(flow)),
             Want::Then(item) => item,
-            Want::Both(item, frame) => {
-                execution.work.push(frame)?;
-                item
-            }
+            Want::Both(item, frame) => match execution.work.push(frame) {
+                Ok(()) => item,
+                Err(no_memory) => {
+                    drop(item);
+                    return Err(no_memory);
+                }
+            },
             Want::Pay {
                 of_tree,
                 units,

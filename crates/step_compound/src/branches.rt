@@ -77,10 +77,12 @@ fn pick_branch(
 ) -> Result<Want, NoMemory>
     ensures { IfOk result (Does thread.now (acts (λ a. picked a branches at otherwise value) thread.now)) }
 {
+    let holds = truth(&value);
+    drop(value);
     match branches.get().get(at) {
         None => fail(alloc, thread, Fault::NotInProfile),
         Some(branch) => {
-            if truth(&value) {
+            if holds {
                 return Ok(Want::Then(Item::Block {
                     stmts: branch.body.share()?,
                     at: 0,

@@ -31,7 +31,10 @@ fn augment_two(
         None => return fail(alloc, thread, Fault::NotInProfile),
         Some(both) => both,
     };
-    match augmented(alloc, operator_of(op), &a, &b)? {
+    let applied = augmented(alloc, operator_of(op), &a, &b);
+    drop(a);
+    drop(b);
+    match applied? {
         Applied::Value(value) => {
             let units = size(&value);
             Ok(Want::Pay {

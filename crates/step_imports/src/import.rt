@@ -136,6 +136,8 @@ fn part_then(
         }
         other => {
             drop(other);
+            drop(name);
+            drop(frame);
             fail(alloc, thread, Fault::NotInProfile)
         }
     }

@@ -66,10 +66,16 @@ fn gather(
         Some(y) => y,
     };
     if is_listed(&x.value) || is_listed(&y.value) {
+        drop(x);
+        drop(y);
         return Ok(Both::Later);
     }
     match x.units.checked_add(y.units) {
-        None => Ok(Both::Later),
+        None => {
+            drop(x);
+            drop(y);
+            Ok(Both::Later)
+        }
         Some(units) => Ok(Both::Values(x.value, y.value, units)),
     }
 }
@@ -109,7 +115,12 @@ pub fn operation(
     ensures { IfOk result (λ found. IfSome found (λ priced. Comes expr.now thread.now priced)) }
 {
     match gather(alloc, thread, expr, a, b)? {
-        Both::Values(x, y, units) => Ok(price(binary(alloc, operator_of(op), &x, &y)?, units)),
+        Both::Values(x, y, units) => {
+            let applied = binary(alloc, operator_of(op), &x, &y);
+            drop(x);
+            drop(y);
+            Ok(price(applied?, units))
+        }
         Both::Waits(priced) => Ok(Some(priced)),
         Both::Later => Ok(None),
     }
@@ -129,7 +140,12 @@ pub fn comparison(
     ensures { IfOk result (λ found. IfSome found (λ priced. Comes expr.now thread.now priced)) }
 {
     match gather(alloc, thread, expr, a, b)? {
-        Both::Values(x, y, units) => Ok(price(compared(alloc, op, &x, &y)?, units)),
+        Both::Values(x, y, units) => {
+            let applied = compared(alloc, op, &x, &y);
+            drop(x);
+            drop(y);
+            Ok(price(applied?, units))
+        }
         Both::Waits(priced) => Ok(Some(priced)),
         Both::Later => Ok(None),
     }

@@ -76,7 +76,9 @@ pub fn replay_shares(
             event,
             reply,
         };
-        if let Some(why) = fault(&mut machine, &entry)? {
+        let judged = fault(&mut machine, &entry);
+        drop(entry);
+        if let Some(why) = judged? {
             return broken(i, why);
         }
     }

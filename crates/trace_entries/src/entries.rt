@@ -29,7 +29,10 @@ fn last_reply(reply: Reply, rest: &[&[u8]]) -> Result<Reply, Refusal>
 {
     match rest {
         [] => Ok(reply),
-        [_field, ..] => Err(Refusal::Cause(Cause::Fields)),
+        [_field, ..] => {
+            drop(reply);
+            Err(Refusal::Cause(Cause::Fields))
+        }
     }
 }
 
@@ -51,12 +54,17 @@ fn with_reply(
 ) -> Result<Entry, Refusal>
     ensures { Gives (λ x. x) result (entries.with_reply old thread event (views fields.now)) }
 {
-    let reply = reply_in(alloc, old, fields)?;
-    Ok(Entry {
-        thread,
-        event,
-        reply,
-    })
+    match reply_in(alloc, old, fields) {
+        Ok(reply) => Ok(Entry {
+            thread,
+            event,
+            reply,
+        }),
+        Err(refusal) => {
+            drop(event);
+            Err(refusal)
+        }
+    }
 }
 
 fn entry_of(alloc: Global, old: bool, fields: &[&[u8]]) -> Result<Entry, Refusal>

@@ -8,8 +8,8 @@ use Rattle.drive_straight.specs.declared.execution.Execution.{Execution}
 use Rattle.drive_straight.proofs.AtOnce.{loop_over, loop_turns, moves_on}
 use Rattle.drive_straight.proofs.loops.turn.Goals as goal
 
-pub returns-then-not-truth-clause-moves : goal.returns-then-not-truth-clause-moves
-returns-then-not-truth-clause-moves c =
+pub returns-then-not-holds-clause-moves : goal.returns-then-not-holds-clause-moves
+returns-then-not-holds-clause-moves c =
     loop_over c.args.execution.now (record { budget = c.afford.new.budget; held = c.args.execution.now.held; thread = c.args.execution.now.thread; work = c.args.execution.now.work })
     c.args.test c.args.body (c.args.turns - 1) c.args.turns c.in-Value.value c.in-Value.units c.afford.new.budget
     (omega (arith, c.if-turns-eq0.false)) (search rules) (search rules) (search rules) (c.if-not-afford.ensures.paid refl) refl

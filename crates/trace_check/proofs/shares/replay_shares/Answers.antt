@@ -69,8 +69,8 @@ returns-in-Some-2-clause-replays c = λ h are.
     let reply = taken_reply old (length c.args.lists.items) t i h e.entry before.1 low e.low e.is e.its now pair kept others last in
     let one = entry_same e.entry t pair.event pair.reply e.its event reply in
     let entry : Entry = record { thread = t; event = pair.event; reply = pair.reply } in
-    let tests : Tests c.loop-i.machine c.fault.new.machine e.entry (Some c.in-Some-2.why) =
-    subst (λ (z : Entry). Tests c.loop-i.machine c.fault.new.machine z (Some c.in-Some-2.why)) one (subst (λ (o : Option Why). Tests c.loop-i.machine c.fault.new.machine entry o) c.in-Some-2.is c.in_ok-why.ensures) in
+    let tests : Tests c.loop-i.machine c.fault-judged.new.machine e.entry (Some c.in-Some-2.why) =
+    subst (λ (z : Entry). Tests c.loop-i.machine c.fault-judged.new.machine z (Some c.in-Some-2.why)) one (subst (λ (o : Option Why). Tests c.loop-i.machine c.fault-judged.new.machine entry o) c.in-Some-2.is c.in_ok-why.ensures) in
     breaks_there c.broken-in-Some-2.result c.args.machine c.loop-i.machine h i t c.in-Some-2.why e c.broken-in-Some-2.ensures before.0 tests
 
 pub loop-i-preserved : goal.loop-i-preserved
@@ -98,8 +98,8 @@ loop-i-preserved c =
           let event = taken_event old (length c.args.lists.items) t i h e.entry before.1 low e.low e.is e.its now pair kept others last in
           let reply = taken_reply old (length c.args.lists.items) t i h e.entry before.1 low e.low e.is e.its now pair kept others last in
           let one = entry_same e.entry t pair.event pair.reply e.its event reply in
-          let tests = subst (λ (z : Entry). Tests c.loop-i.machine c.fault.new.machine z c.in_ok-why.field-0) one c.in_ok-why.ensures in (
-            up_to_tested c.args.machine c.loop-i.machine c.fault.new.machine h i e.entry c.in_ok-why.field-0 c.in_default-2.not-Some tests before.0 e.low e.is,
+          let tests = subst (λ (z : Entry). Tests c.loop-i.machine c.fault-judged.new.machine z c.in_ok-why.field-0) one c.in_ok-why.ensures in (
+            up_to_tested c.args.machine c.loop-i.machine c.fault-judged.new.machine h i e.entry c.in_ok-why.field-0 c.in_default-2.not-Some tests before.0 e.low e.is,
             subst (λ (l : List (List Pair)). IsLeft l (length c.args.lists.items) h (i + 1)) (sym back)
                 (left_more old (length c.args.lists.items) t i h e.entry before.1 low e.low e.is e.its now pair kept others last),
           );
