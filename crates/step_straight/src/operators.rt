@@ -115,12 +115,7 @@ pub fn operation(
     ensures { IfOk result (λ found. IfSome found (λ priced. Comes expr.now thread.now priced)) }
 {
     match gather(alloc, thread, expr, a, b)? {
-        Both::Values(x, y, units) => {
-            let applied = binary(alloc, operator_of(op), &x, &y);
-            drop(x);
-            drop(y);
-            Ok(price(applied?, units))
-        }
+        Both::Values(x, y, units) => Ok(price(binary(alloc, operator_of(op), &x, &y)?, units)),
         Both::Waits(priced) => Ok(Some(priced)),
         Both::Later => Ok(None),
     }
@@ -140,12 +135,7 @@ pub fn comparison(
     ensures { IfOk result (λ found. IfSome found (λ priced. Comes expr.now thread.now priced)) }
 {
     match gather(alloc, thread, expr, a, b)? {
-        Both::Values(x, y, units) => {
-            let applied = compared(alloc, op, &x, &y);
-            drop(x);
-            drop(y);
-            Ok(price(applied?, units))
-        }
+        Both::Values(x, y, units) => Ok(price(compared(alloc, op, &x, &y)?, units)),
         Both::Waits(priced) => Ok(Some(priced)),
         Both::Later => Ok(None),
     }

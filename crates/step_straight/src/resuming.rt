@@ -65,20 +65,16 @@ pub fn with_left(
     match expr.get() {
         Expr::Binary(op, _, right) => match take_right(alloc, thread, expr, left, right)? {
             Right::Value(right) => {
-                let applied = binary(alloc, operator_of(*op), left, &right.value);
-                let units = right.units;
-                drop(right);
-                Ok(price(applied?, units))
+                let applied = binary(alloc, operator_of(*op), left, &right.value)?;
+                Ok(price(applied, right.units))
             }
             Right::Waits(priced) => Ok(Some(priced)),
             Right::Later => Ok(None),
         },
         Expr::Compare(op, _, right) => match take_right(alloc, thread, expr, left, right)? {
             Right::Value(right) => {
-                let applied = compared(alloc, *op, left, &right.value);
-                let units = right.units;
-                drop(right);
-                Ok(price(applied?, units))
+                let applied = compared(alloc, *op, left, &right.value)?;
+                Ok(price(applied, right.units))
             }
             Right::Waits(priced) => Ok(Some(priced)),
             Right::Later => Ok(None),

@@ -2,8 +2,8 @@ use Rattle.std.proofs.Common.{rules}
 use Rattle.step_straight.proofs.OperatorCosts.{comes_operation, if_priced}
 use Rattle.step_straight.proofs.operators.operation.Goals as goal
 
-pub returns-in_ok-applied-in-Values : goal.returns-in_ok-applied-in-Values
-returns-in_ok-applied-in-Values c =
+pub returns-in_ok-binary-in-Values : goal.returns-in_ok-binary-in-Values
+returns-in_ok-binary-in-Values c =
     if_priced c.price.result (λ p h. comes_operation c.args.expr.now c.args.a.now c.args.b.now c.args.thread.now c.args.op
-    c.in-Values.x c.in-Values.y c.in-Values.units c.in_ok-applied-in-Values.field-0 p c.requires.form
+    c.in-Values.x c.in-Values.y c.in-Values.units c.in_ok-binary-in-Values.field-0 p c.requires.form
     (search rules) (search rules) h) c.price.ensures

@@ -12,7 +12,7 @@ returns-in_ok-applied-in-Value c =
     let e = c.args.expr.now in
     let x = c.args.left.now in
     let form = binary_form e c.in-Binary.field-1 c.in-Binary.right c.in-Binary.op (sym c.get.ensures ∙ c.in-Binary.is) in
-    if_priced c.price.result (λ p h. resumes_operation e c.in-Binary.field-1 c.in-Binary.right c.args.thread.now c.in-Binary.op [] x x c.in-Value.right.value c.in-Value.right.units c.in_ok-applied-in-Value.field-0 p form
+    if_priced c.price.result (λ p h. resumes_operation e c.in-Binary.field-1 c.in-Binary.right c.args.thread.now c.in-Binary.op [] x x c.in-Value.right.value c.in-Value.right.units c.in_ok-applied-in-Value.applied p form
     (search rules) (search rules) h) c.price.ensures
 
 pub take_right-requires-in-Compare : goal.take_right-requires-in-Compare
@@ -25,5 +25,5 @@ returns-in_ok-applied-in-Value-2 c =
     let e = c.args.expr.now in
     let x = c.args.left.now in
     let form = compare_form e c.in-Compare.field-1 c.in-Compare.right c.in-Compare.op (sym c.get.ensures ∙ c.in-Compare.is) in
-    if_priced c.price-in-Value-2.result (λ p h. resumes_comparison e c.in-Compare.field-1 c.in-Compare.right c.args.thread.now c.in-Compare.op [] x x c.in-Value-2.right.value c.in-Value-2.right.units c.in_ok-applied-in-Value-2.field-0 p form
+    if_priced c.price-in-Value-2.result (λ p h. resumes_comparison e c.in-Compare.field-1 c.in-Compare.right c.args.thread.now c.in-Compare.op [] x x c.in-Value-2.right.value c.in-Value-2.right.units c.in_ok-applied-in-Value-2.applied p form
     (search rules) (search rules) h) c.price-in-Value-2.ensures
