@@ -7,7 +7,7 @@ use Rattle.drive_straight.specs.declared.execution.Execution.{Execution}
 use Rattle.py_run.proofs.InPlace.{Reaches, known_want, led_behind, led_wanted}
 use Rattle.py_run.proofs.Leading.{begins_pushed}
 use Rattle.py_run.proofs.working.lead.Goals as goal
-use Rattle.py_run.proofs.working.lead.Goals.{in-Then, in-Both+in_ok-push-in-Both, in-Pay+else-not-spend}
+use Rattle.py_run.proofs.working.lead.Goals.{in-Then, in-Both+in-Ok, in-Pay+else-not-spend}
 
 pub pieces-init : goal.pieces-init
 pieces-init c = record {
@@ -44,7 +44,7 @@ returns-then-begins_in_place-clause-moves c =
     let came = c.pieces.invariant.moves in
     let begun : Reaches old.budget (remains old c.args.first) c.match-want.execution.budget (begins c.match-want.item c.match-want.execution) = elim c.match-want.branch [
       | in-Then w ↦ λ files whole fuel mine a. rw (w.execution-is, w.item-is) (known_want old here (remains old c.args.first) c.pieces.want (wants.Then w.in-Then.item) w.in-Then.is came files whole fuel mine a)
-      | in-Both+in_ok-push-in-Both w ↦ λ files whole fuel mine a.
+      | in-Both+in-Ok w ↦ λ files whole fuel mine a.
           rw (w.execution-is, w.item-is) (begins_pushed here w.push.new.self w.in-Both.item w.in-Both.frame (search rules) files whole fuel mine
           (known_want old here (remains old c.args.first) c.pieces.want (wants.Both w.in-Both.item w.in-Both.frame) w.in-Both.is came files whole fuel mine a))
       | in-Pay+else-not-spend w ↦ λ files whole fuel mine a.
@@ -60,7 +60,7 @@ pieces-preserved c =
     let came = c.pieces.invariant.moves in
     let begun : Reaches old.budget (remains old c.args.first) c.match-want.execution.budget (begins c.match-want.item c.match-want.execution) = elim c.match-want.branch [
       | in-Then w ↦ λ files whole fuel mine a. rw (w.execution-is, w.item-is) (known_want old here (remains old c.args.first) c.pieces.want (wants.Then w.in-Then.item) w.in-Then.is came files whole fuel mine a)
-      | in-Both+in_ok-push-in-Both w ↦ λ files whole fuel mine a.
+      | in-Both+in-Ok w ↦ λ files whole fuel mine a.
           rw (w.execution-is, w.item-is) (begins_pushed here w.push.new.self w.in-Both.item w.in-Both.frame (search rules) files whole fuel mine
           (known_want old here (remains old c.args.first) c.pieces.want (wants.Both w.in-Both.item w.in-Both.frame) w.in-Both.is came files whole fuel mine a))
       | in-Pay+else-not-spend w ↦ λ files whole fuel mine a.
@@ -69,7 +69,7 @@ pieces-preserved c =
     ] in
     let kept : c.match-want.execution.held ≡ here.held = elim c.match-want.branch [
       | in-Then w ↦ ap (λ (c : Execution). c.held) w.execution-is
-      | in-Both+in_ok-push-in-Both w ↦ ap (λ (c : Execution). c.held) w.execution-is
+      | in-Both+in-Ok w ↦ ap (λ (c : Execution). c.held) w.execution-is
       | in-Pay+else-not-spend w ↦ ap (λ (c : Execution). c.held) w.execution-is
     ] in
     record {
