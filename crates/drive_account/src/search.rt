@@ -23,7 +23,7 @@ ghost use Rattle.drive_account.specs.Asking.{Asked, AllKept};
 
 use crate::{Budget, Halt, Port, pay_reply, texts_size};
 use base_types::{Listing, NoMemory, Text, TreePath};
-use machine_events::{Event, Reply};
+use machine_events::{Carried, Event, Reply};
 use path_finder::{Found, Look, LookIn, LookWant, Probe};
 use py_value::Items;
 use spec_core::Dotted;
@@ -141,6 +141,10 @@ fn keep<P: Port>(
     ensures { GivesWant (P.view port.old) (P.view port.new) budget.old budget.new (wanted.DirSet dir listing) result }
 {
     let units = texts_size(&listing.names);
+    let listing = match Carried::new(dir.parts().alloc(), listing) {
+        Ok(listing) => listing,
+        Err(_) => return Err(Halt::NoMemory),
+    };
     budget.read = None;
     match port.call(Event::DirSet { dir, listing }) {
         Ok(reply) => {

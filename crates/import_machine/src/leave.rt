@@ -182,7 +182,7 @@ fn fits(machine: &State, counts: &NameMap<u64>, thread: u32, event: &Event) -> b
         Event::Print(text) => text.len() <= 65536,
         Event::PathGet => true,
         Event::PathAdd { value, .. } => {
-            is_path_item(value) && names_modules(&machine.table, value)
+            is_path_item(value.get()) && names_modules(&machine.table, value.get())
         }
         Event::DirGet { .. } => true,
         Event::DirSet { .. } => true,

@@ -158,7 +158,7 @@ module _ (t : ℕ) where
   over_after k (events.Finish load good) r h = absurd h
   over_after k (events.Release n) r h = absurd h
   over_after k (events.GetVar mid x raw) r h = absurd h
-  over_after k (events.SetVar mid x v raw) r h = absurd h
+  over_after k (events.SetVar raw mid x v) r h = absurd h
   over_after k (events.DelVar mid x raw) r h = absurd h
   over_after k (events.Names mid) r h = absurd h
   over_after k (events.Source load) r h = absurd h

@@ -267,7 +267,7 @@ module _ (s : State) (w : Whole s) (t : ℕ) (k : Shown) (g : Agrees (bones s) t
   fits_from (events.Finish load good) h = finish_there load h
   fits_from (events.Release n) h = spare_there n h
   fits_from (events.GetVar mid y raw) h = object_from mid h
-  fits_from (events.SetVar mid y v raw) h =
+  fits_from (events.SetVar raw mid y v) h =
       and_from (has_object s mid && not (is_ns_path v)) (names_modules s.table v) (and_from (has_object s mid) (not (is_ns_path v)) (object_from mid h.0) (ap not (sym (same_path v) ∙ h.1))) (names_from v h.2)
   fits_from (events.DelVar mid y raw) h = object_from mid h
   fits_from (events.Names mid) h = object_from mid h

@@ -617,8 +617,8 @@ fine_step s keeps t (events.Add spec text) h = adds s keeps t spec text
 fine_step s keeps t (events.Finish load good) h = finishes s keeps t load good (slice_get s.table.loads load)
 fine_step s keeps t (events.Release n) h = still s keeps replies.Done (step s t (events.Release n)).1 (refl, refl, refl) refl
 fine_step s keeps t (events.GetVar mid x raw) h = gets s keeps t mid x raw (slice_get s.table.objects mid) refl
-fine_step s keeps t (events.SetVar mid x v raw) h =
-    let fits = fitting s t (events.SetVar mid x v raw) h refl in
+fine_step s keeps t (events.SetVar raw mid x v) h =
+    let fits = fitting s t (events.SetVar raw mid x v) h refl in
     let parts = and_parts (has_object s mid && not (is_ns_path v)) (names_modules s.table v) fits in
     let front = and_parts (has_object s mid) (not (is_ns_path v)) parts.0 in
     sets_on s keeps t mid x v raw (slice_get s.table.objects mid) (settable s.table v parts.1 (untrue (is_ns_path v) front.1))

@@ -210,7 +210,7 @@ module _ (s : State) (sound : IsSound s) (sizes : List â„•) (rounds : s.rounds â
   lone_step (events.Finish load good) doing d = d
   lone_step (events.Release n) doing d = d
   lone_step (events.GetVar mid x raw) doing d = d
-  lone_step (events.SetVar mid x v raw) doing d = d
+  lone_step (events.SetVar raw mid x v) doing d = d
   lone_step (events.DelVar mid x raw) doing d = d
   lone_step (events.Names mid) doing d = d
   lone_step (events.Source load) doing d = d

@@ -41,13 +41,13 @@ fn copy_of_get(mid: u32, name: &Text, raw: bool) -> Result<Event, NoMemory>
 }
 
 fn copy_of_set(mid: u32, name: &Text, value: &Value, raw: bool) -> Result<Event, NoMemory>
-    ensures { IfOk result (λ it. it ≡ Event.SetVar mid name.now value.now raw) }
+    ensures { IfOk result (λ it. it ≡ Event.SetVar raw mid name.now value.now) }
 {
     Ok(Event::SetVar {
+        raw,
         mid,
         name: name.copy()?,
         value: value.copy()?,
-        raw,
     })
 }
 
@@ -75,10 +75,10 @@ fn copy_of_event(event: &Event) -> Result<Event, NoMemory>
         Event::Release(name) => Ok(Event::Release(name.copy()?)),
         Event::GetVar { mid, name, raw } => copy_of_get(*mid, name, *raw),
         Event::SetVar {
+            raw,
             mid,
             name,
             value,
-            raw,
         } => copy_of_set(*mid, name, value, *raw),
         Event::DelVar { mid, name, raw } => Ok(Event::DelVar {
             mid: *mid,
@@ -147,10 +147,10 @@ impl Exact for Event {
         match self {
             Event::GetVar { mid, name, raw } => copy_of_get(*mid, name, *raw),
             Event::SetVar {
+                raw,
                 mid,
                 name,
                 value,
-                raw,
             } => copy_of_set(*mid, name, value, *raw),
             Event::Print(text) => copy_of_text(text),
             _ => copy_of_event(self),

@@ -1,4 +1,5 @@
 //! Events, replies and entries.
+use crate::carried::Carried;
 use crate::module::Slot;
 use base_types::{Listing, Seq, Text, Texts, TreePath, Wide};
 use py_value::{Items, ModRef, NsState, Raised, Value};
@@ -44,12 +45,12 @@ pub enum Event {
         name: Text,
         raw: bool,
     },
-    /// A variable is set.
+    /// A variable is set. What is small stands first, so that it takes no word of its own.
     SetVar {
+        raw: bool,
         mid: u32,
         name: Text,
         value: Value,
-        raw: bool,
     },
     /// A variable is deleted.
     DelVar {
@@ -68,7 +69,7 @@ pub enum Event {
     /// An item is put into the search path, at an index or last.
     PathAdd {
         at: Option<Wide>,
-        value: Value,
+        value: Carried<Value>,
     },
     /// The kept listing of a directory is looked at.
     DirGet {
@@ -78,7 +79,7 @@ pub enum Event {
     /// A listing is kept.
     DirSet {
         dir: TreePath,
-        listing: Listing,
+        listing: Carried<Listing>,
     },
     /// All listings are dropped.
     Invalidate,
@@ -183,11 +184,11 @@ pub struct Entry {
 }
 
 // A history holds one entry for each event, and each event is moved on its way there.
-const _: () = prove!(size_of::<Event>() <= 64);
+const _: () = prove!(size_of::<Event>() <= 56);
 
 const _: () = prove!(size_of::<Reply>() <= 40);
 
-const _: () = prove!(size_of::<Entry>() <= 112);
+const _: () = prove!(size_of::<Entry>() <= 104);
 
 const _: () = prove!(size_of::<Outcome>() == 16);
 

@@ -264,10 +264,10 @@ pub fn fits(event: &Event, reply: &Reply) -> bool
             raw,
         } => is_read(*raw, reply),
         Event::SetVar {
+            raw,
             mid: _,
             name: _,
             value: _,
-            raw,
         } => is_set(*raw, reply),
         Event::DelVar {
             mid: _,

@@ -3,12 +3,14 @@
 //! a history without it.
 #![tactic(auto)]
 
+mod carried;
 mod copies;
 mod event;
 mod fitting;
 mod module;
 mod sames;
 
+pub use carried::Carried;
 pub use event::{Entry, Event, Follow, Outcome, Pair, Reply};
 pub use fitting::fits;
 pub use module::{Slot, module_of};

@@ -89,16 +89,16 @@ impl Same for Event {
                 _ => false,
             },
             Event::SetVar {
+                raw,
                 mid,
                 name,
                 value,
-                raw,
             } => match other {
                 Event::SetVar {
+                    raw: to_raw,
                     mid: to_mid,
                     name: to_name,
                     value: to_value,
-                    raw: to_raw,
                 } => *mid == *to_mid
                     && name.is_same(to_name)
                     && value.is_same(to_value)

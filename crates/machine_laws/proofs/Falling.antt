@@ -76,7 +76,7 @@ module _ (s : State) (t : ℕ) (n : List ℕ) where
   falls_gives events.Wake h = absurd (omega arith)
   falls_gives (events.Add spec text) h = absurd (omega arith)
   falls_gives (events.GetVar mid x raw) h = absurd (omega arith)
-  falls_gives (events.SetVar mid x v raw) h = absurd (let r = quiet s (step s t (events.SetVar mid x v raw)) (sets_on s t mid x v raw (slice_get s.table.objects mid)) n in omega arith)
+  falls_gives (events.SetVar raw mid x v) h = absurd (let r = quiet s (step s t (events.SetVar raw mid x v)) (sets_on s t mid x v raw (slice_get s.table.objects mid)) n in omega arith)
   falls_gives (events.DelVar mid x raw) h = absurd (let r = quiet s (step s t (events.DelVar mid x raw)) (deletes_on s t mid x raw (slice_get s.table.objects mid)) n in omega arith)
   falls_gives (events.Names mid) h = absurd (omega arith)
   falls_gives (events.Source load) h = absurd (omega arith)

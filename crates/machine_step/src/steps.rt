@@ -7,7 +7,7 @@ use crate::{
     del_var, dir_get, dir_set, get_var, invalidate, names, ns_get, ns_set, path_add, path_get,
     set_var, tab_del, tab_get, tab_set,
 };
-use base_types::NoMemory;
+use base_types::{Exact, NoMemory};
 use machine_events::{Event, Reply};
 use machine_loads::{
     add, add_lazy, ask, end_thread, finish, release, reload_begin, reload_end, reload_take, rouse,
@@ -25,10 +25,10 @@ pub fn step(machine: &mut State, thread: u32, event: Event) -> Result<Reply, NoM
     match event {
         Event::GetVar { mid, name, raw } => get_var(machine, thread, mid, &name, raw),
         Event::SetVar {
+            raw,
             mid,
             name,
             value,
-            raw,
         } => set_var(machine, thread, mid, name, value, raw),
         other => step_any(machine, thread, other),
     }
@@ -51,19 +51,19 @@ fn step_any(machine: &mut State, thread: u32, event: Event) -> Result<Reply, NoM
         Event::Release(name) => Ok(release(machine, thread, &name)),
         Event::GetVar { mid, name, raw } => get_var(machine, thread, mid, &name, raw),
         Event::SetVar {
+            raw,
             mid,
             name,
             value,
-            raw,
         } => set_var(machine, thread, mid, name, value, raw),
         Event::DelVar { mid, name, raw } => Ok(del_var(machine, thread, mid, &name, raw)),
         Event::Names(mid) => names(machine, mid),
         Event::Source(load) => source(machine, load),
         Event::Print(_) => Ok(Reply::Done),
         Event::PathGet => path_get(machine),
-        Event::PathAdd { at, value } => path_add(machine, at, value),
+        Event::PathAdd { at, value } => path_add(machine, at, value.get().copy()?),
         Event::DirGet { dir, part } => dir_get(machine, &dir, &part),
-        Event::DirSet { dir, listing } => dir_set(machine, dir, listing),
+        Event::DirSet { dir, listing } => dir_set(machine, dir, listing.get().copy()?),
         Event::Invalidate => invalidate(machine),
         Event::NsGet(mid) => ns_get(machine, mid),
         Event::NsSet { mid, state } => Ok(ns_set(machine, mid, state)),

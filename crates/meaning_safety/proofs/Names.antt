@@ -159,7 +159,7 @@ stored_safe s reply = fails_safe fault.NotInProfile s
 
 stores_global_safe : (s : Shown) (x : List ℕ) (v : Value) → KnowsValue s v → SafeAt s (names.stores_global x v)
 stores_global_safe s x v known run st knows k safe =
-    let event : Event = e.SetVar st.scope.mid x v true in
+    let event : Event = e.SetVar true st.scope.mid x v in
     steady s event names.stored (run, (knows.mid, known.1, known.0)) (λ reply. refl) (λ reply. run) (λ reply. stored_safe (shown_more s (event, reply)) reply) run st knows k safe
 
 pub stores_safe : (s : Shown) (x : List ℕ) (v : Value) → KnowsValue s v → SafeAt s (names.stores x v)
@@ -222,7 +222,7 @@ module _ (access : names.Access) (safe_access : SafeAccess access) where
       at (Value-F.Error error) is = error_member_safe error x s
       at layer is = fails_safe fault.NotInProfile s
 
-  setting : (m : ModRef) (x : List ℕ) (v : Value) → Quiet (λ raw. e.SetVar m.mid x v raw) (λ s. Has s.modules m × KnowsValue s v)
+  setting : (m : ModRef) (x : List ℕ) (v : Value) → Quiet (λ raw. e.SetVar raw m.mid x v) (λ s. Has s.modules m × KnowsValue s v)
   setting m x v = record {
     stays = λ s s' g h. (g.modules m h.0, value_grows s s' g v h.1);
     may = λ s h raw run. (run, (has_number s m h.0, h.1.1, h.1.0));
@@ -236,8 +236,8 @@ module _ (access : names.Access) (safe_access : SafeAccess access) where
       at : (layer : Value-F Value) → out-Value object ≡ layer → SafeAt s (names.sets_member_at access layer x v)
       at (Value-F.Module m) is =
           let has : Has s.modules m = module_in s object object_known.0 m is in
-          accesses_safe access.roused safe_access.roused m (λ raw. e.SetVar m.mid x v raw) (λ s'. Has s'.modules m × KnowsValue s' v) (setting m x v) names.stored
-          (λ s' has' p raw reply. stored_safe (shown_more s' (e.SetVar m.mid x v raw, reply)) reply) s has (has, known)
+          accesses_safe access.roused safe_access.roused m (λ raw. e.SetVar raw m.mid x v) (λ s'. Has s'.modules m × KnowsValue s' v) (setting m x v) names.stored
+          (λ s' has' p raw reply. stored_safe (shown_more s' (e.SetVar raw m.mid x v, reply)) reply) s has (has, known)
       at layer is = fails_safe fault.NotInProfile s
 
   deleting : (m : ModRef) (x : List ℕ) → Quiet (λ raw. e.DelVar m.mid x raw) (λ s. Has s.modules m)

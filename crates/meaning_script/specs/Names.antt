@@ -162,7 +162,7 @@ stored reply = fails fault.NotInProfile
 
 -- the variable of the own module is set, raw
 abbrev pub stores_global : List ℕ → Value → Piece
-stores_global x v s k = calls (e.SetVar s.scope.mid x v true) (λ reply. stored reply s k)
+stores_global x v s k = calls (e.SetVar true s.scope.mid x v) (λ reply. stored reply s k)
 
 -- a name is bound
 abbrev pub stores : List ℕ → Value → Piece
@@ -233,11 +233,11 @@ member access v x = member_at access (out-Value v) x
 
 -- the reply to a write that was made raw or not
 abbrev pub member_stored : Access → Bool → ModRef → List ℕ → Value → Reply → Piece
-member_stored access raw m x v reply = accessed raw access.roused m (e.SetVar m.mid x v true) stored reply
+member_stored access raw m x v reply = accessed raw access.roused m (e.SetVar true m.mid x v) stored reply
 
 -- only on a module can an attribute be set; the write is soft, so a lazy one is loaded first
 abbrev pub sets_member_at : Access → Value-F Value → List ℕ → Value → Piece
-sets_member_at access (Value-F.Module m) x v = λ s k. calls (e.SetVar m.mid x v false) (λ reply. member_stored access false m x v reply s k)
+sets_member_at access (Value-F.Module m) x v = λ s k. calls (e.SetVar false m.mid x v) (λ reply. member_stored access false m x v reply s k)
 sets_member_at access object x v = fails fault.NotInProfile
 
 -- an attribute is set (7.2)

@@ -150,10 +150,10 @@ pub fn bind<P: Port>(
         (due (nexts.Store name value) execution.old) execution.new (λ turn. turn) result }
 {
     let event = Event::SetVar {
+        raw: true,
         mid: execution.thread.state.scope.mid,
         name,
         value,
-        raw: true,
     };
     call(alloc, port, execution, event, OnReply::Stored)
 }

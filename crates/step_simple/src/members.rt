@@ -183,10 +183,10 @@ fn store_awake(
         thread.now)) }
 {
     let event = Event::SetVar {
+        raw: true,
         mid: module.mid(),
         name,
         value,
-        raw: true,
     };
     rouse(alloc, thread, module, event, OnReply::Stored)
 }
@@ -226,10 +226,10 @@ fn set_module_member(
 {
     let _ = thread;
     let event = Event::SetVar {
+        raw: false,
         mid: module.mid(),
         name: name.copy()?,
         value: value.copy()?,
-        raw: false,
     };
     let is_raw = false;
     Ok(Want::Call(

@@ -74,10 +74,10 @@ pub fn store(thread: &mut Thread, name: Text, value: Value) -> Result<Want, NoMe
         return Ok(Want::Go(Flow::Went(Value::Nothing)));
     }
     let event = Event::SetVar {
+        raw: true,
         mid: thread.state.scope.mid,
         name,
         value,
-        raw: true,
     };
     Ok(Want::Call(event, OnReply::Stored))
 }

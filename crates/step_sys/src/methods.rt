@@ -15,7 +15,7 @@ ghost use Rattle.py_frames.specs.declared.replies.OnReply.TheVariants as ons;
 use crate::arguments::{key_and_default, one, or_nothing, two};
 use base_owners::Shared;
 use base_types::{NoMemory, Seq, Text, Wide};
-use machine_events::{Event, Reply};
+use machine_events::{Carried, Event, Reply};
 use meaning_state::{Fault, Thread};
 use py_frames::{Frame, Item, OnReply, Want, fail, went};
 use py_syntax::Expr;
@@ -190,6 +190,7 @@ pub fn add_entry(
     if nests_too_deep(&value) {
         return fail(alloc, thread, Fault::PathTooDeep);
     }
+    let value = Carried::new(alloc, value)?;
     Ok(Want::Call(Event::PathAdd { at, value }, OnReply::PathAdded))
 }
 

@@ -102,7 +102,7 @@ set_at fields = do
   name ← variable_at mid.1
   value ← value_at name.1
   raw ← raw_at value.1
-  Ok (e.SetVar mid.0 name.0 value.0 raw.0, raw.1)
+  Ok (e.SetVar raw.0 mid.0 name.0 value.0, raw.1)
 
 -- `M X raw` or `M X soft`, behind `del`
 abbrev pub del_at : Fields → Taken Event

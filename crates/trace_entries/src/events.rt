@@ -14,7 +14,7 @@ use crate::take::{
     value_at, variable_at,
 };
 use base_types::{Listing, Seq};
-use machine_events::{Event, Outcome};
+use machine_events::{Carried, Event, Outcome};
 use spec_core::{Dotted, Spec};
 use std::alloc::Global;
 use trace_fields::{Cause, Refusal, lookup, place_in_path_in};
@@ -146,10 +146,10 @@ fn set_at<'a>(alloc: Global, fields: &'a [&'a [u8]]) -> Result<(Event, &'a [&'a 
     let (raw, rest) = raw_at(rest)?;
     Ok((
         Event::SetVar {
+            raw,
             mid,
             name,
             value,
-            raw,
         },
         rest,
     ))
@@ -182,6 +182,7 @@ fn path_add_at<'a>(
         return Err(Refusal::Cause(Cause::Fields));
     };
     let (value, rest) = value_at(alloc, rest)?;
+    let value = Carried::new(alloc, value)?;
     Ok((Event::PathAdd { at, value }, rest))
 }
 
@@ -199,13 +200,8 @@ fn dir_set_at<'a>(alloc: Global, fields: &'a [&'a [u8]]) -> Result<(Event, &'a [
     let (dir, rest) = tree_path_at(alloc, fields)?;
     let (time, rest) = number_at(rest)?;
     let (names, rest) = texts_at(alloc, rest)?;
-    Ok((
-        Event::DirSet {
-            dir,
-            listing: Listing { time, names },
-        },
-        rest,
-    ))
+    let listing = Carried::new(alloc, Listing { time, names })?;
+    Ok((Event::DirSet { dir, listing }, rest))
 }
 
 fn ns_set_at<'a>(alloc: Global, fields: &'a [&'a [u8]]) -> Result<(Event, &'a [&'a [u8]]), Refusal>

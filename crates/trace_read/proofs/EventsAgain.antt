@@ -60,7 +60,7 @@ event_again old (e.Finish load good) rest h s k = rw (word_known old (words.Fini
 event_again old (e.GetVar mid name raw) rest h s k =
     let b0 = and_parts (small_fits mid) _ h in
     rw (word_known old (words.Get) refl, small_read mid b0.0, variable_again name b0.1, raw_read raw) refl
-event_again old (e.SetVar mid name value raw) rest h s k =
+event_again old (e.SetVar raw mid name value) rest h s k =
     let b0 = and_parts (small_fits mid) _ h in
     let b1 = and_parts (is_utf8 name) _ b0.1 in
     rw (word_known old (words.Set) refl, small_read mid b0.0, variable_again name b1.0, value_read value b1.1, raw_read raw) refl
@@ -123,7 +123,7 @@ event_closed (e.Finish load good) h s = (ordinary_closed (codes "finish") refl, 
 event_closed (e.GetVar mid name raw) h s =
     let b0 = and_parts (small_fits mid) _ h in
     (ordinary_closed (codes "get") refl, (small_closed mid b0.0, (variable_closed name b0.1, (raw_closed raw, tt))))
-event_closed (e.SetVar mid name value raw) h s =
+event_closed (e.SetVar raw mid name value) h s =
     let b0 = and_parts (small_fits mid) _ h in
     let b1 = and_parts (is_utf8 name) _ b0.1 in
     (ordinary_closed (codes "set") refl, (small_closed mid b0.0, (variable_closed name b1.0, ((value_item value b1.1).0, (raw_closed raw, tt)))))

@@ -47,10 +47,10 @@ get_steady old =
 
 set_steady : (old : Bool) → Steady old set_at
 set_steady old =
-    steady_bound old small_number_at (λ mid. bound variable_at (λ name. bound value_at (λ value. bound raw_at (λ raw. done (e.SetVar mid name value raw))))) (small_number_steady old) (λ mid.
-    steady_bound old variable_at (λ name. bound value_at (λ value. bound raw_at (λ raw. done (e.SetVar mid name value raw)))) (variable_steady old) (λ name.
-    steady_bound old value_at (λ value. bound raw_at (λ raw. done (e.SetVar mid name value raw))) (value_steady old) (λ value.
-    steady_bound old raw_at (λ raw. done (e.SetVar mid name value raw)) (raw_steady old) (λ raw. steady_done old (e.SetVar mid name value raw)))))
+    steady_bound old small_number_at (λ mid. bound variable_at (λ name. bound value_at (λ value. bound raw_at (λ raw. done (e.SetVar raw mid name value))))) (small_number_steady old) (λ mid.
+    steady_bound old variable_at (λ name. bound value_at (λ value. bound raw_at (λ raw. done (e.SetVar raw mid name value)))) (variable_steady old) (λ name.
+    steady_bound old value_at (λ value. bound raw_at (λ raw. done (e.SetVar raw mid name value))) (value_steady old) (λ value.
+    steady_bound old raw_at (λ raw. done (e.SetVar raw mid name value)) (raw_steady old) (λ raw. steady_done old (e.SetVar raw mid name value)))))
 
 del_steady : (old : Bool) → Steady old del_at
 del_steady old =

@@ -130,15 +130,15 @@ getvar_spelled fields r h =
 
 setvar_spelled : (fields : Fields) (r : Event × Fields) → set_at fields ≡ Ok r → SpelledEvent (codes "set") false fields r
 setvar_spelled fields r h =
-    let s0 = step cause.Number small_number_in fields (λ v0. variable_at v0.1 >>= (λ v1. value_at v1.1 >>= (λ v2. raw_at v2.1 >>= (λ v3. Ok (e.SetVar v0.0 v1.0 v2.0 v3.0, v3.1))))) r h in
-    let s1 = step cause.Fields variable_in s0.rest (λ v1. value_at v1.1 >>= (λ v2. raw_at v2.1 >>= (λ v3. Ok (e.SetVar s0.x v1.0 v2.0 v3.0, v3.1)))) r s0.more in
-    let s2 = step cause.Fields (value_in 64) s1.rest (λ v2. raw_at v2.1 >>= (λ v3. Ok (e.SetVar s0.x s1.x v2.0 v3.0, v3.1))) r s1.more in
-    let s3 = step cause.Fields (flag_in (codes "raw") (codes "soft")) s2.rest (λ v3. Ok (e.SetVar s0.x s1.x s2.x v3.0, v3.1)) r s2.more in
+    let s0 = step cause.Number small_number_in fields (λ v0. variable_at v0.1 >>= (λ v1. value_at v1.1 >>= (λ v2. raw_at v2.1 >>= (λ v3. Ok (e.SetVar v3.0 v0.0 v1.0 v2.0, v3.1))))) r h in
+    let s1 = step cause.Fields variable_in s0.rest (λ v1. value_at v1.1 >>= (λ v2. raw_at v2.1 >>= (λ v3. Ok (e.SetVar v3.0 s0.x v1.0 v2.0, v3.1)))) r s0.more in
+    let s2 = step cause.Fields (value_in 64) s1.rest (λ v2. raw_at v2.1 >>= (λ v3. Ok (e.SetVar v3.0 s0.x s1.x v2.0, v3.1))) r s1.more in
+    let s3 = step cause.Fields (flag_in (codes "raw") (codes "soft")) s2.rest (λ v3. Ok (e.SetVar v3.0 s0.x s1.x s2.x, v3.1)) r s2.more in
     let t0 = small_told s0.field s0.x s0.held in
     let t1 = variable_takes s1.field s1.x s1.held in
     let t2 = value_told s2.field s2.x s2.held in
     let t3 = raw_told s3.field s3.x s3.held in
-    subst (SpelledEvent (codes "set") false fields) (ok_is (e.SetVar s0.x s1.x s2.x s3.x, s3.rest) r s3.more)
+    subst (SpelledEvent (codes "set") false fields) (ok_is (e.SetVar s3.x s0.x s1.x s2.x, s3.rest) r s3.more)
     (record { is_new = refl; fields_are = (λ k. (codes "set") ∷ s0.front k) ∙ (λ k. (codes "set") ∷ t0.0 k ∷ s1.front k) ∙ (λ k. (codes "set") ∷ decimal s0.x ∷ t1.0 k ∷ s2.front k) ∙ (λ k. (codes "set") ∷ decimal s0.x ∷ variable_text s1.x ∷ t2.0 k ∷ s3.front k) ∙ (λ k. (codes "set") ∷ decimal s0.x ∷ variable_text s1.x ∷ value_text s2.x ∷ t3 k ∷ s3.rest); fits = and_from _ _ t0.1 (and_from _ _ t1.1 (t2.1)) })
 
 delvar_spelled : (fields : Fields) (r : Event × Fields) → del_at fields ≡ Ok r → SpelledEvent (codes "del") false fields r
