@@ -1,9 +1,10 @@
 //! All that a script holds.
 ghost use Rattle.std.specs.Prelude.{◌≡◌, [], ◌∷◌, MatchOption, OnOk, OnErr};
-ghost use Rattle.machine_shown.specs.Holdings.{is_holding, is_number, without, becoming};
+ghost use Rattle.machine_shown.specs.Holdings.{is_holding, without, becoming};
 ghost use Rattle.drive_account.specs.Holds.{holding_of, held_in};
 
 use base_types::{NoMemory, Seq};
+use machine_events::is_same_load;
 use spec_core::Dotted;
 use std::alloc::Global;
 
@@ -40,24 +41,9 @@ impl Hold {
                 Hold::Reloading {
                     mid: other,
                     load: their,
-                } => *other == *mid && is_number(*their, *load),
+                } => *other == *mid && is_same_load(*their, *load),
             },
         }
-    }
-}
-
-fn is_number(a: Option<u32>, b: Option<u32>) -> bool
-    ensures { result ≡ is_number a b }
-{
-    match a {
-        None => match b {
-            None => true,
-            Some(_) => false,
-        },
-        Some(x) => match b {
-            None => false,
-            Some(y) => x == y,
-        },
     }
 }
 

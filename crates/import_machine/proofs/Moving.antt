@@ -8,6 +8,8 @@ use Rattle.std.proofs.lemmas.Bool.{and_parts, false≢true, eqb-true}
 use Rattle.std.proofs.lemmas.List.{map-append}
 use Rattle.std.proofs.lemmas.Slice.Eq.{bytes_eq-Decides}
 use Rattle.spec_core.specs.declared.spec.Spec.{Spec}
+use Rattle.machine_events.specs.Loads.{is_same_load}
+use Rattle.machine_events.proofs.Loads.{same_load}
 use Rattle.machine_events.specs.Modules.{module_of}
 use Rattle.machine_events.specs.declared.module.Slot.{Slot}
 use Rattle.machine_events.specs.declared.module.Slot.TheVariants as slots
@@ -33,7 +35,7 @@ use Rattle.machine_spec.specs.Bodies.{add, finish_entry, closed, finish_object, 
 use Rattle.machine_spec.specs.Variables.{sleeping}
 use Rattle.machine_spec.specs.Reloads.{is_entry, enter, reload_begin_on, reload_start, reload_take, reload_leave, reload_end_on}
 use Rattle.machine_spec.specs.Lazies.{add_lazy, open_lazy, rouse_lazy, rouse_phase, rouse_on}
-use Rattle.machine_spec.specs.Allowed.{has_name, can_finish, is_reload, is_number, reloads_object}
+use Rattle.machine_spec.specs.Allowed.{has_name, can_finish, is_reload, reloads_object}
 use Rattle.machine_laws.specs.Bones.{Module, Body, bones, module_bone, body_bone}
 use Rattle.machine_laws.specs.Sound.{IsSound, FitsPhase, HasBody, phase_of}
 use Rattle.machine_laws.proofs.Same.{either, changed_map, kept_map, map_at}
@@ -77,10 +79,6 @@ module _ (s : State) (p : Reply × State) where
   has_ended m h n =
       let e : total (bones p.1) n + bit (pointwise nat_eq m n) ≡ total (bones s) n = h n in
       elim (has_begun p.0) as (λ c. total (bones p.1) n + bit (pointwise nat_eq m n) ≡ total (bones s) n + cond c 0 0) [ true ↦ omega arith | false ↦ omega arith ]
-
-is_this : (o : Option ℕ) (i : ℕ) → is_number o (Some i) ≡ true → o ≡ Some i
-is_this None i h = absurd (false≢true h)
-is_this (Some x) i h = ap (λ z. Some z) (eqb-true x i h)
 
 rests : (stage : LoadStage) → phase_of stage ≡ phases.Lazy → is_open stage ≡ false
 rests stages.Resting h = refl
@@ -174,8 +172,8 @@ module _ (s : State) (sound : IsSound s) (t : ℕ) where
   leaves_by : (mid : ℕ) (n : List ℕ) (load : ℕ) (r : Option Reload) → get s.table.reloading n ≡ r → is_reload t mid (Some load) r ≡ true → Moves s (Some n) None (reload_leave s t n (Some load))
   leaves_by mid n load None is h = absurd (false≢true h)
   leaves_by mid n load (Some r) is h =
-      let parts = and_parts ((r.thread == t) && (r.mid == mid)) (is_number r.load (Some load)) h in
-      let has = is_this r.load load parts.1 in
+      let parts = and_parts ((r.thread == t) && (r.mid == mid)) (is_same_load r.load (Some load)) h in
+      let has = same_load r.load (Some load) parts.1 in
       let mine = sound.reloads n r is in
       let body : Body = record { kind = load_kinds.Reload; thread = r.thread; mid = r.mid; stage = stages.Open } in
       let after : State = (reload_leave s t n (Some load)).1 in

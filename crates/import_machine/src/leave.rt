@@ -3,12 +3,12 @@ ghost use Rattle.std.specs.Prelude.{◌≡◌, ◌≤◌, ◌&&◌, true, false,
 ghost use Rattle.std.specs.List.{list_any, list_all};
 ghost use Rattle.module_lock.specs.Table.{holds};
 ghost use Rattle.machine_spec.specs.Known.{names_modules};
-ghost use Rattle.machine_spec.specs.Allowed.{scripts, all_ended, is_due, has_name, is_open_of, has_spare, has_text, has_body, is_source, can_finish, has_object, is_ns_path, is_path_item, is_absent, has_ns, is_number, is_reloading, can_end, fits, allowed};
+ghost use Rattle.machine_spec.specs.Allowed.{scripts, all_ended, is_due, has_name, is_open_of, has_spare, has_text, has_body, is_source, can_finish, has_object, is_ns_path, is_path_item, is_absent, has_ns, is_reloading, can_end, fits, allowed};
 ghost use Rattle.import_machine.specs.SpareCounts.{count_of, AreTold};
 
 use crate::known::{all_name_modules, names_modules, slot_names_module};
 use base_types::Seq;
-use machine_events::{Event, Slot};
+use machine_events::{Event, Slot, is_same_load};
 use machine_spec::State;
 use module_table::{LoadKind, LoadStage};
 use py_value::{NsState, Value};
@@ -111,7 +111,7 @@ fn is_reloading(machine: &State, thread: u32, mid: u32, load: Option<u32>) -> bo
     match machine.table.reloading(object.spec.name()) {
         None => false,
         Some(reload) => {
-            reload.thread == thread && reload.mid == mid && is_number(reload.load, load)
+            reload.thread == thread && reload.mid == mid && is_same_load(reload.load, load)
         }
     }
 }
@@ -219,18 +219,6 @@ pub fn allowed(machine: &State, counts: &NameMap<u64>, thread: u32, event: &Even
     match event {
         Event::Wake => machine.locks.can_wake(thread),
         _ => machine.locks.awaited(thread).is_none() && fits(machine, counts, thread, event),
-    }
-}
-
-fn is_number(left: Option<u32>, right: Option<u32>) -> bool
-    ensures { result ≡ is_number left right }
-{
-    match left {
-        None => right.is_none(),
-        Some(left) => match right {
-            None => false,
-            Some(right) => left == right,
-        },
     }
 }
 

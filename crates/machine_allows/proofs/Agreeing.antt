@@ -8,8 +8,9 @@ use Rattle.std.specs.FinMap.{FinMap, get}
 use Rattle.std.proofs.lemmas.Bool.{and_parts, and_from, false≢true, eqb-true, eqb-false, eq-eqb, ne_eqb}
 use Rattle.module_table.specs.declared.module.LoadKind.TheVariants as load_kinds
 use Rattle.module_table.specs.declared.module.Reload.{Reload}
+use Rattle.machine_events.specs.Loads.{is_same_load}
 use Rattle.machine_spec.specs.Parts.{is_open, is_main, is_imported}
-use Rattle.machine_spec.specs.Allowed.{is_reload, is_number}
+use Rattle.machine_spec.specs.Allowed.{is_reload}
 use Rattle.machine_laws.specs.Bones.{Bones, Module, Body, is_named, counts_in, opens, held}
 use Rattle.machine_laws.proofs.Counts.{bit, counts_own}
 use Rattle.machine_laws.proofs.Holds.{same_text, same_name, same_self}
@@ -126,7 +127,7 @@ reloads_set reloads t ms k x y is same mid load =
 
 pub reload_mid : (t mid : ℕ) (load : Option ℕ) (r : Reload) → is_reload t mid load (Some r) ≡ true → r.mid ≡ mid
 reload_mid t mid load r h =
-    let parts = and_parts ((r.thread == t) && (r.mid == mid)) (is_number r.load load) h in
+    let parts = and_parts ((r.thread == t) && (r.mid == mid)) (is_same_load r.load load) h in
     eqb-true r.mid mid (and_parts (r.thread == t) (r.mid == mid) parts.0).1
 
 -- the next module is not reloaded yet
@@ -188,19 +189,12 @@ reloads_moved before after ms n old new is gets olds news t mid load = by (slice
         ] refl (gets m.name)
 
 -- a reload of t stands in the list as that one; of another thread it is none of t's
-same_number : (a b : Option ℕ) → is_number a b ≡ holdings.is_number a b
-same_number None None = refl
-same_number None (Some y) = refl
-same_number (Some x) None = refl
-same_number (Some x) (Some y) = refl
-
 pub reload_own : (t mid : ℕ) (load : Option ℕ) (r : Reload) → r.thread ≡ t → bit (is_reload t mid load (Some r)) ≡ bit (is_holding (Reloading mid load) (Reloading r.mid r.load))
 reload_own t mid load r own =
-    ap (λ c. bit (c && (r.mid == mid) && is_number r.load load)) (eq-eqb r.thread t own)
-    ∙ ap (λ c. bit ((r.mid == mid) && c)) (same_number r.load load)
+    ap (λ c. bit (c && (r.mid == mid) && is_same_load r.load load)) (eq-eqb r.thread t own)
 
 pub reload_other : (t mid : ℕ) (load : Option ℕ) (r : Reload) → r.thread ≢ t → bit (is_reload t mid load (Some r)) ≡ 0
-reload_other t mid load r other = ap (λ c. bit (c && (r.mid == mid) && is_number r.load load)) (ne_eqb r.thread t other)
+reload_other t mid load r other = ap (λ c. bit (c && (r.mid == mid) && is_same_load r.load load)) (ne_eqb r.thread t other)
 
 pub opened_own : (t : ℕ) (l : Body) → is_open l.stage ≡ true → l.thread ≡ t → is_imported l.kind ≡ true → opened_by t (Some l) ≡ true
 opened_own t l opened own imported = and_from (is_open l.stage && (l.thread == t)) (is_imported l.kind) (and_from (is_open l.stage) (l.thread == t) opened (eq-eqb l.thread t own)) imported

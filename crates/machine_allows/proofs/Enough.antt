@@ -14,6 +14,8 @@ use Rattle.py_value.specs.declared.value.Value.{Value, roll-Value, out-Value, ro
 use Rattle.py_value.specs.declared.value.Value.TheOpen.{Value-F}
 use Rattle.spec_core.specs.declared.spec.SpecKind.{SpecKind}
 use Rattle.spec_core.specs.declared.spec.SpecKind.TheVariants as kinds
+use Rattle.machine_events.specs.Loads.{is_same_load}
+use Rattle.machine_events.proofs.Loads.{same_load_self}
 use Rattle.machine_events.specs.declared.module.Slot.{Slot}
 use Rattle.machine_events.specs.declared.module.Slot.TheVariants as slots
 use Rattle.machine_events.specs.declared.event.Event.{Event}
@@ -29,7 +31,7 @@ use Rattle.module_table.specs.declared.module.Reload.{Reload}
 use Rattle.machine_spec.specs.declared.state.State.{State}
 use Rattle.machine_spec.specs.Parts.{is_open, is_main, is_imported}
 use Rattle.machine_spec.specs.Known.{is_module, is_module_of, is_place_of, names_modules, slot_names_module}
-use Rattle.machine_spec.specs.Allowed.{fits, has_spare, spare_of, counts_for, has_text, has_body, is_source, can_finish, has_object, has_ns, is_ns_path, is_path_item, is_absent, has_name, is_open_of, is_number, is_reload, is_reloading, reloads_object, can_end}
+use Rattle.machine_spec.specs.Allowed.{fits, has_spare, spare_of, counts_for, has_text, has_body, is_source, can_finish, has_object, has_ns, is_ns_path, is_path_item, is_absent, has_name, is_open_of, is_reload, is_reloading, reloads_object, can_end}
 use Rattle.machine_laws.specs.Bones.{Module, Body, bones, module_bone, body_bone, is_named, counts_in, opens, held, held_by}
 use Rattle.machine_laws.proofs.Counts.{bit}
 use Rattle.machine_laws.proofs.Lists.{within}
@@ -197,12 +199,8 @@ module _ (s : State) (w : Whole s) (t : ℕ) (k : Shown) (g : Agrees (bones s) t
         let none : bit (reloads_by s.table.reloading t r.mid r.load (slice_get (bones s).modules r.mid)) ≡ 0 = sym (g.reloads r.mid r.load) ∙ no_times (Reloading r.mid r.load) in
         let one : reloads_by s.table.reloading t r.mid r.load (slice_get (bones s).modules r.mid) ≡ true =
         ap (reloads_by s.table.reloading t r.mid r.load) fits_it.1 ∙ ap (λ z. is_reload t r.mid r.load (get s.table.reloading z)) fits_it.2 ∙ ap (is_reload t r.mid r.load) is
-        ∙ and_from ((r.thread == t) && (r.mid == r.mid)) (is_number r.load r.load) (and_from (r.thread == t) (r.mid == r.mid) (eq-eqb r.thread t own) (eq-eqb r.mid r.mid refl)) (number_self r.load) in
+        ∙ and_from ((r.thread == t) && (r.mid == r.mid)) (is_same_load r.load r.load) (and_from (r.thread == t) (r.mid == r.mid) (eq-eqb r.thread t own) (eq-eqb r.mid r.mid refl)) (same_load_self r.load) in
         no_bit (reloads_by s.table.reloading t r.mid r.load (slice_get (bones s).modules r.mid)) none one
-      where
-        number_self : (a : Option ℕ) → is_number a a ≡ true
-        number_self None = refl
-        number_self (Some n) = eq-eqb n n refl
 
     no_open : (i : ℕ) (l : Body) → slice_get (bones s).bodies i ≡ Some l → is_open l.stage ≡ true → is_main l.kind ≡ false → l.thread ≡ t → ⊥
     no_open i l is opened main own =

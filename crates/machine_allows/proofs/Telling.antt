@@ -7,6 +7,8 @@ use Rattle.std.proofs.lemmas.List.{map-append, length-map}
 use Rattle.std.proofs.lemmas.Slice.Eq.{bytes_eq-Decides}
 use Rattle.py_value.specs.declared.value.ModRef.{ModRef}
 use Rattle.spec_core.specs.declared.spec.Spec.{Spec}
+use Rattle.machine_events.specs.Loads.{is_same_load}
+use Rattle.machine_events.proofs.Loads.{same_load}
 use Rattle.machine_events.specs.Modules.{module_of}
 use Rattle.machine_events.specs.declared.module.Slot.{Slot}
 use Rattle.machine_events.specs.declared.module.Slot.TheVariants as slots
@@ -33,7 +35,7 @@ use Rattle.machine_spec.specs.Variables.{sleeping}
 use Rattle.machine_spec.specs.Reloads.{is_entry, busy_of, enter, reload_begin_on, reload_start, reload_take, reload_leave, reload_end_on}
 use Rattle.machine_spec.specs.Lazies.{open_lazy, rouse_lazy, rouse_phase, rouse_on}
 use Rattle.machine_spec.specs.Step.{step}
-use Rattle.machine_spec.specs.Allowed.{allowed, can_finish, has_spare, has_text, has_body, has_name, is_reload, is_number, is_reloading, reloads_object}
+use Rattle.machine_spec.specs.Allowed.{allowed, can_finish, has_spare, has_text, has_body, has_name, is_reload, is_reloading, reloads_object}
 use Rattle.machine_laws.specs.Bones.{Bones, Module, Body, bones, module_bone, body_bone}
 use Rattle.machine_laws.specs.Sound.{IsSound, IsRunning, FitsPhase, HasBody, phase_of}
 use Rattle.machine_laws.proofs.Same.{either, changed_map, kept_map, map_at, unmap}
@@ -275,10 +277,6 @@ module _ (s : State) (sound : IsSound s) (backed : Backed (bones s)) (u : ℕ) w
       ∙ ap (λ ls. record b { modules = (bones s).modules; bodies = ls }) (map-append body_bone s.table.loads _)
       ∙ ap (λ n. record b { modules = (bones s).modules; bodies = bodies; reloads = insert s.table.reloading spec.name (record { thread = u; mid = mid; load = Some n }) }) (sym (length-map s.table.loads body_bone))
 
-  none_yet : (o : Option ℕ) → is_number o None ≡ true → o ≡ None
-  none_yet None h = refl
-  none_yet (Some x) h = absurd (false≢true h)
-
   this_reload : (mid : ℕ) (load : Option ℕ) (r : Reload) → r.thread ≡ u → r.mid ≡ mid → r.load ≡ load → r ≡ record { thread = u; mid = mid; load = load }
   this_reload mid load r thread same has =
       ap (λ z. record r { thread = z }) thread ∙ ap (λ z. record r { thread = u; mid = z }) same ∙ ap (λ z. record { thread = u; mid = mid; load = z }) has
@@ -287,10 +285,10 @@ module _ (s : State) (sound : IsSound s) (backed : Backed (bones s)) (u : ℕ) w
       → is_free s.locks u spec.name ≡ true → Told s u (events.ReloadTake mid spec text) (replies.Load (length s.table.loads) mid, again mid spec text r)
   starts mid spec text o None is named at h free = absurd (false≢true h)
   starts mid spec text o (Some r) is named at h free =
-      let parts = and_parts ((r.thread == u) && (r.mid == mid)) (is_number r.load None) h in
+      let parts = and_parts ((r.thread == u) && (r.mid == mid)) (is_same_load r.load None) h in
       let who = and_parts (r.thread == u) (r.mid == mid) parts.0 in
       let fresh : Reload = record { thread = u; mid = mid; load = None } in
-      let same : r ≡ fresh = this_reload mid None r (eqb-true r.thread u who.0) (eqb-true r.mid mid who.1) (none_yet r.load parts.1) in
+      let same : r ≡ fresh = this_reload mid None r (eqb-true r.thread u who.0) (eqb-true r.mid mid who.1) (same_load r.load None parts.1) in
       let m : Module = module_bone o in
       let there : slice_get (bones s).modules mid ≡ Some m = map_at module_bone s.table.objects mid o is in
       let runs_it : get s.table.reloading spec.name ≡ Some fresh = at ∙ ap (λ z. Some z) same in
@@ -317,23 +315,23 @@ module _ (s : State) (sound : IsSound s) (backed : Backed (bones s)) (u : ℕ) w
   leaves : (mid : ℕ) (load : Option ℕ) (o : Object) → slice_get s.table.objects mid ≡ Some o → (r : Option Reload) → get s.table.reloading o.spec.name ≡ r → is_reload u mid load r ≡ true → Told s u (events.ReloadEnd mid load) (reload_leave s u o.spec.name load)
   leaves mid load o is None at h = absurd (false≢true h)
   leaves mid None o is (Some r) at h =
-      let parts = and_parts ((r.thread == u) && (r.mid == mid)) (is_number r.load None) h in
+      let parts = and_parts ((r.thread == u) && (r.mid == mid)) (is_same_load r.load None) h in
       let who = and_parts (r.thread == u) (r.mid == mid) parts.0 in
       let m : Module = module_bone o in
       let there : slice_get (bones s).modules mid ≡ Some m = map_at module_bone s.table.objects mid o is in
-      let runs_it : get s.table.reloading o.spec.name ≡ Some (record { thread = u; mid = mid; load = None }) = at ∙ ap (λ z. Some z) (this_reload mid None r (eqb-true r.thread u who.0) (eqb-true r.mid mid who.1) (none_yet r.load parts.1)) in
+      let runs_it : get s.table.reloading o.spec.name ≡ Some (record { thread = u; mid = mid; load = None }) = at ∙ ap (λ z. Some z) (this_reload mid None r (eqb-true r.thread u who.0) (eqb-true r.mid mid who.1) (same_load r.load None parts.1)) in
       told_by s u (events.ReloadEnd mid None) replies.Done (reload_leave s u o.spec.name None).1
       (λ list doing g. own_left (bones s) sound backed u o.spec.name mid m there refl None runs_it list doing g)
       (other_left (bones s) sound backed u o.spec.name mid m there refl None runs_it) (backed_left (bones s) sound backed u o.spec.name mid m there refl None runs_it refl)
   leaves mid (Some load) o is (Some r) at h =
       let b : Bones = bones s in
       let n : List ℕ = o.spec.name in
-      let parts = and_parts ((r.thread == u) && (r.mid == mid)) (is_number r.load (Some load)) h in
+      let parts = and_parts ((r.thread == u) && (r.mid == mid)) (is_same_load r.load (Some load)) h in
       let who = and_parts (r.thread == u) (r.mid == mid) parts.0 in
       let m : Module = module_bone o in
       let there : slice_get b.modules mid ≡ Some m = map_at module_bone s.table.objects mid o is in
       let it : Reload = record { thread = u; mid = mid; load = Some load } in
-      let runs_it : get s.table.reloading n ≡ Some it = at ∙ ap (λ z. Some z) (this_reload mid (Some load) r (eqb-true r.thread u who.0) (eqb-true r.mid mid who.1) (is_this r.load load parts.1)) in
+      let runs_it : get s.table.reloading n ≡ Some it = at ∙ ap (λ z. Some z) (this_reload mid (Some load) r (eqb-true r.thread u who.0) (eqb-true r.mid mid who.1) (same_load r.load (Some load) parts.1)) in
       let body : Body = record { kind = load_kinds.Reload; thread = u; mid = mid; stage = stages.Open } in
       let body_at : slice_get b.bodies load ≡ Some body = reload_there b sound n it load runs_it refl in
       let after : Bones = done_given b sound backed u n mid m there refl (Some load) runs_it load refl body_at in
@@ -345,10 +343,6 @@ module _ (s : State) (sound : IsSound s) (backed : Backed (bones s)) (u : ℕ) w
       (λ list doing g. subst (λ c. Agrees c u (without (Reloading mid (Some load)) list) doing) (sym is_after) (own_done b sound backed u n mid m there refl (Some load) runs_it load refl body_at list doing g))
       (λ t other. subst (λ c. Apart b c t) (sym is_after) (other_done b sound backed u n mid m there refl (Some load) runs_it load refl body_at t other))
       (subst Backed (sym is_after) (backed_done b sound backed u n mid m there refl (Some load) runs_it load refl body_at))
-    where
-      is_this : (o : Option ℕ) (i : ℕ) → is_number o (Some i) ≡ true → o ≡ Some i
-      is_this None i h = absurd (false≢true h)
-      is_this (Some x) i h = ap (λ z. Some z) (eqb-true x i h)
 
   ends_again : (mid : ℕ) (load : Option ℕ) (o : Option Object) → slice_get s.table.objects mid ≡ o → reloads_object s u mid load o ≡ true → Told s u (events.ReloadEnd mid load) (reload_end_on s u load o)
   ends_again mid load None is h = absurd (false≢true h)

@@ -4,23 +4,15 @@ use Rattle.std.specs.Prelude.{nat_eq}
 use Rattle.std.specs.Cmp.Lexicographic.{nat_list_eq_equiv}
 use Rattle.std.proofs.lemmas.Bool.{and_parts, and_from, false≢true, eqb-true, eq-eqb}
 use Rattle.std.proofs.lemmas.Slice.Eq.{bytes_eq-Decides}
-use Rattle.machine_shown.specs.Holdings.{Holding, Taken, Loading, Reloading, is_number, is_holding, without, becoming}
+use Rattle.machine_events.specs.Loads.{is_same_load}
+use Rattle.machine_events.proofs.Loads.{same_load, same_load_self}
+use Rattle.machine_shown.specs.Holdings.{Holding, Taken, Loading, Reloading, is_holding, without, becoming}
 use Rattle.machine_shown.specs.Knowing.{Has}
 use Rattle.machine_laws.proofs.Counts.{bit}
 
 abbrev pub times : Holding → List Holding → ℕ
 times x [] = 0
 times x (h ∷ held) = bit (is_holding x h) + times x held
-
-number_is : (a b : Option ℕ) → is_number a b ≡ true → a ≡ b
-number_is None None h = refl
-number_is None (Some y) h = absurd (false≢true h)
-number_is (Some x) None h = absurd (false≢true h)
-number_is (Some x) (Some y) h = ap (λ z. Some z) (eqb-true x y h)
-
-number_self : (a : Option ℕ) → is_number a a ≡ true
-number_self None = refl
-number_self (Some x) = eq-eqb x x refl
 
 pub holding_is : (x h : Holding) → is_holding x h ≡ true → x ≡ h
 holding_is (Taken n) (Taken m) h = ap (λ z. Taken z) ((bytes_eq-Decides n m).0 h)
@@ -32,13 +24,13 @@ holding_is (Loading i) (Reloading mid load) h = absurd (false≢true h)
 holding_is (Reloading i l) (Taken m) h = absurd (false≢true h)
 holding_is (Reloading i l) (Loading load) h = absurd (false≢true h)
 holding_is (Reloading i l) (Reloading mid load) h =
-    let parts = and_parts (nat_eq mid i) (is_number load l) h in
-    ap (λ z. Reloading z l) (sym (eqb-true mid i parts.0)) ∙ ap (λ z. Reloading mid z) (sym (number_is load l parts.1))
+    let parts = and_parts (nat_eq mid i) (is_same_load load l) h in
+    ap (λ z. Reloading z l) (sym (eqb-true mid i parts.0)) ∙ ap (λ z. Reloading mid z) (sym (same_load load l parts.1))
 
 pub holding_self : (x : Holding) → is_holding x x ≡ true
 holding_self (Taken n) = nat_list_eq_equiv.refl n
 holding_self (Loading i) = eq-eqb i i refl
-holding_self (Reloading i l) = and_from (nat_eq i i) (is_number l l) (eq-eqb i i refl) (number_self l)
+holding_self (Reloading i l) = and_from (nat_eq i i) (is_same_load l l) (eq-eqb i i refl) (same_load_self l)
 
 pub has_times : (x : Holding) (held : List Holding) → Has held x → 0 < times x held
 has_times x [] h = absurd h

@@ -13,4 +13,4 @@ mod sames;
 pub use carried::Carried;
 pub use event::{Entry, Event, Follow, Outcome, Pair, Reply};
 pub use fitting::fits;
-pub use module::{Slot, module_of};
+pub use module::{Slot, is_same_load, module_of};

@@ -5,6 +5,8 @@ use Rattle.std.specs.Option.{option_map}
 use Rattle.std.specs.FinMap.{get}
 use Rattle.std.proofs.lemmas.Bool.{and_parts, false≢true, eqb-true}
 use Rattle.std.proofs.lemmas.Option.{same_Some}
+use Rattle.machine_events.specs.Loads.{is_same_load}
+use Rattle.machine_events.proofs.Loads.{same_load}
 use Rattle.machine_events.specs.declared.event.Event.{Event}
 use Rattle.machine_events.specs.declared.event.Event.TheVariants as events
 use Rattle.machine_events.specs.declared.event.Entry.{Entry}
@@ -18,7 +20,7 @@ use Rattle.machine_spec.specs.declared.state.State.{State}
 use Rattle.machine_spec.specs.Parts.{is_open, is_imported}
 use Rattle.machine_spec.specs.Bodies.{finish_entry, finish_object, finish_load}
 use Rattle.machine_spec.specs.Reloads.{reload_end_on}
-use Rattle.machine_spec.specs.Allowed.{allowed, can_finish, has_spare, has_body, is_reload, is_number, reloads_object}
+use Rattle.machine_spec.specs.Allowed.{allowed, can_finish, has_spare, has_body, is_reload, reloads_object}
 use Rattle.machine_spec.specs.Gives.{gives, name_of}
 use Rattle.machine_spec.specs.Legal.{IsLegal, replay}
 use Rattle.machine_spec.specs.Step.{step}
@@ -140,16 +142,12 @@ module _ (s : State) (sound : IsSound s) (t : ℕ) where
       (open_holds load body mine.0 (reload_there (bones s) sound m r load runs has) mine.1
       (subst (λ u. counts_in (bones s) u mine.0.name body ≡ true) thread counts))
 
-  is_this : (o : Option ℕ) (i : ℕ) → is_number o (Some i) ≡ true → o ≡ Some i
-  is_this None i h = absurd (false≢true h)
-  is_this (Some x) i h = ap (λ z. Some z) (eqb-true x i h)
-
   leave_holds : (mid : ℕ) (m : List ℕ) (load : ℕ) (r : Option Reload) → get s.table.reloading m ≡ r → is_reload t mid (Some load) r ≡ true → 0 < held s.locks t m
   leave_holds mid m load None is h = absurd (false≢true h)
   leave_holds mid m load (Some r) is h =
-      let parts = and_parts ((r.thread == t) && (r.mid == mid)) (is_number r.load (Some load)) h in
+      let parts = and_parts ((r.thread == t) && (r.mid == mid)) (is_same_load r.load (Some load)) h in
       let who = and_parts (r.thread == t) (r.mid == mid) parts.0 in
-      reload_holds m load r is (is_this r.load load parts.1) (eqb-true r.thread t who.0)
+      reload_holds m load r is (same_load r.load (Some load) parts.1) (eqb-true r.thread t who.0)
 
   leave_by_one : (mid : ℕ) (load : Option ℕ) (o : Option Object) (n : List ℕ) → slice_get s.table.objects mid ≡ o → reloads_object s t mid load o ≡ true → gives s (events.ReloadEnd mid load) ≡ Some n
       → suc (count (reload_end_on s t load o).1.locks n) ≡ count s.locks n

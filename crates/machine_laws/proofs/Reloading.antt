@@ -6,6 +6,8 @@ use Rattle.std.proofs.lemmas.Bool.{and_parts, false≢true, eqb-true}
 use Rattle.std.proofs.lemmas.List.{map-append, length-map}
 use Rattle.std.proofs.lemmas.Slice.Eq.{bytes_eq-Decides}
 use Rattle.spec_core.specs.declared.spec.Spec.{Spec}
+use Rattle.machine_events.specs.Loads.{is_same_load}
+use Rattle.machine_events.proofs.Loads.{same_load}
 use Rattle.machine_events.specs.Modules.{module_of}
 use Rattle.machine_events.specs.declared.event.Reply.TheVariants as replies
 use Rattle.module_lock.specs.Table.{is_free, owns, got, given}
@@ -24,7 +26,7 @@ use Rattle.machine_spec.specs.Waits.{wait_on}
 use Rattle.machine_spec.specs.Variables.{sleeping}
 use Rattle.machine_spec.specs.Reloads.{is_entry, enter, reload_begin_on, reload_start, reload_take, reload_leave, reload_end_on}
 use Rattle.machine_spec.specs.Lazies.{open_lazy, rouse_lazy, rouse_phase, rouse_on}
-use Rattle.machine_spec.specs.Allowed.{has_name, is_reload, is_number, reloads_object}
+use Rattle.machine_spec.specs.Allowed.{has_name, is_reload, reloads_object}
 use Rattle.machine_laws.specs.Bones.{Bones, Module, Body, bones, module_bone, body_bone, counts_in, opens, held}
 use Rattle.machine_laws.specs.Sound.{AreSound, IsSound, IsRunning, FitsPhase, HasBody}
 use Rattle.machine_laws.proofs.Same.{either, changed_map, kept_map, map_at}
@@ -34,10 +36,6 @@ use Rattle.machine_laws.proofs.Facts.{sound_got, sound_given, sound_entered, sou
 use Rattle.machine_laws.proofs.Stages.{staged, opens_staged, sound_staged}
 use Rattle.machine_laws.proofs.Again.{again, sound_again, opens_again, done_again, sound_done_again, opens_done, reload_there}
 use Rattle.machine_laws.proofs.Kept.{Keeps, waits_on}
-
-is_this : (o : Option ℕ) (i : ℕ) → is_number o (Some i) ≡ true → o ≡ Some i
-is_this None i h = absurd (false≢true h)
-is_this (Some x) i h = ap (λ z. Some z) (eqb-true x i h)
 
 module _ (s : State) (sound : IsSound s) (t : ℕ) where
   enters : (mid : ℕ) (o : Object) (r : Option Reload) → slice_get s.table.objects mid ≡ Some o → Keeps (enter s t mid o.spec.name r)
@@ -112,7 +110,7 @@ module _ (s : State) (sound : IsSound s) (t : ℕ) where
       → is_free s.locks t spec.name ≡ true → get s.locks.waits t ≡ None → IsRunning (bones s) t → AreSound (bones (started mid spec text r))
   starts mid spec text o None is named h free idle_now running = absurd (false≢true h)
   starts mid spec text o (Some r) is named h free idle_now running =
-      let parts = and_parts ((r.thread == t) && (r.mid == mid)) (is_number r.load None) h in
+      let parts = and_parts ((r.thread == t) && (r.mid == mid)) (is_same_load r.load None) h in
       let who = and_parts (r.thread == t) (r.mid == mid) parts.0 in
       sound_started mid spec text r o is named (eqb-true r.thread t who.0) (eqb-true r.mid mid who.1) free idle_now running
 
@@ -155,9 +153,9 @@ module _ (s : State) (sound : IsSound s) (t : ℕ) where
   leaves mid n load None is h = absurd (false≢true h)
   leaves mid n None (Some r) is h = sound_left (bones s) sound n
   leaves mid n (Some load) (Some r) is h =
-      let parts = and_parts ((r.thread == t) && (r.mid == mid)) (is_number r.load (Some load)) h in
+      let parts = and_parts ((r.thread == t) && (r.mid == mid)) (is_same_load r.load (Some load)) h in
       let who = and_parts (r.thread == t) (r.mid == mid) parts.0 in
-      leaves_with n load r is (is_this r.load load parts.1) (eqb-true r.thread t who.0)
+      leaves_with n load r is (same_load r.load (Some load) parts.1) (eqb-true r.thread t who.0)
 
   pub ends_again : (mid : ℕ) (load : Option ℕ) (o : Option Object) → reloads_object s t mid load o ≡ true → Keeps (reload_end_on s t load o)
   ends_again mid load None h = sound

@@ -1,6 +1,7 @@
 -- What a thread holds of the machine: locks that it took, bodies that it runs, and reloads.
 use Rattle.std.specs.Prelude.{ℕ, nat_eq, ◌&&◌, Bool, true, false, List, [], ◌∷◌, Option, Some, None, if◌then◌else◌}
 use Rattle.std.specs.Cmp.Lexicographic.{pointwise}
+use Rattle.machine_events.specs.Loads.{is_same_load}
 
 -- one thing that is held: a lock, taken once for which no body runs yet; a module's body that was not ended;
 -- a reload, with its body where that has begun. Each body counts once more for the lock of its module's name
@@ -8,13 +9,6 @@ pub data Holding : Type 0 where
   Taken : (name : List ℕ) → Holding
   Loading : (load : ℕ) → Holding
   Reloading : (mid : ℕ) (load : Option ℕ) → Holding
-
--- both are none, or both are the same number
-abbrev pub is_number : Option ℕ → Option ℕ → Bool
-is_number None None = true
-is_number None (Some y) = false
-is_number (Some x) None = false
-is_number (Some x) (Some y) = nat_eq x y
 
 -- a lock, by its name
 abbrev pub is_taken : List ℕ → Holding → Bool
@@ -32,7 +26,7 @@ is_loading i (Reloading mid load) = false
 abbrev pub is_reloading : ℕ → Option ℕ → Holding → Bool
 is_reloading i l (Taken m) = false
 is_reloading i l (Loading load) = false
-is_reloading i l (Reloading mid load) = nat_eq mid i && is_number load l
+is_reloading i l (Reloading mid load) = nat_eq mid i && is_same_load load l
 
 -- the two are the same
 abbrev pub is_holding : Holding → Holding → Bool

@@ -7,6 +7,7 @@ use Rattle.py_value.specs.declared.value.Value.{Value}
 use Rattle.py_value.specs.declared.value.Value.TheVariants as values
 use Rattle.spec_core.specs.declared.spec.SpecKind.{SpecKind}
 use Rattle.spec_core.specs.declared.spec.SpecKind.TheVariants as kinds
+use Rattle.machine_events.specs.Loads.{is_same_load}
 use Rattle.machine_events.specs.declared.module.Slot.{Slot}
 use Rattle.machine_events.specs.declared.module.Slot.TheVariants as slots
 use Rattle.machine_events.specs.declared.event.Event.{Event}
@@ -119,17 +120,10 @@ abbrev pub has_ns : Option Object → Bool
 has_ns None = false
 has_ns (Some o) = is_some o.ns
 
--- both are none, or both are the same number
-abbrev pub is_number : Option ℕ → Option ℕ → Bool
-is_number None None = true
-is_number None (Some y) = false
-is_number (Some x) None = false
-is_number (Some x) (Some y) = x == y
-
 -- t reloads the object, by this load or by none yet
 abbrev pub is_reload : ℕ → ℕ → Option ℕ → Option Reload → Bool
 is_reload t mid load None = false
-is_reload t mid load (Some r) = (r.thread == t) && (r.mid == mid) && is_number r.load load
+is_reload t mid load (Some r) = (r.thread == t) && (r.mid == mid) && is_same_load r.load load
 
 -- the same, of the reload that runs under the module's name; what is no module is not reloaded
 abbrev pub reloads_object : State → ℕ → ℕ → Option ℕ → Option Object → Bool
