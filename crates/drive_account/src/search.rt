@@ -2,6 +2,7 @@
 ghost use Rattle.std.specs.Prelude.{◌≡◌, ℕ, List, IfOk, OnOk, OnErr, IsErrOf, Option, false, []};
 ghost use Rattle.std.specs.Option.{ForSome};
 ghost use Rattle.machine_events.specs.declared.event.Event.{Event};
+ghost use Rattle.machine_events.specs.declared.event.Event.TheVariants as events;
 ghost use Rattle.machine_events.specs.declared.event.Reply.{Reply};
 ghost use Rattle.meaning_runs.specs.Costs.{after_reply};
 ghost use Rattle.meaning_runs.specs.Runs.{Run, Pays, Safe};
@@ -129,6 +130,14 @@ fn kept(budget: &mut Budget, units: u64) -> Step
     }
 }
 
+/// The event by which a listing is kept.
+fn keeping(dir: TreePath, listing: Listing) -> Result<Event, NoMemory>
+    ensures { IfOk result (λ event. event ≡ events.DirSet dir listing) }
+{
+    let listing = Carried::new(dir.parts().alloc(), listing)?;
+    Ok(Event::DirSet { dir, listing })
+}
+
 /// A listing is kept. The event is free, and the names are paid for after it.
 fn keep<P: Port>(
     port: &mut P,
@@ -141,12 +150,12 @@ fn keep<P: Port>(
     ensures { GivesWant (P.view port.old) (P.view port.new) budget.old budget.new (wanted.DirSet dir listing) result }
 {
     let units = texts_size(&listing.names);
-    let listing = match Carried::new(dir.parts().alloc(), listing) {
-        Ok(listing) => listing,
+    let event = match keeping(dir, listing) {
+        Ok(event) => event,
         Err(_) => return Err(Halt::NoMemory),
     };
     budget.read = None;
-    match port.call(Event::DirSet { dir, listing }) {
+    match port.call(event) {
         Ok(reply) => {
             drop(reply);
             Ok(kept(budget, units))
