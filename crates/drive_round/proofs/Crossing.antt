@@ -20,6 +20,7 @@ use Rattle.base_types.specs.contracts.text.Text as text_type
 use Rattle.base_types.proofs.wide.Wide.TheSendSync as wide
 use Rattle.base_types.specs.contracts.wide.Wide as wide_type
 use Rattle.base_types.proofs.path.Listing.TheSendSync as listing
+use Rattle.base_types.specs.contracts.path.Listing as listing_type
 use Rattle.base_types.proofs.path.TreePath.TheSendSync as tree_path
 use Rattle.spec_core.proofs.name.Dotted.TheSendSync as dotted
 use Rattle.spec_core.proofs.spec.Spec.TheSendSync as spec
@@ -48,6 +49,8 @@ use Rattle.module_table.proofs.module.Reload.TheSendSync as reload
 use Rattle.indexmap.proofs.map.IndexMap.TheSendSync as index_map
 use Rattle.std.proofs.hash.BuildHasherDefault.TheSendSync as builder
 use Rattle.module_table.proofs.loads.Loads.TheSendSync as loads
+use Rattle.machine_events.proofs.carried.Carried.TheSendSync as carried
+use Rattle.machine_events.specs.contracts.carried.Carried as carried_type
 use Rattle.machine_events.proofs.module.Slot.TheSendSync as slot
 use Rattle.machine_events.proofs.event.Outcome.TheSendSync as outcome
 use Rattle.machine_events.specs.contracts.event.Event as event_type
@@ -167,8 +170,14 @@ whole-send = option.the_field_send wide_type.the_row wide.the_send
 number-send : IsSend (option_type.the_field builtin.u32).row
 number-send = option.the_field_send builtin.u32 (plain_send _ _ _ _ _)
 
+carried-value : IsSend (carried_type.the_row value_type.the_row)
+carried-value = carried.the_send value_type.the_row value-send value-sync
+
+carried-listing : IsSend (carried_type.the_row listing_type.the_row)
+carried-listing = carried.the_send listing_type.the_row listing.the_send listing.the_sync
+
 event-field : IsSend event_type.the_field.row
-event-field = enum_send (enums.shape event_type.the_type) (search (plain_send, dotted.the_send, spec.the_send, bytes-send, text.the_send, value-field, whole-send, number-send, tree_path.the_send, listing.the_field_send, ns-send, slot.the_field_send, outcome.the_field_send))
+event-field = enum_send (enums.shape event_type.the_type) (search (plain_send, dotted.the_send, spec.the_send, bytes-send, text.the_send, value-field, whole-send, number-send, tree_path.the_send, carried-value, carried-listing, ns-send, slot.the_field_send, outcome.the_field_send))
 
 reply-field : IsSend reply_type.the_field.row
 reply-field = enum_send (enums.shape reply_type.the_type) (search (plain_send, mod_ref.the_send, dotted.the_send, slot.the_field_send, value-field, texts-send, items-send, bytes-send, ns-send))
